@@ -1,0 +1,9 @@
+pub mod PathTexts
+pub mod Told
+pub mod Trees
+pub mod Crash
+pub mod Since
+pub mod Goes
+pub mod Moments
+pub mod Paths
+pub mod Parts

@@ -1,0 +1,56 @@
+-- What each tree has that a crash may leave at any moment between two histories.
+use Rattle.std.proofs.Common.{inl, inr, ℕ, List, Option, Some, Result, Ok, Err, refl, sym, subst}
+use Rattle.outside.specs.Names.{Names}
+use Rattle.outside.specs.Tree.{Node, file, Tree}
+use Rattle.outside.specs.History.{Change, replaced, scribbled, synced, History, begun, next, tree_of, EachImage}
+use Rattle.outside.specs.Since.{EachSince}
+use Rattle.outside.specs.DiskCalls.{Writes, Puts, Syncs}
+use Rattle.outside.proofs.Crash.{tree_is_image, settled_image, settled_synced}
+
+module _ (P : Tree → Type 0) where
+  pub since_start : (h : History) → EachImage P h → EachSince P h h
+  since_start (begun tree) here = (refl, here)
+  since_start (next change h) here = (inl refl, here)
+
+  pub since_next : (old h : History) (change : Change) → EachSince P old h → EachImage P (next change h) → EachSince P old (next change h)
+  since_next old h change so_far here = (inr so_far, here)
+
+  pub since_now : (old new : History) → EachSince P old new → EachImage P new
+  since_now old (begun tree) since = since.1
+  since_now old (next change h) since = since.1
+
+  pub since_joined : (a b c : History) → EachSince P a b → EachSince P b c → EachSince P a c
+  since_joined a b (begun tree) first (is, here) = subst (λ h. EachSince P a h) (sym is) first
+  since_joined a b (next change h) first (inl is, here) = subst (λ k. EachSince P a k) (sym is) first
+  since_joined a b (next change h) first (inr more, here) = (inr (since_joined a b h first more), here)
+
+pub since_map : (P Q : Tree → Type 0) (old new : History) → ((image : Tree) → P image → Q image) → EachSince P old new → EachSince Q old new
+since_map P Q old (begun tree) f (is, here) = (is, λ image i. f image (here image i))
+since_map P Q old (next change h) f (inl is, here) = (inl is, λ image i. f image (here image i))
+since_map P Q old (next change h) f (inr more, here) = (inr (since_map P Q old h f more), λ image i. f image (here image i))
+
+-- two facts of each image
+pub since_both : (P Q : Tree → Type 0) (old new : History) → EachSince P old new → EachSince Q old new → EachSince (λ image. P image × Q image) old new
+since_both P Q old (begun tree) (is, one) (same, two) = (is, λ image im. (one image im, two image im))
+since_both P Q old (next change h) (inl is, one) (any, two) = (inl is, λ image im. (one image im, two image im))
+since_both P Q old (next change h) (inr more, one) (inl is, two) = (inl is, λ image im. (one image im, two image im))
+since_both P Q old (next change h) (inr more, one) (inr less, two) = (inr (since_both P Q old h more less), λ image im. (one image im, two image im))
+
+-- ---- the calls: from one moment to the next
+
+-- a sync leaves what was possible before
+pub since_syncs : (P : Tree → Type 0) (old mid new : History) {E : Type 0} (result : Result Unit E) → EachSince P old mid → Syncs result mid new → EachSince P old new
+since_syncs P old mid new (Ok done) so_far is =
+    subst (λ h. EachSince P old h) (sym is) (since_next P old mid synced so_far (λ image im. subst P (sym (settled_image (next synced mid) (settled_synced mid) image im)) (since_now P old mid so_far (tree_of mid) (tree_is_image mid))))
+since_syncs P old mid new (Err e) so_far is = subst (λ h. EachSince P old h) (sym is) so_far
+
+pub since_puts : (P : Tree → Type 0) (old mid new : History) (at : Names) (now : Option Node) {E : Type 0} (result : Result Unit E) → EachSince P old mid → EachImage P (next (replaced at now) mid) → Puts at now result mid new → EachSince P old new
+since_puts P old mid new at now (Ok done) so_far here is = subst (λ h. EachSince P old h) (sym is) (since_next P old mid (replaced at now) so_far here)
+since_puts P old mid new at now (Err e) so_far here (inl is) = subst (λ h. EachSince P old h) (sym is) so_far
+since_puts P old mid new at now (Err e) so_far here (inr is) = subst (λ h. EachSince P old h) (sym is) (since_next P old mid (replaced at now) so_far here)
+
+-- a write in place, whatever node it leaves
+pub since_writes : (P : Tree → Type 0) (old mid new : History) (at : Names) (bytes : List ℕ) {E : Type 0} (result : Result Unit E) → EachSince P old mid → ((node : Option Node) → EachImage P (next (scribbled at node) mid)) → Writes at bytes result mid new → EachSince P old new
+since_writes P old mid new at bytes (Ok done) so_far here is = subst (λ h. EachSince P old h) (sym is) (since_next P old mid (scribbled at (Some (file bytes))) so_far (here (Some (file bytes))))
+since_writes P old mid new at bytes (Err e) so_far here (inl is) = subst (λ h. EachSince P old h) (sym is) so_far
+since_writes P old mid new at bytes (Err e) so_far here (inr (node, which, is)) = subst (λ h. EachSince P old h) (sym is) (since_next P old mid (scribbled at node) so_far (here node))

@@ -1,0 +1,13 @@
+pub mod Names
+pub mod Order
+pub mod PathText
+pub mod Tree
+pub mod History
+pub mod Since
+pub mod DiskCalls
+pub mod Told
+pub mod Faults
+pub mod Exchange
+pub mod Door
+pub mod Spawner
+pub mod Sink

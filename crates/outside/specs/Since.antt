@@ -1,0 +1,45 @@
+-- What a crash may leave at any moment between two histories.
+use Rattle.std.specs.Prelude.{◌≡◌, ◌⊎◌, ℕ, ◌+◌, ◌≤◌}
+use Rattle.outside.specs.Names.{Names}
+use Rattle.outside.specs.Tree.{Tree}
+use Rattle.outside.specs.History.{Change, replaced, scribbled, synced, History, begun, next, tree_of, IsImage, EachImage, IsSettled}
+
+-- New goes on from old, and a crash at any moment between them, within a call too, leaves a tree that has P.
+abbrev pub EachSince : (Tree → Type 0) → History → History → Type 0
+EachSince P old (begun tree) = (begun tree ≡ old) × EachImage P (begun tree)
+EachSince P old (next change history) = ((next change history ≡ old) ⊎ EachSince P old history) × EachImage P (next change history)
+
+-- Where old is settled, a crash at any moment from old to new leaves a tree to which the tree of old stands in this relation.
+pub record LeavesOnly (P : Tree → Tree → Type 0) (old new : History) : Type 0 where
+  pub each : IsSettled old → EachSince (P (tree_of old)) old new
+
+-- The present moment, as a number of changes.
+abbrev pub clock : History → ℕ
+clock (begun tree) = 0
+clock (next change history) = clock history + 1
+
+-- A crash at some moment from t on might have left this tree.
+abbrev pub LeftSince : History → ℕ → Tree → Type 0
+LeftSince (begun tree) t image = IsImage (begun tree) image
+LeftSince (next change history) t image = IsImage (next change history) image ⊎ ((t ≤ clock history) × LeftSince history t image)
+
+-- New goes on from old by such changes alone.
+abbrev pub GoesOn : (Change → Type 0) → History → History → Type 0
+GoesOn C old (begun tree) = begun tree ≡ old
+GoesOn C old (next change history) = (next change history ≡ old) ⊎ (C change × GoesOn C old history)
+
+-- A change at such a path.
+abbrev pub IsAt : (Names → Type 0) → Change → Type 0
+IsAt Q (replaced path now) = Q path
+IsAt Q (scribbled path now) = Q path
+IsAt Q synced = ⊥
+
+-- A change at such a path, or a sync.
+abbrev pub IsAtOrSync : (Names → Type 0) → Change → Type 0
+IsAtOrSync Q (replaced path now) = Q path
+IsAtOrSync Q (scribbled path now) = Q path
+IsAtOrSync Q synced = Unit {0}
+
+-- No other path is touched between the two.
+abbrev pub Touches : (Names → Type 0) → History → History → Type 0
+Touches Q old new = GoesOn (IsAtOrSync Q) old new

@@ -1,0 +1,77 @@
+//! Files below a folder of the real file system, as a disk.
+use crate::faults::Faults;
+use crate::folder::Folder;
+use crate::places::Kind;
+use outside::{Disk, DiskErr, Failed, Path};
+use std::alloc::{AllocError, Global};
+use std::rt::Files;
+
+/// A disk over the files below a folder, to which nobody else writes.
+///
+/// A file lies at its own path, and a link as a file at the same path below `.links`. A new file is made in `.work`,
+/// synced, and renamed over the old one. `sync` puts down each file that was written in place and each folder whose
+/// entries changed since the last sync that answered Ok, each once. No symbolic link is followed below the folder: it
+/// is a fault, as is all that is neither a file nor a folder, and a path below `.work`, `.links` or `api.sock`. Each
+/// error is a fault, and so is want of memory in a writing call.
+#[derive(Drop)]
+pub struct RealDisk<R: Files + AllocGlobal + Clone + Drop> {
+    folder: Folder<R>,
+    faults: Faults,
+}
+
+impl<R: Files + AllocGlobal + Clone + Drop> RealDisk<R> {
+    /// A disk over the files below this folder, which is there; `.` is the working folder. Or want of memory.
+    pub fn new(rt: R, root: &str) -> Result<RealDisk<R>, AllocError> {
+        let folder = Folder::new(rt, root)?;
+        let faults = Faults::new();
+        Ok(RealDisk { folder, faults })
+    }
+}
+
+impl<R: Files + AllocGlobal + Clone + Drop> Disk for RealDisk<R> {
+    ghost use Rattle.std.specs.Prelude.{None};
+
+    ghost faults = { λ d. d.faults.count };
+
+    ghost told = { λ _. None };
+
+    fn read(&mut self, _alloc: Global, path: &Path) -> Result<Option<Vec<u8>>, DiskErr> {
+        let answer = self.folder.file(path);
+        self.faults.counted_read(answer)
+    }
+
+    fn read_link(&mut self, _alloc: Global, path: &Path) -> Result<Option<Vec<u8>>, DiskErr> {
+        let answer = self.folder.link(path);
+        self.faults.counted_read(answer)
+    }
+
+    fn list(&mut self, _alloc: Global, path: &Path) -> Result<Vec<Path>, DiskErr> {
+        let answer = self.folder.list(path);
+        self.faults.counted_read(answer)
+    }
+
+    fn write(&mut self, path: &Path, bytes: &[u8]) -> Result<(), Failed> {
+        let answer = self.folder.write(path, bytes);
+        self.faults.counted(answer)
+    }
+
+    fn remove(&mut self, path: &Path) -> Result<(), Failed> {
+        let answer = self.folder.remove(path);
+        self.faults.counted(answer)
+    }
+
+    fn replace(&mut self, path: &Path, bytes: &[u8]) -> Result<(), Failed> {
+        let answer = self.folder.put(Kind::File, path, bytes);
+        self.faults.counted(answer)
+    }
+
+    fn relink(&mut self, path: &Path, target: &[u8]) -> Result<(), Failed> {
+        let answer = self.folder.put(Kind::Link, path, target);
+        self.faults.counted(answer)
+    }
+
+    fn sync(&mut self) -> Result<(), Failed> {
+        let answer = self.folder.sync();
+        self.faults.counted(answer)
+    }
+}

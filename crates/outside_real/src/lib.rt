@@ -1,0 +1,17 @@
+//! The devices of the real system, as thin adapters: files below a folder, child programs, a Unix socket and its
+//! clients, and standard output.
+//!
+//! They are the trusted edge. Each is proved against its trait, which it meets by its count of faults, raised at each
+//! error; it tells nothing of content. That the system does what the traits say is shown by tests alone.
+#![tactic(auto)]
+
+mod disk;
+mod faults;
+mod folder;
+mod places;
+mod sink;
+#[cfg(test)]
+mod tests;
+
+pub use disk::RealDisk;
+pub use sink::RealSink;

@@ -1,0 +1,5 @@
+pub mod Setting
+pub mod Refusal
+pub mod Stored
+pub mod Said
+pub mod Ended
