@@ -16,9 +16,11 @@ torn_write path bytes e old new tears = record {
   ];
 }
 
+-- what stands there was put once more, in place
 pub may_tear-put : (path : Names) (old new : History) (node : Option Node) → node ≡ node_at (tree_of old) path → new ≡ next (scribbled path node) old → MayTear path old new
-may_tear-put path old new node is put = record { torn = inr (put ∙ ap (λ n. next (scribbled path n) old) is) }
+may_tear-put path old new copy is put = record { torn = inr (put ∙ ap (λ n. next (scribbled path n) old) is) }
 
+-- nothing was noted
 pub may_tear-same : (path : Names) (old new : History) → new ≡ old → MayTear path old new
 may_tear-same path old new same = record { torn = inl same }
 

@@ -16,15 +16,18 @@ use Rattle.disk_memory.specs.declared.change.Change.{Change}
 use Rattle.disk_memory.specs.declared.change.Change.TheVariants.{Put, Synced}
 use Rattle.disk_memory.proofs.Keys.{get-seen}
 
+-- the history of one change more
 pub after_all-push : (h : History) (changes : List Change) (change : Change) → after_all h (changes ++ change ∷ []) ≡ next (change_of change) (after_all h changes)
 after_all-push h [] change = refl
 after_all-push h (first ∷ changes) change = after_all-push (next (change_of first) h) changes change
 
+-- the tree after a put, in place or at once
 pub tree_of-put : (in_place : Bool) (path : Names) (node : Option tree.Node) (h : History) → tree_of (next (put in_place path node) h) ≡ tree.set_node (tree_of h) path node
-tree_of-put true path node h = refl
-tree_of-put false path node h = refl
+tree_of-put true path now h = refl
+tree_of-put false path now h = refl
 
-option_map-cond : {A B : Type 0} (f : A → B) (b : _) (x y : Option A) → option_map f (cond b x y) ≡ cond b (option_map f x) (option_map f y)
+-- a function of a choice is a choice of what it makes
+pub option_map-cond : {A B : Type 0} (f : A → B) (b : _) (x y : Option A) → option_map f (cond b x y) ≡ cond b (option_map f x) (option_map f y)
 option_map-cond f true x y = refl
 option_map-cond f false x y = refl
 
@@ -72,6 +75,7 @@ agreed_begun began nodes changes copy none q =
 pub told_same : (began : BTreeMap Names Node) (changes later : List Change) → later ≡ changes → recorded began later ≡ recorded began changes
 told_same began changes later is = ap (recorded began) is
 
+-- and with one change more
 pub told_more : (began : BTreeMap Names Node) (changes later : List Change) (change : Change) → later ≡ changes ++ change ∷ [] → recorded began later ≡ next (change_of change) (recorded began changes)
 told_more began changes later change is = ap (recorded began) is ∙ after_all-push (begun (tree_in began)) changes change
 

@@ -14,6 +14,7 @@ use Rattle.disk_memory.specs.Nodes.{node_of, tree_in, tree_of_last, nodes_of}
 use Rattle.disk_memory.specs.declared.node.Node.{Node}
 use Rattle.disk_memory.proofs.Keys.{get-seen, found}
 
+-- a look-up in a list with one entry more at its end
 lookup-push : (q : Names) (es : List (Names × Node)) (e : Names × Node) → lookup (eq_by_cmp path_cmp q) (es ++ e ∷ []) ≡ option_or (lookup (eq_by_cmp path_cmp q) es) (cond (eq_by_cmp path_cmp q e.0) (Some e.1) None)
 lookup-push q [] e = refl
 lookup-push q (d ∷ es) e =
@@ -22,6 +23,7 @@ lookup-push q (d ∷ es) e =
       | false ↦ lookup-push q es e
     ]
 
+-- an entry counts where no later one does
 one_more : (later : Option Node) (b : Bool) (node : Node) (before : Option Node) → option_or later (cond b (Some node) before) ≡ option_or (option_or later (cond b (Some node) None)) before
 one_more (Some x) b node before = refl
 one_more None true node before = refl
@@ -37,10 +39,12 @@ last_counts (e ∷ es) before q =
     ∙ ap (λ t. option_or t (before q)) (sym (lookup-push q (reverse es) e))
     ∙ ap (λ (l : List (Names × Node)). option_or (lookup (eq_by_cmp path_cmp q) l) (before q)) (sym (reverse-append (e ∷ []) es))
 
+-- nothing stands behind it
 or_none : (t : Option Node) → option_or t None ≡ t
 or_none None = refl
 or_none (Some x) = refl
 
+-- the map of the nodes is the tree in which the last entry of a path counts
 pub tree_given : (nodes : List (Names × Node)) (made : BTreeMap Names Node) → IsFromIterResult path_cmp nodes made → tree_in made ≡ tree_of_last nodes
 tree_given nodes made is = same_tree (tree_in made) (tree_of_last nodes) (λ q.
     get-seen node_of made q

@@ -38,6 +38,7 @@ may_leave_torn (next (scribbled at now) h) p found any torn = elim (path_cases p
 ]
 may_leave_torn (next synced h) p found any torn = absurd (false≢true (ap (λ t. unwrap_or t false) (sym (get-empty path_cmp p)) ∙ torn))
 
+-- so it may leave either, by whether the path is torn
 may_leave_if_torn : (h : History) (p : Names) (found : Option Node) (torn : Bool) → IsFileOrNone found → is_torn h p ≡ torn → MayLeave h p (cond torn found (node_at (synced_tree h) p))
 may_leave_if_torn h p found true any is = may_leave_torn h p found any is
 may_leave_if_torn h p found false any is = may_leave_old h p
@@ -49,19 +50,17 @@ may_leave_picked New h p = may_leave_now h p
 may_leave_picked Gone h p = may_leave_if_torn h p None (is_torn h p) tt refl
 may_leave_picked (Torn bytes) h p = may_leave_if_torn h p _ (is_torn h p) tt refl
 
--- a key has a place among the keys
-find_lookup : (q : Names) (es : List (Names × Bool)) → find path_cmp q es ≡ lookup (eq_by_cmp path_cmp q) es
-find_lookup q es = refl
-
+-- a path that was touched has a place among the unsettled ones
 place_of : (m : FinMap path_cmp Bool) (q : Names) (v : Bool) → get m q ≡ Some v → (k : ℕ) × (slice_get (keys m) k ≡ Some q)
 place_of m q v is =
-    let place = place_from_lookup (eq_by_cmp path_cmp q) (entries m) v (sym (find_lookup q (entries m)) ∙ sym (get-entries m q) ∙ is) in
+    let place = place_from_lookup (eq_by_cmp path_cmp q) (entries m) v (sym (get-entries m q) ∙ is) in
     (place.0, slice_get-map (λ e. e.0) (entries m) place.0 ∙ ap (option_map (λ e. e.0)) place.2 ∙ ap Some (same_key (path_cases q place.1) place.3))
   where
     same_key : {k : Names} → (q ≡ k) ⊎ (eq_by_cmp path_cmp q k ≡ false) → eq_by_cmp path_cmp q k ≡ true → k ≡ q
     same_key (inl same) here = sym same
     same_key (inr other) here = absurd (false≢true (sym other ∙ here))
 
+-- the picks name an image
 pub picked_image : (h : History) (picks : List Pick) (image : Tree) → IsPicked h picks image → IsImage h image
 picked_image h picks image picked p = found (get (touched h) p) refl
   where

@@ -14,6 +14,7 @@ use Rattle.outside.specs.Order.{path_total}
 use Rattle.outside.proofs.Trees.{path_same}
 use Rattle.disk_memory.specs.Recorded.{Mirrors}
 
+-- two tests that hold
 both : (a b : Bool) → T a → T b → T (a && b)
 both true true p q = tt
 both true false p q = q
@@ -27,15 +28,18 @@ module _ {A B : Type 0} (f : A → B) where
   below_all x [] = true
   below_all x (e ∷ es) = is_lt (path_cmp x e.0) && below_all x es
 
+  -- a key below all others is below their entries
   below : (k : Names) (es : List (Names × A)) → AllByRecursion (λ y. path_cmp k y ≡ Less) (map (λ e. e.0) es) → T (below_all k (seen es))
   below k [] all = tt
   below k (e ∷ es) all = both (is_lt (path_cmp k e.0)) (below_all k (seen es)) (subst (λ r. T (is_lt r)) (sym all.0) tt) (below k es all.1)
 
+  -- entries with rising keys are sorted
   rising : (es : List (Names × A)) → IsStrictlySortedBy path_cmp (map (λ e. e.0) es) → T (is_sorted path_cmp (seen es))
   unfolding IsStrictlySortedBy
   rising [] rises = tt
   rising (e ∷ es) rises = both (below_all e.0 (seen es)) (is_sorted path_cmp (seen es)) (below e.0 es rises.0) (rising es rises.1)
 
+  -- what a look-up finds among entries whose values are mapped
   pub found : (q : Names) (es : List (Names × A)) → find path_cmp q (seen es) ≡ option_map f (lookup (tree.is_at (path_cmp q)) es)
   found q [] = refl
   found q (e ∷ es) =
@@ -44,6 +48,7 @@ module _ {A B : Type 0} (f : A → B) where
         | false ↦ found q es
       ]
 
+  -- entries whose values are mapped have the same keys
   firsts : (es : List (Names × A)) → map (λ e. e.0) (seen es) ≡ map (λ e. e.0) es
   firsts [] = refl
   firsts (e ∷ es) = ap (λ (ks : List Names). e.0 ∷ ks) (firsts es)

@@ -4,5 +4,8 @@ pub mod Changes
 pub mod Touches
 pub mod Given
 pub mod Calls
+pub mod Doors
+pub mod Spawners
 pub mod Picks
 pub mod Images
+pub mod PieceLemmas

@@ -28,6 +28,7 @@ use Rattle.disk_memory.proofs.Touches.{some≢none}
 
 -- ---- one pick
 
+-- a pick that puts a node, or none
 pub laid_node : (path : Names) (touch : Touch) (pick : Pick) (nodes later : BTreeMap Names Node) (node : Option Node) → option_map node_of node ≡ left_of pick (option_map node_of touch.before) touch.in_place (option_map node_of (get path_cmp nodes path)) → Updates path_cmp nodes later path node → LaysPick path touch pick nodes later
 laid_node path touch pick nodes later node is updates = record {
   at = λ q. option_map-updated node_of nodes later path node q updates
@@ -35,6 +36,7 @@ laid_node path touch pick nodes later node is updates = record {
       ∙ ap (λ n. cond (eq_by_cmp path_cmp path q) n (option_map node_of (get path_cmp nodes q))) is;
 }
 
+-- a pick that leaves what is there
 pub laid_new : (path : Names) (touch : Touch) (nodes : BTreeMap Names Node) → LaysPick path touch New nodes nodes
 laid_new path touch nodes = record {
   at = λ q. elim (path_cases path q) [
@@ -60,6 +62,7 @@ abbrev pub after_picks : List (Names × Touch) → List Pick → (Names → Opti
 after_picks [] picks stood q = stood q
 after_picks (e ∷ es) picks stood q = after_picks es (others_of picks) (λ p. cond (eq_by_cmp path_cmp e.0 p) (left_of (first_of picks) (option_map node_of e.1.before) e.1.in_place (stood e.0)) (stood p)) q
 
+-- of no picks the first is New
 no_first : (picks : List Pick) → length picks ≡ 0 → (first_of picks ≡ New) × (others_of picks ≡ picks)
 no_first [] none = (refl, refl)
 no_first (pick ∷ picks) none = absurd (omega arith)
@@ -82,6 +85,7 @@ picks_more es rest picks others pick path touch nodes later wanted is (first, re
 
 -- ---- what the picks have left
 
+-- a path apart from all keys has no entry
 unnamed : (path : Names) (es : List (Names × Touch)) → AllByRecursion (λ y. eq_by_cmp path_cmp path y ≡ false) (keys_of es) → lookup (eq_by_cmp path_cmp path) es ≡ None
 unnamed path [] all = refl
 unnamed path (e ∷ es) all = ap (λ b. cond b (Some e.1) (lookup (eq_by_cmp path_cmp path) es)) all.0 ∙ unnamed path es all.1
@@ -96,10 +100,12 @@ picks_elsewhere (e ∷ es) picks stood q none = elim (path_cases q e.0) [
       ∙ ap (λ b. cond b (left_of (first_of picks) (option_map node_of e.1.before) e.1.in_place (stood e.0)) (stood q)) (paths_equal.symm e.0 q ∙ other)
 ]
 
+-- the first pick is the one at place 0
 first_is : (picks : List Pick) → first_of picks ≡ unwrap_or (slice_get picks 0) New
 first_is [] = refl
 first_is (pick ∷ picks) = refl
 
+-- the others begin at the next place
 other_is : (picks : List Pick) (k : ℕ) → unwrap_or (slice_get (others_of picks) k) New ≡ unwrap_or (slice_get picks (suc k)) New
 other_is [] k = refl
 other_is (pick ∷ picks) k = refl
@@ -124,10 +130,12 @@ picks_at (e ∷ es) picks stood (suc k) path touch distinct is = elim (path_case
       ∙ ap (λ c. left_of c (option_map node_of touch.before) touch.in_place (stood path)) (other_is picks k)
 ]
 
+-- what is mapped to none is none
 no_touch : (found : Option Touch) → option_map (λ touch. touch.in_place) found ≡ None → found ≡ None
 no_touch None none = refl
 no_touch (Some touch) none = absurd (some≢none touch.in_place none)
 
+-- the entry at the place of a key
 entry_at : (es : List (Names × Touch)) (k : ℕ) (path : Names) → slice_get (keys_of es) k ≡ Some path → (touch : Touch) × (slice_get es k ≡ Some (path, touch))
 entry_at es k path is = found (slice_get es k) (sym (slice_get-map (λ e. e.0) es k) ∙ is)
   where

@@ -19,8 +19,9 @@ use Rattle.disk_memory.specs.declared.change.Change.{Change}
 use Rattle.disk_memory.specs.declared.change.Change.TheVariants.{Put, Synced}
 use Rattle.disk_memory.specs.declared.change.Touch.{Touch}
 use Rattle.disk_memory.proofs.Keys.{get-seen}
-use Rattle.disk_memory.proofs.Changes.{after_all-push, tree_of-put, mirrors_put}
+use Rattle.disk_memory.proofs.Changes.{after_all-push, tree_of-put, option_map-cond, mirrors_put}
 
+-- something is not nothing
 pub some≢none : {A : Type 0} (x : A) → Some x ≡ None → ⊥
 some≢none x e = cc
 
@@ -28,6 +29,7 @@ some≢none x e = cc
 pub get-insert-cases : {A : Type 0} (m : map.FinMap path_cmp A) (at : Names) (v : A) (q : Names) → map.get (map.insert m at v) q ≡ cond (eq_by_cmp path_cmp q at) (Some v) (map.get m q)
 get-insert-cases m at v q = map.get-insert path_total m at v q
 
+-- a path that is absent after one was put is another one, and was absent
 absent : {A : Type 0} (m : map.FinMap path_cmp A) (at : Names) (v : A) (q : Names) → map.get (map.insert m at v) q ≡ None → (eq_by_cmp path_cmp q at ≡ false) × (map.get m q ≡ None)
 absent m at v q none = elim (path_cases q at) [
   | inl same ↦ absurd (some≢none v (ap (λ b. cond b (Some v) (map.get m q)) (sym (ap (λ p. eq_by_cmp path_cmp q p) (sym same) ∙ path_itself q)) ∙ sym (get-insert-cases m at v q) ∙ none))
@@ -50,53 +52,61 @@ or_false : (b : Bool) → b ≡ (b || false)
 or_false true = refl
 or_false false = refl
 
+-- or with true is true
 or_true : (b : Bool) → true ≡ (b || true)
 or_true true = refl
 or_true false = refl
 
+-- the touches after a put
 touched-put : (in_place : Bool) (at : Names) (now : Option tree.Node) (h : History) (q : Names) → map.get (touched (next (put in_place at now) h)) q ≡ cond (eq_by_cmp path_cmp q at) (Some (is_torn h at || in_place)) (map.get (touched h) q)
 touched-put true at now h q = get-insert-cases (touched h) at true q ∙ ap (λ b. cond (eq_by_cmp path_cmp q at) (Some b) (map.get (touched h) q)) (or_true (is_torn h at))
 touched-put false at now h q = get-insert-cases (touched h) at (is_torn h at) q ∙ ap (λ b. cond (eq_by_cmp path_cmp q at) (Some b) (map.get (touched h) q)) (or_false (is_torn h at))
 
+-- a put is no sync
 synced_tree-put : (in_place : Bool) (at : Names) (now : Option tree.Node) (h : History) → synced_tree (next (put in_place at now) h) ≡ synced_tree h
 synced_tree-put true at now h = refl
 synced_tree-put false at now h = refl
 
-option_map-cond : {A B : Type 0} (f : A → B) (b : Bool) (x y : Option A) → option_map f (cond b x y) ≡ cond b (option_map f x) (option_map f y)
-option_map-cond f true x y = refl
-option_map-cond f false x y = refl
-
+-- a path that is touched once more was written in place if it was so once
 again : (found : Option Touch) (node : Option Node) (in_place : Bool) → (touched_again found node in_place).in_place ≡ (unwrap_or (option_map (λ touch. touch.in_place) found) false || in_place)
-again None node in_place = refl
-again (Some touch) node in_place = refl
+again None stood in_place = refl
+again (Some touch) stood in_place = refl
 
 module _ (h : History) (nodes later_nodes : BTreeMap Names Node) (touches later_touches : BTreeMap Names Touch) (path : Names) (node : Option Node) (in_place : Bool) (kept : IsKept h nodes touches) where
+  -- the touch of the path
+  abbrev noted : Touch
+  noted = touched_again (get path_cmp touches path) (get path_cmp nodes path) in_place
+
+  -- it has from before what the last sync had
   noted_before : (found : Option Touch) → get path_cmp touches path ≡ found → option_map node_of (touched_again found (get path_cmp nodes path) in_place).before ≡ tree.node_at (synced_tree h) path
   noted_before (Some touch) is = kept.before path touch is
   noted_before None is = kept.node_at path ∙ untouched h path (sym (kept.touch_at path) ∙ ap (option_map (λ touch. touch.in_place)) is)
 
-  still_touched : IsUpdated touches later_touches path (Some (touched_again (get path_cmp touches path) (get path_cmp nodes path) in_place)) → Mirrors (λ touch. touch.in_place) (touched (next (put in_place path (option_map node_of node)) h)) later_touches
+  -- the touches are those after the put
+  still_touched : IsUpdated touches later_touches path (Some noted) → Mirrors (λ touch. touch.in_place) (touched (next (put in_place path (option_map node_of node)) h)) later_touches
   still_touched updated q =
-      let torn : (touched_again (get path_cmp touches path) (get path_cmp nodes path) in_place).in_place ≡ (is_torn h path || in_place) =
+      let torn : noted.in_place ≡ (is_torn h path || in_place) =
       again (get path_cmp touches path) (get path_cmp nodes path) in_place ∙ ap (λ t. unwrap_or t false || in_place) (kept.touch_at path) in
       ap (option_map (λ touch. touch.in_place)) (updated.at q)
-      ∙ option_map-cond (λ touch. touch.in_place) (eq_by_cmp path_cmp path q) (Some (touched_again (get path_cmp touches path) (get path_cmp nodes path) in_place)) (get path_cmp touches q)
-      ∙ ap (λ b. cond b (Some (touched_again (get path_cmp touches path) (get path_cmp nodes path) in_place).in_place) (option_map (λ touch. touch.in_place) (get path_cmp touches q))) (paths_equal.symm path q)
+      ∙ option_map-cond (λ touch. touch.in_place) (eq_by_cmp path_cmp path q) (Some noted) (get path_cmp touches q)
+      ∙ ap (λ b. cond b (Some noted.in_place) (option_map (λ touch. touch.in_place) (get path_cmp touches q))) (paths_equal.symm path q)
       ∙ ap (λ b. cond (eq_by_cmp path_cmp q path) (Some b) (option_map (λ touch. touch.in_place) (get path_cmp touches q))) torn
       ∙ ap (cond (eq_by_cmp path_cmp q path) (Some (is_torn h path || in_place))) (kept.touch_at q)
       ∙ sym (touched-put in_place path (option_map node_of node) h q)
 
-  still_before : IsUpdated touches later_touches path (Some (touched_again (get path_cmp touches path) (get path_cmp nodes path) in_place)) → (q : Names) (touch : Touch) → get path_cmp later_touches q ≡ Some touch → option_map node_of touch.before ≡ tree.node_at (synced_tree h) q
+  -- and what they have from before is what the last sync had
+  still_before : IsUpdated touches later_touches path (Some noted) → (q : Names) (touch : Touch) → get path_cmp later_touches q ≡ Some touch → option_map node_of touch.before ≡ tree.node_at (synced_tree h) q
   still_before updated q touch is = elim (path_cases path q) [
     | inl same ↦
-        let first : Some (touched_again (get path_cmp touches path) (get path_cmp nodes path) in_place) ≡ Some touch =
-        ap (λ b. cond b (Some (touched_again (get path_cmp touches path) (get path_cmp nodes path) in_place)) (get path_cmp touches q)) (sym (ap (λ p. eq_by_cmp path_cmp path p) (sym same) ∙ path_itself path)) ∙ sym (updated.at q) ∙ is in
-        let one : touched_again (get path_cmp touches path) (get path_cmp nodes path) in_place ≡ touch = cc in
+        let first : Some noted ≡ Some touch =
+        ap (λ b. cond b (Some noted) (get path_cmp touches q)) (sym (ap (λ p. eq_by_cmp path_cmp path p) (sym same) ∙ path_itself path)) ∙ sym (updated.at q) ∙ is in
+        let one : noted ≡ touch = cc in
         ap (λ t. option_map node_of t.before) (sym one) ∙ noted_before (get path_cmp touches path) refl ∙ ap (λ p. tree.node_at (synced_tree h) p) same
-    | inr other ↦ kept.before q touch (ap (λ b. cond b (Some (touched_again (get path_cmp touches path) (get path_cmp nodes path) in_place)) (get path_cmp touches q)) (sym other) ∙ sym (updated.at q) ∙ is)
+    | inr other ↦ kept.before q touch (ap (λ b. cond b (Some noted) (get path_cmp touches q)) (sym other) ∙ sym (updated.at q) ∙ is)
   ]
 
-  kept_after_put : Updates path_cmp nodes later_nodes path node → IsUpdated touches later_touches path (Some (touched_again (get path_cmp touches path) (get path_cmp nodes path) in_place)) → IsKept (next (put in_place path (option_map node_of node)) h) later_nodes later_touches
+  -- all is kept after the put
+  kept_after_put : Updates path_cmp nodes later_nodes path node → IsUpdated touches later_touches path (Some noted) → IsKept (next (put in_place path (option_map node_of node)) h) later_nodes later_touches
   kept_after_put updates updated = record {
     node_at = subst (λ t. Mirrors node_of t later_nodes) (sym (tree_of-put in_place path (option_map node_of node) h)) (mirrors_put (tree_of h) nodes later_nodes path node kept.node_at updates);
     touch_at = still_touched updated;
@@ -111,6 +121,7 @@ kept_put path node copy was in_place nodes later_nodes touches later_touches sam
       (subst (λ n. IsUpdated touches later_touches path (Some (touched_again (get path_cmp touches path) n in_place))) is updated);
 }
 
+-- an empty map has nothing at a path
 no_entry : (touches : BTreeMap Names Touch) (q : Names) → touches.entries ≡ [] → get path_cmp touches q ≡ None
 no_entry touches q none = ap (λ (es : List (Names × Touch)). lookup (is_at (path_cmp q)) es) none
 

@@ -4,3 +4,10 @@ pub mod Recorded
 pub mod Plan
 pub mod Disk
 pub mod Sink
+pub mod Pieces
+pub mod Incoming
+pub mod Connection
+pub mod Door
+pub mod Link
+pub mod Asked
+pub mod Spawner

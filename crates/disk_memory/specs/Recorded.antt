@@ -50,8 +50,8 @@ pub record IsUpdated {A : Type 0} (old new : BTreeMap Names A) (path : Names) (v
 
 -- The path is touched once more; the node at the last sync is the one that was there at the first touch.
 abbrev pub touched_again : Option Touch → Option Node → Bool → Touch
-touched_again None node in_place = record { before = node; in_place = in_place }
-touched_again (Some touch) node in_place = record { before = touch.before; in_place = touch.in_place || in_place }
+touched_again None stood in_place = record { before = stood; in_place = in_place }
+touched_again (Some touch) stood in_place = record { before = touch.before; in_place = touch.in_place || in_place }
 
 -- The path has what the pick leaves of it, and the others are as they were.
 pub record LaysPick (path : Names) (touch : Touch) (pick : Pick) (nodes later : BTreeMap Names Node) : Type 0 where

@@ -3,18 +3,30 @@
 
 mod bytes;
 mod change;
+mod connection;
 mod crash;
 mod device;
 mod disk;
+mod door;
+mod incoming;
+mod input;
+mod link;
 mod map;
 mod node;
 mod pick;
 mod plan;
 mod record;
 mod sink;
+mod spawner;
+#[cfg(test)]
+mod tests;
 
 pub use bytes::Bytes;
 pub use disk::MemoryDisk;
+pub use door::MemoryDoor;
+pub use input::Input;
+pub use link::MemoryLink;
 pub use node::Node;
 pub use pick::Pick;
 pub use sink::MemorySink;
+pub use spawner::{MemorySpawner, Question, Run};

@@ -1,6 +1,6 @@
 //! How often a device has failed.
 ghost use Rattle.std.specs.Prelude.{◌≡◌, ◌<◌, ◌≤◌, length, Ok, IfOk};
-ghost use Rattle.outside.specs.Faults.{HasCause, HasCauseOf};
+ghost use Rattle.outside.specs.Faults.{HasCause, HasCauseOf, Rose};
 
 use outside::{DiskErr, Failed};
 use std::io::{self, ErrorKind};
@@ -18,6 +18,14 @@ impl Faults {
         Faults { count: 0 }
     }
 
+    /// One more.
+    pub fn raise(&mut self)
+        ensures rose { Rose self.old.count self.new.count }
+        ensures later { self.old.count ≤ self.new.count }
+    {
+        self.count = self.count.saturating_add(1);
+    }
+
     /// The answer of the system, whose error is a failure.
     pub fn counted<T: Drop>(&mut self, answer: io::Result<T>) -> Result<T, Failed>
         ensures cause { HasCause self.old.count self.new.count result }
@@ -26,7 +34,7 @@ impl Faults {
         match answer {
             Ok(value) => Ok(value),
             Err(_) => {
-                self.count = self.count.saturating_add(1);
+                self.raise();
                 Err(Failed)
             }
         }
@@ -40,7 +48,7 @@ impl Faults {
             Ok(value) => Ok(value),
             Err(e) if e.kind() == ErrorKind::OutOfMemory => Err(DiskErr::Memory),
             Err(_) => {
-                self.count = self.count.saturating_add(1);
+                self.raise();
                 Err(DiskErr::Failed)
             }
         }

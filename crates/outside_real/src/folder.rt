@@ -1,5 +1,7 @@
 //! The files below a real folder.
-use crate::places::{Kind, Standing, WORK, is_own, place_of, remove_file, sync_place, what_stands};
+use crate::places::{
+    Kind, Standing, is_own, place_of, remove_file, sync_place, what_stands, work_place,
+};
 use outside::{Path, PathError};
 use std::alloc::{AllocError, Global};
 use std::collections::BTreeSet;
@@ -25,6 +27,7 @@ impl<R: Files + AllocGlobal + Clone + Drop> Folder<R> {
         Ok(Folder { rt, root, unsynced })
     }
 
+    // The place of the first names of the path.
     fn first_names(&self, kind: Kind, path: &Path, count: usize) -> io::Result<String> {
         let place = place_of(self.rt.alloc(), self.root.as_str(), kind, path, count)?;
         Ok(place)
@@ -91,33 +94,23 @@ impl<R: Files + AllocGlobal + Clone + Drop> Folder<R> {
         Ok(())
     }
 
-    // Makes the folder where it is missing; the folder above it is to be synced then.
-    fn make_folder(&mut self, folder: &str, above: String) -> io::Result<()> {
-        if what_stands(&self.rt, folder)? == Standing::Nothing {
-            self.note(above)?;
-            fs::create_dir(&self.rt, folder)?;
-        }
-        Ok(())
-    }
-
-    // Makes the folders that the path lies in, where they are missing.
+    // Makes the folders that the path lies in, where they are missing. The folder above such a one is to be synced.
     fn make_folders(&mut self, kind: Kind, path: &Path) -> io::Result<()> {
         let mut above = String::from_str(self.rt.alloc(), self.root.as_str())?;
         for count in 0..path.names().len() {
             let folder = self.first_names(kind, path, count)?;
-            self.make_folder(folder.as_str(), above)?;
+            if what_stands(&self.rt, folder.as_str())? == Standing::Nothing {
+                self.note(above)?;
+                fs::create_dir(&self.rt, folder.as_str())?;
+            }
             above = folder;
         }
         Ok(())
     }
 
-    // A new file with these bytes in the folder of new files, on the disk.
-    fn make_new(&mut self, bytes: &[u8]) -> io::Result<String> {
-        let alloc = self.rt.alloc();
-        let above = String::from_str(alloc, self.root.as_str())?;
-        let work = format!(in alloc; "{above}{WORK}")?;
-        let place = format!(in alloc; "{work}/new")?;
-        self.make_folder(work.as_str(), above)?;
+    // A new file with these bytes, on the disk.
+    fn make_new(&self, bytes: &[u8]) -> io::Result<String> {
+        let place = work_place(&self.rt, self.root.as_str(), "new")?;
         remove_file(&self.rt, place.as_str())?;
         let mut file = OpenOptions::new()
             .write(true)

@@ -6,12 +6,18 @@
 #![tactic(auto)]
 
 mod disk;
+mod door;
 mod faults;
 mod folder;
+mod link;
 mod places;
 mod sink;
+mod spawner;
 #[cfg(test)]
 mod tests;
 
 pub use disk::RealDisk;
+pub use door::RealDoor;
+pub use link::RealLink;
 pub use sink::RealSink;
+pub use spawner::RealSpawner;

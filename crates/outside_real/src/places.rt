@@ -1,8 +1,9 @@
 //! Where the nodes of a disk lie below a real folder.
 use outside::Path;
 use std::alloc::{AllocError, Global};
-use std::fs::{self, OpenFile};
+use std::fs::{self, DirBuilder, OpenFile};
 use std::io::{self, ErrorKind};
+use std::os::unix::fs::DirBuilderExt;
 use std::rt::Files;
 
 /// Files lie at their own paths, and links as files at the same paths below a folder of their own.
@@ -31,9 +32,6 @@ impl Kind {
         }
     }
 }
-
-/// The folder below the root where new files are made.
-pub const WORK: &str = "/.work";
 
 /// The socket below the root.
 pub const SOCKET: &str = "/api.sock";
@@ -83,6 +81,16 @@ pub fn what_stands(files: &impl Files, place: &str) -> io::Result<Standing> {
         Err(e) if e.kind() == ErrorKind::NotFound => Ok(Standing::Nothing),
         Err(e) => Err(e),
     }
+}
+
+/// The place of a file of this name in the folder `.work` below the root. Its owner alone may enter that folder, which is
+/// made where it is missing. It need not last: what is made there is renamed or let go.
+pub fn work_place<R: Files + AllocGlobal>(rt: &R, root: &str, name: &str) -> io::Result<String> {
+    let folder = format!(in rt.alloc(); "{root}/.work")?;
+    if what_stands(rt, folder.as_str())? == Standing::Nothing {
+        DirBuilder::new().mode(0o700).create(rt, folder.as_str())?;
+    }
+    Ok(format!(in rt.alloc(); "{folder}/{name}")?)
 }
 
 /// Removes the file at the place, if there is one.

@@ -1,0 +1,16 @@
+pub mod Cutting
+pub mod Numbers
+pub mod Spellings
+pub mod Texts
+pub mod Lines
+pub mod Readings
+pub mod Made
+pub mod Laid
+pub mod Steps
+pub mod Elsewhere
+pub mod Installs
+pub mod Kept
+pub mod Carried
+pub mod Changed
+pub mod Exits
+pub mod Recovering

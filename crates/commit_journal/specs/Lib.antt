@@ -1,0 +1,10 @@
+pub mod Entries
+pub mod Files
+pub mod Journal
+pub mod Stands
+pub mod Install
+pub mod Change
+pub mod Recovery
+pub mod Placed
+pub mod Parts
+pub mod Laws

@@ -1,0 +1,12 @@
+use Rattle.std.proofs.Common.{◌∷◌, refl, rules, ap}
+use Rattle.disk_memory.proofs.Doors.{reverse-push}
+use Rattle.disk_memory.proofs.door.MemoryDoorDoor.accept.Goals as goal
+
+pub returns-clause-taken : goal.returns-clause-taken
+returns-clause-taken c = record {
+  counted = search rules;
+  failed = search rules;
+  next = λ is. (c.in-Some.input, reverse-push c.pop.new.self.items c.args.self.now.waiting.items c.in-Some.input (search rules), λ i. c.new.ensures.exchange i ∷ c.in-Ok.ensures.ok i);
+  none = λ is. cc;
+  same = λ other. absurd (other refl);
+}

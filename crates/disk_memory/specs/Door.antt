@@ -1,0 +1,66 @@
+-- What clauses see of a door in memory.
+use Rattle.std.specs.Prelude.{◌≡◌, ◌↔◌, ◌≢◌, ℕ, List, [], ◌∷◌, map, reverse, length, min, Bool, true, false, IsTrue, Option, Some, None, Result, Ok, IsErr, IfOk}
+use Rattle.outside.specs.Exchange.{Exchange, fresh}
+use Rattle.outside.specs.Door.{DoorState}
+use Rattle.outside.specs.declared.disk_error.Failed.{Failed}
+use Rattle.disk_memory.specs.Plan.{one_more}
+use Rattle.disk_memory.specs.Pieces.{joined}
+use Rattle.disk_memory.specs.Incoming.{next_of}
+use Rattle.disk_memory.specs.Connection.{exchange_of, after_last, is_number, is_read_failing, is_write_failing}
+use Rattle.disk_memory.specs.declared.input.Input.{Input}
+use Rattle.disk_memory.specs.declared.connection.Connection.{Connection}
+use Rattle.disk_memory.specs.declared.door.MemoryDoor.{MemoryDoor}
+
+-- The connections that are still to come, the next one first.
+abbrev pub inputs_of : MemoryDoor → List Input
+inputs_of door = reverse door.waiting.items
+
+-- What went to and fro on each accepted connection, the last one first.
+abbrev pub exchanges_of : MemoryDoor → List Exchange
+exchanges_of door = after_last door.last (reverse (map exchange_of door.before.items))
+
+-- A door in memory always tells.
+abbrev pub told : MemoryDoor → Option (List Exchange)
+told door = Some (exchanges_of door)
+
+-- What was accepted so far.
+abbrev pub state : MemoryDoor → DoorState
+state door = record { accepted = length (exchanges_of door); ended = door.ended; broken = door.broken; busy = door.busy }
+
+-- How often it has failed.
+abbrev pub door_faults : MemoryDoor → ℕ
+door_faults door = door.faults
+
+-- The next accept is set to fail.
+abbrev pub is_accept_failing : MemoryDoor → Bool
+is_accept_failing door = is_number door.accept_fails (one_more door.accepts)
+
+-- No call was made yet, and no accept is set to fail.
+pub record IsUnused (door : MemoryDoor) : Type 0 where
+  pub exchanges : exchanges_of door ≡ []
+  pub state : state door ≡ record { accepted = 0; ended = false; broken = false; busy = false }
+  pub faults : door_faults door ≡ 0
+  pub accepts : door.accepts ≡ 0
+  pub failing : door.accept_fails ≡ None
+
+-- The accept was counted and fails where it was set to; it takes the next connection, with all of its bytes to come, and is false only where none is left.
+pub record TakesInput (old new : MemoryDoor) (result : Result Bool Failed) : Type 0 where
+  pub counted : new.accepts ≡ one_more old.accepts
+  pub failed : IsTrue (is_accept_failing old) → IsErr result
+  pub next : result ≡ Ok true → (input : Input) × (inputs_of old ≡ input ∷ inputs_of new) × (exchanges_of new ≡ fresh (joined input.pieces.items) ∷ exchanges_of old)
+  pub none : result ≡ Ok false → inputs_of old ≡ []
+  pub same : result ≢ Ok true → inputs_of new ≡ inputs_of old
+
+-- The read fails exactly where it was set to, and else gives all that there is room for of one piece.
+pub record ReadsLast (room : List ℕ) (old : MemoryDoor) (result : Result ℕ Failed) : Type 0 where
+  pub connection : Connection
+  pub last : old.last ≡ Some connection
+  pub failed : IsErr result ↔ IsTrue (is_read_failing connection)
+  pub count : IfOk result (λ count. count ≡ min (length room) (length (next_of connection.incoming)))
+
+-- The write fails where it was set to, or for want of memory, and else takes the whole piece.
+pub record WritesLast (piece : List ℕ) (old : MemoryDoor) (result : Result ℕ Failed) : Type 0 where
+  pub connection : Connection
+  pub last : old.last ≡ Some connection
+  pub failed : IsTrue (is_write_failing connection) → IsErr result
+  pub count : IfOk result (λ count. count ≡ length piece)

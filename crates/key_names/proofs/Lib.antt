@@ -1,0 +1,17 @@
+pub mod Ties
+pub mod FileNames
+pub mod Printed
+pub mod Runs
+pub mod Segments
+pub mod KeyLimits
+pub mod Spellings
+pub mod ChildFaults
+pub mod Heads
+pub mod Parts
+pub mod OneParting
+pub mod Marks
+pub mod First
+pub mod OneReading
+pub mod Broken
+pub mod Pieces
+pub mod OneListing

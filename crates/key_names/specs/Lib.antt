@@ -1,0 +1,9 @@
+pub mod Order
+pub mod Segment
+pub mod Key
+pub mod KeyError
+pub mod Joined
+pub mod Spelling
+pub mod Faults
+pub mod Reading
+pub mod Listing

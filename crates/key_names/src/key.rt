@@ -1,0 +1,234 @@
+//! Keys: lists of segments.
+ghost use Rattle.std.specs.Prelude.{◌≡◌, ◌≢◌, ◌<◌, ◌≤◌, ◌↔◌, ℕ, List, [], ◌∷◌, ◌++◌, length, slice_index_or, IfOk, IfErr, IsTrue};
+ghost use Rattle.std.specs.Ordering.{eq_by_cmp};
+ghost use Rattle.key_names.specs.Order.{key_cmp};
+ghost use Rattle.key_names.specs.Segment.{is_segment};
+ghost use Rattle.key_names.specs.Key.{is_key, printed, is_prefix, overlaps};
+ghost use Rattle.key_names.specs.Spelling.{SpellsKey};
+ghost use Rattle.key_names.specs.Faults.{Refuses, RefusesChild, IsRead, IsRefused};
+ghost use Rattle.key_names.specs.declared.key_error.KeyFault.{KeyFault};
+ghost use Rattle.key_names.specs.declared.key_error.KeyFault.TheVariants.{Memory};
+
+use crate::characters::segment_fault;
+use crate::limits::child_limit;
+use crate::printing::printed;
+use crate::segment::Segment;
+use crate::spelled::spelled_by;
+use crate::{KeyError, Text};
+use std::alloc::{AllocError, Global};
+use std::cmp::Ordering;
+use std::marker::Model;
+
+/// A key: 1 to 32 segments, each with a file name of at most 127 bytes, whose printed text has at
+/// most 1,024 bytes. Keys are ordered as lists of segments; to compare two takes no memory.
+#[derive(Debug, Drop)]
+pub struct Key {
+    segments: Vec<Segment>,
+}
+
+impl Model for Key {
+    ghost use Rattle.std.specs.Prelude.{List, ℕ, IsTrue};
+    ghost use Rattle.key_names.specs.Key.{is_key};
+
+    ghost Value = { List (List ℕ) };
+
+    ghost view = { λ k. k.segments.items };
+
+    ghost invariant = { λ k. IsTrue (is_key k.segments.items) };
+}
+
+fn copy_segments(alloc: Global, segments: &[Segment]) -> Result<Vec<Segment>, AllocError>
+    ensures { IfOk result (λ copies. copies.items ≡ segments.now) }
+{
+    let mut copies = Vec::new(alloc);
+    for segment in segments {
+        copies.push(Segment::of(alloc, segment.as_slice())?)?;
+    }
+    Ok(copies)
+}
+
+// The segments and one more, where the two are a key.
+fn with_segment(
+    segments: &[Segment],
+    alloc: Global,
+    segment: &[u8],
+) -> Result<Vec<Segment>, AllocError>
+    requires { IsTrue (is_segment segment.now) }
+    ensures { IfOk result (λ longer. longer.items ≡ segments.now ++ segment.now ∷ []) }
+{
+    let mut longer = copy_segments(alloc, segments)?;
+    longer.push(Segment::of(alloc, segment)?)?;
+    Ok(longer)
+}
+
+impl Key {
+    // The key that the text spells, or the first fault.
+    fn of_text(alloc: Global, text: &[u8]) -> Result<Key, KeyError>
+        ensures ok { IfOk result (SpellsKey text.now) }
+        ensures refused { IfErr result (λ e. e.kind ≢ Memory → Refuses text.now e.kind e.place) }
+        ensures place { IfErr result (λ e. e.place ≤ length text.now) }
+    {
+        let spelled = spelled_by(alloc, text)?;
+        match spelled.limit_fault(text) {
+            Some(fault) => Err(fault),
+            None => Ok(Key {
+                segments: spelled.segments,
+            }),
+        }
+    }
+
+    /// The key that the text spells: its segments' spellings joined by dots. A segment is spelled in
+    /// quotes, or bare where it has only bare characters (ASCII letters and digits, `_`, `-`).
+    ///
+    /// Refused are, at the first place in the text: `Empty`, where a segment is wanted and the text
+    /// ends, or a dot or `""` stands; `BadByte`, at a byte that can't stand there; `Unclosed`, at a
+    /// quote behind which every byte may stand in quotes and none closes. Only where the grammar holds
+    /// come the limits, in this order: `TooMany` at the 33rd segment, `SegmentTooLong` at the first
+    /// segment with a file name over 127 bytes, `TooLong` at the text's end where the printed text has
+    /// over 1,024 bytes. It takes one pass over the text.
+    pub fn read(alloc: Global, text: &[u8]) -> Result<Key, KeyError>
+        ensures ok { IfOk result (SpellsKey text.now) }
+        ensures refused { IfErr result (λ e. e.kind ≢ Memory → Refuses text.now e.kind e.place) }
+        ensures place { IfErr result (λ e. e.place ≤ length text.now) }
+
+        // So exactly the key that the text spells is read, and exactly the text's fault is answered.
+        ensures exact_key { (key : List (List ℕ)) → SpellsKey text.now key → IsRead result key }
+        ensures exact_fault { (kind : KeyFault) (place : ℕ) → Refuses text.now kind place
+            → IsRefused result kind place }
+    {
+        Key::of_text(alloc, text)
+    }
+
+    // The child, or the first fault.
+    fn extended(&self, segment: &[u8]) -> Result<Key, KeyError>
+        ensures ok { IfOk result (λ key. key ≡ self.now ++ segment.now ∷ []) }
+        ensures valid { IfOk result (λ key. IsTrue (is_key key)) }
+        ensures refused { IfErr result (λ e. e.kind ≢ Memory
+            → RefusesChild self.now segment.now e.kind e.place) }
+    {
+        if let Some(fault) = segment_fault(segment) {
+            return Err(fault);
+        }
+        if let Some(kind) = child_limit(&self.segments, segment) {
+            return Err(KeyError { kind, place: 0 });
+        }
+        let segments = with_segment(&self.segments, *self.segments.allocator(), segment)?;
+        Ok(Key { segments })
+    }
+
+    /// The key with one segment more. Refused are, in this order: an empty segment (`Empty`); one with
+    /// a byte that may not stand in quotes (`BadByte`, at the first such); and a child that breaks a
+    /// limit (`TooMany`, `SegmentTooLong`, `TooLong`). The place is 0 but for `BadByte`.
+    pub fn child(&self, segment: &[u8]) -> Result<Key, KeyError>
+        ensures ok { IfOk result (λ key. key ≡ self.now ++ segment.now ∷ []) }
+        ensures refused { IfErr result (λ e. e.kind ≢ Memory
+            → RefusesChild self.now segment.now e.kind e.place) }
+        ensures exact { (kind : KeyFault) (place : ℕ) → RefusesChild self.now segment.now kind place
+            → IsRefused result kind place }
+    {
+        self.extended(segment)
+    }
+
+    /// The printed text: the segments joined by dots, in quotes those that hold another byte than bare
+    /// characters. It reads back as this key. The only error is want of memory.
+    pub fn print(&self) -> Result<Text, AllocError>
+        ensures value { IfOk result (λ text. text ≡ printed self.now) }
+        ensures reads_back { IfOk result (λ text. SpellsKey text self.now) }
+    {
+        let text = printed(*self.segments.allocator(), &self.segments)?;
+        Ok(Text::of(text))
+    }
+
+    /// How many segments it has, from 1 to 32. It takes no memory.
+    pub fn len(&self) -> usize
+        ensures count { result ≡ length self.now }
+        ensures valid { IsTrue (is_key self.now) }
+    {
+        self.segments.len()
+    }
+
+    /// The segment at this index, counted from 0. It takes no memory.
+    pub fn segment(&self, index: usize) -> &[u8]
+        requires { index < length self.now }
+        ensures bytes { result.now ≡ slice_index_or self.now index [] }
+        ensures valid { IsTrue (is_segment result.now) }
+    {
+        self.segments[index].as_slice()
+    }
+
+    /// Whether the other key begins with this one's segments, as each key does with its own. It
+    /// takes no memory.
+    pub fn is_prefix(&self, other: &Key) -> bool
+        ensures { result ≡ is_prefix self.now other.now }
+    {
+        other.segments.starts_with(&self.segments)
+    }
+
+    /// Whether one of the two keys is a prefix of the other. It takes no memory.
+    pub fn overlaps(&self, other: &Key) -> bool
+        ensures { result ≡ overlaps self.now other.now }
+    {
+        self.is_prefix(other) || other.is_prefix(self)
+    }
+
+    /// A copy with the same segments. The only error is want of memory.
+    pub fn copy(&self) -> Result<Key, AllocError>
+        ensures { IfOk result (λ key. key ≡ self.now) }
+    {
+        let segments = copy_segments(*self.segments.allocator(), &self.segments)?;
+        Ok(Key { segments })
+    }
+}
+
+impl PartialEq for Key {
+    ghost use Rattle.std.specs.Ordering.{eq_by_cmp};
+    ghost use Rattle.key_names.specs.Order.{key_cmp, keys_equal_partly};
+
+    ghost eq = { eq_by_cmp key_cmp };
+
+    ghost laws = { keys_equal_partly };
+
+    fn eq(&self, other: &Key) -> bool
+        ensures gives { result ≡ eq_by_cmp key_cmp self.now other.now }
+        ensures exact { IsTrue result ↔ (self.now ≡ other.now) }
+    {
+        self.cmp(other).is_eq()
+    }
+}
+
+impl Eq for Key {
+    ghost use Rattle.key_names.specs.Order.{keys_equal};
+
+    ghost laws = { keys_equal };
+}
+
+impl PartialOrd for Key {
+    ghost use Rattle.std.specs.Ordering.{as_partial_cmp};
+    ghost use Rattle.key_names.specs.Order.{key_cmp, keys_ordered};
+
+    ghost partial_cmp = { as_partial_cmp key_cmp };
+
+    ghost laws = { keys_ordered };
+
+    fn partial_cmp(&self, other: &Key) -> Option<Ordering> {
+        Some(self.cmp(other))
+    }
+}
+
+impl Ord for Key {
+    ghost use Rattle.std.proofs.Common.{rules};
+    ghost use Rattle.std.specs.Cmp.Rules.{comparing};
+    ghost use Rattle.key_names.specs.Order.{key_cmp, key_total};
+
+    ghost cmp = { key_cmp };
+
+    ghost total = { key_total };
+
+    ghost matches_partial_cmp = { Prim.search (comparing, rules) };
+
+    ghost matches_eq = { Prim.search (comparing, rules) };
+
+    fn cmp(&self, other: &Key) -> Ordering {
+        self.segments.cmp(&other.segments)
+    }
+}

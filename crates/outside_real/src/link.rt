@@ -1,0 +1,64 @@
+//! A connection to a Unix socket in a folder, as a link.
+ghost use Rattle.std.specs.Prelude.{None};
+ghost use Rattle.std.specs.Option.{is_some};
+
+use crate::faults::{Faults, written_of};
+use crate::places::SOCKET;
+use outside::{Failed, Link};
+use std::alloc::AllocError;
+use std::io::{self, Read, Write};
+use std::os::unix::net::UnixStream;
+use std::rt::Net;
+
+/// A link to the Unix socket `api.sock` in a folder. Each error of the system is a fault.
+#[derive(Drop)]
+pub struct RealLink<R: Net + Drop> {
+    rt: R,
+    place: String,
+    stream: Option<UnixStream>,
+    faults: Faults,
+}
+
+impl<R: Net + AllocGlobal + Drop> RealLink<R> {
+    /// A link to the socket in this folder; `.` is the working folder. Or want of memory.
+    pub fn new(rt: R, root: &str) -> Result<RealLink<R>, AllocError> {
+        let place = format!(in rt.alloc(); "{root}{SOCKET}")?;
+        Ok(RealLink {
+            rt,
+            place,
+            stream: None,
+            faults: Faults::new(),
+        })
+    }
+}
+
+impl<R: Net + Drop> Link for RealLink<R> {
+    ghost faults = { λ link. link.faults.count };
+
+    ghost connected = { λ link. is_some link.stream };
+
+    ghost told = { λ _. None };
+
+    fn connect(&mut self) -> Result<(), Failed> {
+        let answer = UnixStream::connect(&self.rt, self.place.as_str());
+        let stream = self.faults.counted(answer)?;
+        self.stream = Some(stream);
+        Ok(())
+    }
+
+    fn read(&mut self, room: &mut [u8]) -> Result<usize, Failed> {
+        let Some(stream) = &mut self.stream else {
+            unreachable!()
+        };
+        let answer = stream.read(room);
+        self.faults.counted(answer)
+    }
+
+    fn write(&mut self, piece: &[u8]) -> Result<usize, Failed> {
+        let Some(stream) = &mut self.stream else {
+            unreachable!()
+        };
+        let answer = written_of(piece, stream.write(piece));
+        self.faults.counted(answer)
+    }
+}
