@@ -1,12 +1,11 @@
 -- What clauses see of a door in memory.
-use Rattle.std.specs.Prelude.{◌≡◌, ◌↔◌, ◌≢◌, ℕ, List, [], ◌∷◌, map, reverse, length, min, Bool, true, false, IsTrue, Option, Some, None, Result, Ok, IsErr, IfOk}
+use Rattle.std.specs.Prelude.{◌≡◌, ◌≢◌, ℕ, List, [], ◌∷◌, map, reverse, length, Bool, true, false, IsTrue, Option, Some, None, Result, Ok, IsErr}
 use Rattle.outside.specs.Exchange.{Exchange, fresh}
 use Rattle.outside.specs.Door.{DoorState}
 use Rattle.outside.specs.declared.disk_error.Failed.{Failed}
 use Rattle.disk_memory.specs.Plan.{one_more}
 use Rattle.disk_memory.specs.Pieces.{joined}
-use Rattle.disk_memory.specs.Incoming.{next_of}
-use Rattle.disk_memory.specs.Connection.{exchange_of, after_last, is_number, is_read_failing, is_write_failing}
+use Rattle.disk_memory.specs.Connection.{exchange_of, after_last, is_number, GivesNext, TakesAll}
 use Rattle.disk_memory.specs.declared.input.Input.{Input}
 use Rattle.disk_memory.specs.declared.connection.Connection.{Connection}
 use Rattle.disk_memory.specs.declared.door.MemoryDoor.{MemoryDoor}
@@ -31,6 +30,10 @@ state door = record { accepted = length (exchanges_of door); ended = door.ended;
 abbrev pub door_faults : MemoryDoor → ℕ
 door_faults door = door.faults
 
+-- The same door, whose accept with this number fails.
+abbrev pub failing_at : ℕ → MemoryDoor → MemoryDoor
+failing_at number door = record door { accept_fails = Some number }
+
 -- The next accept is set to fail.
 abbrev pub is_accept_failing : MemoryDoor → Bool
 is_accept_failing door = is_number door.accept_fails (one_more door.accepts)
@@ -51,16 +54,14 @@ pub record TakesInput (old new : MemoryDoor) (result : Result Bool Failed) : Typ
   pub none : result ≡ Ok false → inputs_of old ≡ []
   pub same : result ≢ Ok true → inputs_of new ≡ inputs_of old
 
--- The read fails exactly where it was set to, and else gives all that there is room for of one piece.
-pub record ReadsLast (room : List ℕ) (old : MemoryDoor) (result : Result ℕ Failed) : Type 0 where
+-- The read is the next one of the last connection.
+pub record ReadsLast {E : Type 0} (room : List ℕ) (old : MemoryDoor) (result : Result ℕ E) : Type 0 where
   pub connection : Connection
   pub last : old.last ≡ Some connection
-  pub failed : IsErr result ↔ IsTrue (is_read_failing connection)
-  pub count : IfOk result (λ count. count ≡ min (length room) (length (next_of connection.incoming)))
+  pub reads : GivesNext room connection result
 
--- The write fails where it was set to, or for want of memory, and else takes the whole piece.
-pub record WritesLast (piece : List ℕ) (old : MemoryDoor) (result : Result ℕ Failed) : Type 0 where
+-- The write is the next one of the last connection.
+pub record WritesLast {E : Type 0} (piece : List ℕ) (old : MemoryDoor) (result : Result ℕ E) : Type 0 where
   pub connection : Connection
   pub last : old.last ≡ Some connection
-  pub failed : IsTrue (is_write_failing connection) → IsErr result
-  pub count : IfOk result (λ count. count ≡ length piece)
+  pub writes : TakesAll piece connection result

@@ -1,5 +1,5 @@
 //! One connection in memory.
-ghost use Rattle.std.specs.Prelude.{◌≡◌, ◌↔◌, ◌<◌, ◌≤◌, length, take, min, IsTrue, IsErr, IfOk};
+ghost use Rattle.std.specs.Prelude.{◌≡◌, ◌<◌, length};
 ghost use Rattle.outside.specs.Exchange.{Hears, Says};
 
 use crate::Input;
@@ -22,8 +22,7 @@ pub struct Connection {
 impl Connection {
     ghost use Rattle.outside.specs.Exchange.{fresh};
     ghost use Rattle.disk_memory.specs.Pieces.{joined};
-    ghost use Rattle.disk_memory.specs.Incoming.{next_of};
-    ghost use Rattle.disk_memory.specs.Connection.{exchange_of, is_read_failing, is_write_failing};
+    ghost use Rattle.disk_memory.specs.Connection.{exchange_of, GivesNext, TakesAll};
 
     /// A connection before its first byte.
     pub fn new(alloc: Global, input: Input) -> Connection
@@ -44,8 +43,7 @@ impl Connection {
     pub fn read(&mut self, room: &mut [u8]) -> Result<usize, Failed>
         requires { 0 < length room.old }
         ensures heard { Hears room.new result (exchange_of self.old) (exchange_of self.new) }
-        ensures failed { IsErr result ↔ IsTrue (is_read_failing self.old) }
-        ensures count { IfOk result (λ count. count ≡ min (length room.new) (length (next_of self.old.incoming))) }
+        ensures next { GivesNext room.new self.old result }
     {
         self.reads = self.reads.saturating_add(1);
         if self.read_fails == Some(self.reads) {
@@ -58,8 +56,7 @@ impl Connection {
     /// Takes the whole piece, or fails; so it does where memory is wanting.
     pub fn write(&mut self, piece: &[u8]) -> Result<usize, Failed>
         ensures said { Says piece.now result (exchange_of self.old) (exchange_of self.new) }
-        ensures failed { IsTrue (is_write_failing self.old) → IsErr result }
-        ensures count { IfOk result (λ count. count ≡ length piece.now) }
+        ensures all { TakesAll piece.now self.old result }
     {
         self.writes = self.writes.saturating_add(1);
         let fails = self.write_fails == Some(self.writes);

@@ -28,6 +28,7 @@ pub struct MemoryDisk {
 impl MemoryDisk {
     ghost use Rattle.disk_memory.specs.Disk.{history_of, plan_of, IsFresh};
 
+    // A disk over these nodes.
     fn over(alloc: Global, nodes: BTreeMap<Path, Node>) -> Result<MemoryDisk, AllocError>
         ensures history { IfOk result (λ disk. history_of disk ≡ begun (tree_in nodes)) }
         ensures plan { IfOk result (λ disk. IsFresh (plan_of disk)) }
@@ -58,6 +59,8 @@ impl MemoryDisk {
     }
 
     /// Makes the calls with these numbers fail, in place of those named before. Calls are counted from 1.
+    ///
+    /// A `write` that fails leaves what was there, and a crash may tear it; the other calls that fail change nothing.
     pub fn fail_calls(&mut self, which: Vec<u64>)
         ensures history { history_of self.new ≡ history_of self.old }
         ensures plan { plan_of self.new ≡ record (plan_of self.old) { failing = which } }

@@ -49,7 +49,7 @@ fn add_last(before: &mut Vec<Connection>, last: &mut Option<Connection>) -> Resu
 impl MemoryDoor {
     ghost use Rattle.disk_memory.specs.Plan.{one_more};
     ghost use Rattle.std.specs.Prelude.{slice_get, option_map};
-    ghost use Rattle.disk_memory.specs.Door.{inputs_of, exchanges_of, IsUnused};
+    ghost use Rattle.disk_memory.specs.Door.{inputs_of, exchanges_of, failing_at, IsUnused};
 
     /// A door to which these connections come, the first one first. No accept fails.
     pub fn of_inputs(alloc: Global, mut inputs: Vec<Input>) -> MemoryDoor
@@ -72,7 +72,7 @@ impl MemoryDoor {
 
     /// Makes the accept with this number fail, in place of one named before. Accepts are counted from 1.
     pub fn fail_accept(&mut self, number: u64)
-        ensures { self.new ≡ record self.old { accept_fails = Some number } }
+        ensures { self.new ≡ failing_at number self.old }
     {
         self.accept_fails = Some(number);
     }

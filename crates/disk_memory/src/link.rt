@@ -1,5 +1,5 @@
 //! A link in memory.
-ghost use Rattle.std.specs.Prelude.{◌≡◌, ◌↔◌, ◌<◌, ◌≤◌, true, false, None, Some, IsTrue, IsErr, length, min, IfOk, OnOk, OnErr};
+ghost use Rattle.std.specs.Prelude.{◌≡◌, ◌<◌, ◌≤◌, true, length, IfOk, OnOk, OnErr};
 ghost use Rattle.outside.specs.Exchange.{Hears, Says};
 ghost use Rattle.outside.specs.Told.{Moves};
 ghost use Rattle.outside.specs.Faults.{HasCause};
@@ -24,15 +24,12 @@ pub struct MemoryLink {
 impl MemoryLink {
     ghost use Rattle.outside.specs.Exchange.{fresh};
     ghost use Rattle.disk_memory.specs.Pieces.{joined};
-    ghost use Rattle.disk_memory.specs.Link.{exchange_of_link};
+    ghost use Rattle.disk_memory.specs.Link.{exchange_of_link, failing_at, IsUnused};
 
     /// A link whose server answers this. No connect fails.
     pub fn of_input(alloc: Global, input: Input) -> MemoryLink
         ensures exchange { exchange_of_link result ≡ fresh (joined input.pieces.items) }
-        ensures connected { result.connected ≡ false }
-        ensures faults { result.faults ≡ 0 }
-        ensures connects { result.connects ≡ 0 }
-        ensures failing { result.connect_fails ≡ None }
+        ensures unused { IsUnused result }
     {
         MemoryLink {
             connection: Connection::new(alloc, input),
@@ -45,7 +42,7 @@ impl MemoryLink {
 
     /// Makes the connect with this number fail, in place of one named before. Connects are counted from 1.
     pub fn fail_connect(&mut self, number: u64)
-        ensures { self.new ≡ record self.old { connect_fails = Some number } }
+        ensures { self.new ≡ failing_at number self.old }
     {
         self.connect_fails = Some(number);
     }
@@ -59,24 +56,21 @@ impl MemoryLink {
 }
 
 impl Link for MemoryLink {
-    ghost use Rattle.disk_memory.specs.Plan.{one_more};
-    ghost use Rattle.disk_memory.specs.Incoming.{next_of};
-    ghost use Rattle.disk_memory.specs.Connection.{is_read_failing, is_write_failing};
-    ghost use Rattle.disk_memory.specs.Link.{told, is_connect_failing};
+    ghost use Rattle.disk_memory.specs.Connection.{GivesNext, TakesAll};
+    ghost use Rattle.disk_memory.specs.Link.{told, is_connected, link_faults, connection_of, CountsConnect};
 
-    ghost faults = { λ link. link.faults };
+    ghost faults = { link_faults };
 
-    ghost connected = { λ link. link.connected };
+    ghost connected = { is_connected };
 
     ghost told = { told };
 
     fn connect(&mut self) -> Result<(), Failed>
-        ensures connected { OnOk result (self.new.connected ≡ true) }
-        ensures refused { OnErr result (self.new.connected ≡ self.old.connected) }
+        ensures connected { OnOk result (is_connected self.new ≡ true) }
+        ensures refused { OnErr result (is_connected self.new ≡ is_connected self.old) }
         ensures same { told self.new ≡ told self.old }
-        ensures cause { HasCause self.old.faults self.new.faults result }
-        ensures counted { self.new.connects ≡ one_more self.old.connects }
-        ensures failed { IsErr result ↔ IsTrue (is_connect_failing self.old) }
+        ensures cause { HasCause (link_faults self.old) (link_faults self.new) result }
+        ensures counted { CountsConnect self.old self.new result }
     {
         self.connects = self.connects.saturating_add(1);
         if self.connect_fails == Some(self.connects) {
@@ -88,14 +82,13 @@ impl Link for MemoryLink {
     }
 
     fn read(&mut self, room: &mut [u8]) -> Result<usize, Failed>
-        requires connected { self.old.connected ≡ true }
+        requires connected { is_connected self.old ≡ true }
         requires room { 0 < length room.old }
-        ensures same { self.new.connected ≡ self.old.connected }
+        ensures same { is_connected self.new ≡ is_connected self.old }
         ensures bound { IfOk result (λ count. count ≤ length room.new) }
         ensures heard { Moves (told self.old) (told self.new) (Hears room.new result) }
-        ensures cause { HasCause self.old.faults self.new.faults result }
-        ensures failed { IsErr result ↔ IsTrue (is_read_failing self.old.connection) }
-        ensures count { IfOk result (λ count. count ≡ min (length room.new) (length (next_of self.old.connection.incoming))) }
+        ensures cause { HasCause (link_faults self.old) (link_faults self.new) result }
+        ensures next { GivesNext room.new (connection_of self.old) result }
     {
         let answer = self.connection.read(room);
         if answer.is_err() {
@@ -105,14 +98,13 @@ impl Link for MemoryLink {
     }
 
     fn write(&mut self, piece: &[u8]) -> Result<usize, Failed>
-        requires { self.old.connected ≡ true }
-        ensures same { self.new.connected ≡ self.old.connected }
+        requires { is_connected self.old ≡ true }
+        ensures same { is_connected self.new ≡ is_connected self.old }
         ensures bound { IfOk result (λ count. count ≤ length piece.now) }
         ensures goes_on { IfOk result (λ count. 0 < length piece.now → 0 < count) }
         ensures said { Moves (told self.old) (told self.new) (Says piece.now result) }
-        ensures cause { HasCause self.old.faults self.new.faults result }
-        ensures failed { IsTrue (is_write_failing self.old.connection) → IsErr result }
-        ensures count { IfOk result (λ count. count ≡ length piece.now) }
+        ensures cause { HasCause (link_faults self.old) (link_faults self.new) result }
+        ensures all { TakesAll piece.now (connection_of self.old) result }
     {
         let answer = self.connection.write(piece);
         if answer.is_err() {
