@@ -1,7 +1,7 @@
 -- What the calls of a disk in memory do to its history.
 use Rattle.std.proofs.Common.{◌≡◌, ◌∙◌, inl, inr, Err, List, ℕ, Option, Some, refl, ap}
 use Rattle.outside.specs.Names.{Names}
-use Rattle.outside.specs.Tree.{Node, file, node_at}
+use Rattle.outside.specs.Tree.{Node, node_at}
 use Rattle.outside.specs.History.{History, next, scribbled, tree_of}
 use Rattle.outside.specs.DiskCalls.{Writes}
 use Rattle.outside.specs.Told.{Moves}

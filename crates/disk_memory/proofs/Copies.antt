@@ -1,8 +1,8 @@
 -- A map that is copied entry by entry.
-use Rattle.std.proofs.Common.{◌≡◌, List, [], ◌∷◌, Option, Some, None, refl, sym, ◌∙◌, ap, subst}
+use Rattle.std.proofs.Common.{◌≡◌, List, [], ◌∷◌, Option, Some, None, refl, sym, ◌∙◌, ap}
 use Rattle.std.specs.Ordering.{eq_by_cmp}
 use Rattle.std.specs.BTreeMap.{BTreeMap, get, is_at, IsOrdered, Updates}
-use Rattle.std.specs.Map.{lookup, update, update_all}
+use Rattle.std.specs.Map.{lookup, update_all}
 use Rattle.std.proofs.lemmas.Map.Made.{update_all_none}
 use Rattle.std.proofs.lemmas.Map.Keys.{IsDistinct-from_sorted}
 use Rattle.outside.specs.Names.{Names, path_cmp}

@@ -1,21 +1,20 @@
 -- What the picks of a crash name is one of its images.
 use Rattle.std.proofs.Common.{◌≡◌, inl, inr, ◌⊎◌, ℕ, List, Option, Some, None, Bool, cond, false, true, refl, sym, ◌∙◌, ap, subst}
-use Rattle.std.specs.Prelude.{option_map, unwrap_or, slice_get, is_some}
+use Rattle.std.specs.Prelude.{option_map, unwrap_or, slice_get}
 use Rattle.std.proofs.lemmas.Bool.{false≢true}
 use Rattle.std.specs.Ordering.{eq_by_cmp}
-use Rattle.std.specs.Map.{lookup, keys_of}
-use Rattle.std.specs.FinMap.{FinMap, get, get-entries, get-empty, entries, keys, find}
+use Rattle.std.specs.FinMap.{FinMap, get, get-entries, get-empty, entries, keys}
 use Rattle.std.proofs.lemmas.Map.Entries.{place_from_lookup}
 use Rattle.std.proofs.lemmas.Option.{slice_get-map}
 use Rattle.outside.specs.Names.{Names, path_cmp}
 use Rattle.outside.specs.Tree.{Node, Tree, node_at}
 use Rattle.outside.specs.History.{History, begun, next, replaced, scribbled, synced, tree_of, MayLeave, IsImage, IsFileOrNone}
-use Rattle.outside.proofs.Trees.{path_cases, path_itself, path_same}
+use Rattle.outside.proofs.Trees.{path_cases, path_itself}
 use Rattle.outside.proofs.Crash.{may_leave_now}
 use Rattle.disk_memory.specs.Crash.{synced_tree, touched, is_torn, left_of, IsPicked}
 use Rattle.disk_memory.specs.declared.pick.Pick.{Pick}
 use Rattle.disk_memory.specs.declared.pick.Pick.TheVariants.{Old, New, Gone, Torn}
-use Rattle.disk_memory.proofs.Touches.{get-insert-cases, some≢none}
+use Rattle.disk_memory.proofs.Touches.{get-insert-cases}
 
 -- a crash may leave what a path had at the last sync
 may_leave_old : (h : History) (p : Names) → MayLeave h p (node_at (synced_tree h) p)

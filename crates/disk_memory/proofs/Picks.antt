@@ -1,27 +1,26 @@
 -- What a crash leaves, by picks.
-use Rattle.std.proofs.Common.{◌≡◌, inl, inr, ◌⊎◌, ℕ, zero, suc, List, [], ◌∷◌, length, Bor, Iter, arith, Option, Some, None, Bool, cond, false, true, refl, sym, ◌∙◌, ap, subst}
+use Rattle.std.proofs.Common.{◌≡◌, inl, inr, ℕ, zero, suc, List, [], ◌∷◌, length, Bor, Iter, arith, Option, Some, None, cond, false, refl, sym, ◌∙◌, ap, subst}
 use Rattle.std.specs.Prelude.{option_map, unwrap_or, slice_get}
 use Rattle.std.specs.Option.{option_copied}
 use Rattle.std.specs.Slice.Iter.{iter_rest, iter_steps}
 use Rattle.std.specs.Ordering.{eq_by_cmp}
-use Rattle.std.specs.BTreeMap.{BTreeMap, get, is_at, Updates, IsOrdered, keys}
+use Rattle.std.specs.BTreeMap.{BTreeMap, get, Updates, IsOrdered}
 use Rattle.std.specs.Map.{lookup, keys_of}
 use Rattle.std.specs.List.{IsDistinct, AllByRecursion}
 use Rattle.std.proofs.lemmas.Map.Entries.{lookup_from_place}
 use Rattle.std.proofs.lemmas.Option.{slice_get-map}
 use Rattle.std.proofs.lemmas.Map.Keys.{IsDistinct-from_sorted}
 use Rattle.outside.specs.Names.{Names, path_cmp}
-use Rattle.outside.specs.Order.{path_total, paths_equal}
+use Rattle.outside.specs.Order.{paths_equal}
 use Rattle.outside.specs.Tree as tree
-use Rattle.outside.specs.History.{History, tree_of}
 use Rattle.outside.proofs.Trees.{path_cases, path_itself}
-use Rattle.disk_memory.specs.Nodes.{node_of, tree_in}
-use Rattle.disk_memory.specs.Crash.{synced_tree, touched, is_torn, left_of, IsPicked}
-use Rattle.disk_memory.specs.Recorded.{IsKept, LaysPick, LaysPicks}
+use Rattle.disk_memory.specs.Nodes.{node_of}
+use Rattle.disk_memory.specs.Crash.{synced_tree, touched, is_torn, left_of}
+use Rattle.disk_memory.specs.Recorded.{LaysPick, LaysPicks}
 use Rattle.disk_memory.specs.declared.node.Node.{Node}
 use Rattle.disk_memory.specs.declared.change.Touch.{Touch}
 use Rattle.disk_memory.specs.declared.pick.Pick.{Pick}
-use Rattle.disk_memory.specs.declared.pick.Pick.TheVariants.{Old, New, Gone, Torn}
+use Rattle.disk_memory.specs.declared.pick.Pick.TheVariants.{New}
 use Rattle.disk_memory.proofs.Keys.{get-seen, keys_same}
 use Rattle.disk_memory.proofs.Changes.{option_map-updated}
 use Rattle.disk_memory.proofs.Touches.{some≢none}

@@ -1,5 +1,5 @@
 -- What child programs in memory keep.
-use Rattle.std.proofs.Common.{◌≡◌, ℕ, List, [], ◌∷◌, ◌++◌, map, take, Vec, String, Global, ◌∙◌, ap}
+use Rattle.std.proofs.Common.{◌≡◌, ℕ, List, [], ◌∷◌, ◌++◌, map, ◌∙◌, ap}
 use Rattle.std.proofs.lemmas.List.{map-append}
 use Rattle.outside.specs.Spawner as outside
 use Rattle.outside.specs.declared.spawner.Answer.{Answer}

@@ -1,5 +1,5 @@
 -- What is kept of a history to crash it: one change more.
-use Rattle.std.proofs.Common.{◌≡◌, ◌≢◌, ◌<◌, ◌+◌, inl, inr, ◌⊎◌, ℕ, List, [], ◌∷◌, ◌++◌, length, take, get_or, Option, Some, None, Bool, cond, false, true, ◌||◌, refl, sym, ◌∙◌, ap, subst}
+use Rattle.std.proofs.Common.{◌≡◌, ◌<◌, ◌+◌, inl, inr, ℕ, List, [], ◌∷◌, ◌++◌, length, take, get_or, Option, Some, None, Bool, cond, false, true, ◌||◌, refl, sym, ◌∙◌, ap, subst}
 use Rattle.std.specs.Prelude.{option_map, unwrap_or}
 use Rattle.std.proofs.lemmas.List.{take_more}
 use Rattle.std.specs.Ordering.{eq_by_cmp}
@@ -11,7 +11,7 @@ use Rattle.outside.specs.Order.{path_total, paths_equal}
 use Rattle.outside.specs.Tree as tree
 use Rattle.outside.specs.History.{History, begun, next, replaced, scribbled, synced, tree_of}
 use Rattle.outside.proofs.Trees.{path_cases, path_itself, node_at-set_other}
-use Rattle.disk_memory.specs.Nodes.{node_of, put, change_of, tree_in}
+use Rattle.disk_memory.specs.Nodes.{node_of, put, tree_in}
 use Rattle.disk_memory.specs.Crash.{synced_tree, touched, is_torn}
 use Rattle.disk_memory.specs.Recorded.{after_all, Mirrors, IsCopy, IsKept, StaysKept, IsUpdated, touched_again}
 use Rattle.disk_memory.specs.declared.node.Node.{Node}

@@ -30,11 +30,11 @@ asked_of spawner = spawner.asked.items
 abbrev pub spawner_faults : MemorySpawner → ℕ
 spawner_faults spawner = spawner.faults
 
--- Child programs in memory always tell what was run,.
+-- Child programs in memory always tell what was run,
 abbrev pub told_runs : MemorySpawner → Option (List outside.Run)
 told_runs spawner = Some (map run_of spawner.runs.items)
 
--- And what was asked.
+-- and what was asked.
 abbrev pub told_asked : MemorySpawner → Option (List outside.Question)
 told_asked spawner = Some (map question_of spawner.asked.items)
 

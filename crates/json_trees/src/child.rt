@@ -29,11 +29,7 @@ fn longer_key(key: &Key, name: &str) -> Result<Key, TreeError>
         (λ e. e ≢ Memory → (e ≡ BadKey) × (is_key (key.now ++ name.now ∷ []) ≡ false)) }
 {
     match key.child(name.as_bytes()) {
-        Ok(child) => {
-            // Its length tells the proof that it is a key.
-            let _len = child.len();
-            Ok(child)
-        }
+        Ok(child) => Ok(child),
         Err(e) => Err(refusal_of(e)),
     }
 }

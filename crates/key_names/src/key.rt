@@ -121,6 +121,7 @@ impl Key {
     /// limit (`TooMany`, `SegmentTooLong`, `TooLong`). The place is 0 but for `BadByte`.
     pub fn child(&self, segment: &[u8]) -> Result<Key, KeyError>
         ensures ok { IfOk result (λ key. key ≡ self.now ++ segment.now ∷ []) }
+        ensures valid { IfOk result (λ key. IsTrue (is_key key)) }
         ensures refused { IfErr result (λ e. e.kind ≢ Memory
             → RefusesChild self.now segment.now e.kind e.place) }
         ensures exact { (kind : KeyFault) (place : ℕ) → RefusesChild self.now segment.now kind place

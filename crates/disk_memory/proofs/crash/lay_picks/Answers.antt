@@ -1,4 +1,4 @@
-use Rattle.std.proofs.Common.{sym, ◌∙◌, ap, List, Option}
+use Rattle.std.proofs.Common.{sym, ◌∙◌, ap, List}
 use Rattle.std.specs.Prelude.{option_map}
 use Rattle.std.specs.BTreeMap.{get}
 use Rattle.std.specs.Slice.Iter.{iter_rest}

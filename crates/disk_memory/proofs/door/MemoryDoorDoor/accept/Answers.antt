@@ -1,4 +1,4 @@
-use Rattle.std.proofs.Common.{◌∷◌, refl, rules, ap}
+use Rattle.std.proofs.Common.{◌∷◌, refl, rules}
 use Rattle.disk_memory.proofs.Doors.{reverse-push}
 use Rattle.disk_memory.proofs.door.MemoryDoorDoor.accept.Goals as goal
 

@@ -1,5 +1,4 @@
-use Rattle.std.proofs.Common.{◌≡◌, ◌≤◌, ◌-◌, length}
-use Rattle.disk_memory.specs.Pieces.{piece_at}
+use Rattle.std.proofs.Common.{◌≡◌, ◌-◌, length}
 use Rattle.disk_memory.specs.Incoming.{heard_of, left_of, next_of}
 use Rattle.disk_memory.proofs.incoming.Incoming.pass_over.Given as goal
 

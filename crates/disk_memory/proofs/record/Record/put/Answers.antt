@@ -1,4 +1,3 @@
-use Rattle.std.proofs.Common.{rules}
 use Rattle.outside.specs.History.{begun}
 use Rattle.disk_memory.specs.Nodes.{tree_in}
 use Rattle.disk_memory.proofs.record.Record.put.Goals as goal

@@ -1,0 +1,4 @@
+pub mod KeyList
+pub mod Maps
+pub mod NamedValues
+pub mod TxName

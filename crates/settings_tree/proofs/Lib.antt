@@ -1,0 +1,12 @@
+pub mod Below
+pub mod Contents
+pub mod HeldRules
+pub mod KeyOrder
+pub mod LaidAt
+pub mod Laying
+pub mod PendingMaps
+pub mod PrefixRule
+pub mod RoomsLaid
+pub mod RoomsUndone
+pub mod Stores
+pub mod Walks

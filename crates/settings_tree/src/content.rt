@@ -1,0 +1,259 @@
+//! Contents.
+ghost use Rattle.std.specs.Prelude.{◌≡◌, IfOk, OnOk, OnErr, IsTrue, IfSome, IfNone, All, Some, None, false};
+ghost use Rattle.std.specs.BTreeMap.Range.{IsLeBy};
+ghost use Rattle.key_names.specs.Order.{key_cmp};
+ghost use Rattle.settings_tree.specs.Walks.{IsLeastBelow, HasNoneBelow, entries_below};
+ghost use Rattle.std.specs.Option.{option_copied};
+ghost use Rattle.std.specs.FinMap as map;
+ghost use Rattle.settings_tree.specs.Content.{IsContent, MayBeWeak, no_content};
+ghost use Rattle.settings_maps.specs.KeyList.{without_key};
+ghost use Rattle.settings_maps.specs.Maps.{IsLeastAfter, IsLeastKeyAfter, HasNoneAfter, inner, value_at, with_value, without_value};
+ghost use Rattle.settings_tree.specs.Rule.{Fits, Clashes};
+ghost use Rattle.settings_maps.specs.TxName.{is_meta_name};
+
+use crate::rule::fits;
+use json_trees::Scalar;
+use key_names::{Key, Text};
+use settings_maps::{Copied, KeyList, KeyMap, Metadata};
+use std::alloc::{AllocError, Global};
+use std::marker::Model;
+
+/// Values by key, metadata by key and name, and the set of the weak keys, each of which has a value
+/// and begins with `settings`. No value's key is a proper prefix of another's. A metadata name is 1
+/// to 127 bare characters.
+#[derive(Drop)]
+pub struct Content {
+    pub(crate) values: KeyMap<Scalar>,
+    pub(crate) metadata: Metadata,
+    pub(crate) weak: KeyList,
+}
+
+impl Model for Content {
+    ghost use Rattle.settings_tree.specs.Content.{Contents, IsContent, content_code};
+
+    ghost Value = { Contents };
+
+    ghost coded = { content_code };
+
+    ghost view = { λ c. record { values = c.values; metadata = c.metadata; weak = c.weak } };
+
+    ghost invariant = { λ c. IsContent (record { values = c.values; metadata = c.metadata; weak = c.weak }) };
+}
+
+#[tactic(auto, using(crate::proofs::Contents::contents, crate::proofs::Below::below_prefix))]
+impl Content {
+    /// The content with nothing in it. It takes no memory.
+    pub fn new(alloc: Global) -> Content
+        ensures { result ≡ no_content }
+    {
+        Content {
+            values: KeyMap::new(alloc),
+            metadata: Metadata::new(alloc),
+            weak: KeyList::new(alloc),
+        }
+    }
+
+    /// The value at the key, None exactly where it has none. It is logarithmic and takes no memory.
+    pub fn value(&self, key: &Key) -> Option<&Scalar>
+        ensures value { option_copied result ≡ map.get self.now.values key.now }
+        ensures valid { IsContent self.now }
+    {
+        self.values.get(key)
+    }
+
+    /// The metadata at the key and the name, None exactly where there is none. It is logarithmic and
+    /// takes no memory.
+    pub fn meta(&self, key: &Key, name: &[u8]) -> Option<&Scalar>
+        ensures { option_copied result ≡ value_at self.now.metadata key.now name.now }
+    {
+        self.metadata.value(key, name)
+    }
+
+    /// Whether no other value's key is a proper prefix of this key or has it as one. It is
+    /// logarithmic and takes no memory.
+    pub fn fits(&self, key: &Key) -> bool
+        ensures fits { IsTrue result → Fits self.now.values key.now }
+        ensures clashes { result ≡ false → Clashes self.now.values key.now }
+        ensures valid { IsContent self.now }
+    {
+        fits(&self.values, key)
+    }
+
+    /// Puts the value at the key, over the one that stands there if there is one. The key is strong
+    /// from then on. It is logarithmic, but that the weak keys after one that it makes strong move
+    /// up. The only error is want of memory, which leaves the content unchanged.
+    pub fn put(&mut self, key: Key, value: Scalar) -> Result<(), AllocError>
+        requires { Fits self.old.values key }
+        ensures ok { OnOk result (self.new ≡ record self.old { values = map.insert self.old.values key value; weak = without_key self.old.weak key }) }
+        ensures err { OnErr result (self.new ≡ self.old) }
+    {
+        if self.values.get(&key).is_some() {
+            self.weak.remove(&key);
+            self.values.put_over(key, value);
+            Ok(())
+        } else {
+            // A key without a value is not weak.
+            self.values.put(key, value)
+        }
+    }
+
+    /// Takes the value at the key, None exactly where it has none. The key is no longer weak. It
+    /// takes no memory. It is logarithmic, but that the weak keys after the taken one move up.
+    pub fn take(&mut self, key: &Key) -> Option<Scalar>
+        ensures value { result ≡ map.get self.old.values key.now }
+        ensures gone { self.new ≡ record self.old { values = map.remove self.old.values key.now; weak = without_key self.old.weak key.now } }
+    {
+        self.weak.remove(key);
+        self.values.take(key)
+    }
+
+    /// Puts metadata at the key and the name, over what stands there if there is something. It is
+    /// logarithmic in the keys with metadata, and moves the later names of the key up at a new name.
+    /// The only error is want of memory, which leaves the content unchanged.
+    pub fn put_meta(&mut self, key: Key, name: Text, value: Scalar) -> Result<(), AllocError>
+        requires { IsTrue (is_meta_name name) }
+        ensures ok { OnOk result (self.new ≡ record self.old { metadata = with_value self.old.metadata key name value }) }
+        ensures err { OnErr result (self.new ≡ self.old) }
+    {
+        self.metadata.put(key, name, value)
+    }
+
+    /// Takes the metadata at the key and the name, None exactly where there is none. It takes no
+    /// memory.
+    pub fn take_meta(&mut self, key: &Key, name: &[u8]) -> Option<Scalar>
+        ensures value { result ≡ value_at self.old.metadata key.now name.now }
+        ensures gone { self.new ≡ record self.old { metadata = without_value self.old.metadata key.now name.now } }
+    {
+        self.metadata.take(key, name)
+    }
+
+    /// The weak keys, rising. It takes no memory.
+    pub fn weak(&self) -> &KeyList
+        ensures weak { result.now ≡ self.now.weak }
+        ensures valid { IsContent self.now }
+    {
+        &self.weak
+    }
+
+    /// Makes these keys the weak ones. It takes no memory.
+    pub fn set_weak(&mut self, keys: KeyList)
+        requires { All (MayBeWeak self.old.values) keys }
+        ensures { self.new ≡ record self.old { weak = keys } }
+    {
+        self.weak = keys;
+    }
+
+    /// The entry of the least key that is greater than `after`, or of the least key of all where
+    /// none is given; None exactly where there is no such key. It is logarithmic and takes no memory.
+    pub fn next_value(&self, after: Option<&Key>) -> Option<(&Key, &Scalar)>
+        ensures least { IfSome result (λ e. IsLeastAfter self.now.values (option_copied after.entry) e.0.now e.1.now) }
+        ensures none { IfNone result (HasNoneAfter self.now.values (option_copied after.entry)) }
+    {
+        self.values.next_after(after)
+    }
+
+    /// The least key with metadata that is greater than `after`, or the least of all where none is
+    /// given; None exactly where there is no such key. It is logarithmic and takes no memory.
+    pub fn next_meta_key(&self, after: Option<&Key>) -> Option<&Key>
+        ensures least { IfSome result (λ k. IsLeastKeyAfter self.now.metadata (option_copied after.entry) k.now) }
+        ensures none { IfNone result (HasNoneAfter self.now.metadata (option_copied after.entry)) }
+    {
+        self.metadata.next_key(after)
+    }
+
+    /// The metadata at the key of the least name that is greater than `after`, or of the least name
+    /// of all where none is given; None exactly where there is no such name. It is logarithmic and
+    /// takes no memory.
+    pub fn next_meta(&self, key: &Key, after: Option<&[u8]>) -> Option<(&Text, &Scalar)>
+        ensures least { IfSome result (λ e. IsLeastAfter (inner self.now.metadata key.now) (option_copied after.entry) e.0.now e.1.now) }
+        ensures none { IfNone result (HasNoneAfter (inner self.now.metadata key.now) (option_copied after.entry)) }
+    {
+        self.metadata.next_name(key, after)
+    }
+
+    fn first_below(&self, prefix: &Key) -> Option<(&Key, &Scalar)>
+        ensures least { IfSome result (λ e. IsLeastBelow self.now.values prefix.now None e.0.now e.1.now) }
+        ensures none { IfNone result (HasNoneBelow self.now.values prefix.now None) }
+    {
+        match self.values.next_from(prefix) {
+            Some((key, value)) => {
+                if prefix.is_prefix(key) {
+                    Some((key, value))
+                } else {
+                    None
+                }
+            }
+            None => None,
+        }
+    }
+
+    fn later_below(&self, prefix: &Key, after: &Key) -> Option<(&Key, &Scalar)>
+        requires { IsLeBy key_cmp prefix.now after.now }
+        ensures least { IfSome result (λ e. IsLeastBelow self.now.values prefix.now (Some after.now) e.0.now e.1.now) }
+        ensures none { IfNone result (HasNoneBelow self.now.values prefix.now (Some after.now)) }
+    {
+        match self.values.next_after(Some(after)) {
+            Some((key, value)) => {
+                if prefix.is_prefix(key) {
+                    Some((key, value))
+                } else {
+                    None
+                }
+            }
+            None => None,
+        }
+    }
+
+    fn below_past(&self, prefix: &Key, after: &Key) -> Option<(&Key, &Scalar)>
+        ensures least { IfSome result (λ e. IsLeastBelow self.now.values prefix.now (Some after.now) e.0.now e.1.now) }
+        ensures none { IfNone result (HasNoneBelow self.now.values prefix.now (Some after.now)) }
+    {
+        if prefix.cmp(after).is_gt() {
+            self.first_below(prefix)
+        } else {
+            self.later_below(prefix, after)
+        }
+    }
+
+    /// The entry of the least key that begins with the prefix, as the prefix itself does, and that is
+    /// greater than `after` where it is given; None exactly where there is no such key. It is
+    /// logarithmic and takes no memory.
+    pub fn next_below(&self, prefix: &Key, after: Option<&Key>) -> Option<(&Key, &Scalar)>
+        ensures least { IfSome result (λ e. IsLeastBelow self.now.values prefix.now (option_copied after.entry) e.0.now e.1.now) }
+        ensures none { IfNone result (HasNoneBelow self.now.values prefix.now (option_copied after.entry)) }
+    {
+        match after {
+            Some(after) => self.below_past(prefix, after),
+            None => self.first_below(prefix),
+        }
+    }
+
+    fn allocator(&self) -> Global {
+        self.weak.allocator()
+    }
+
+    /// Copies of the values whose key begins with the prefix, as the prefix itself does, rising by
+    /// key. It takes a logarithmic step for each. The only error is want of memory.
+    pub fn below(&self, prefix: &Key) -> Result<Vec<(Key, Scalar)>, AllocError>
+        ensures { IfOk result (λ pairs. pairs.items ≡ entries_below self.now.values prefix.now) }
+    {
+        let mut pairs = Vec::new(self.allocator());
+        let mut after = None;
+        while let Some((key, value)) = self.next_below(prefix, after) {
+            pairs.push((key.copy()?, value.copy()?))?;
+            after = Some(key);
+        }
+        Ok(pairs)
+    }
+
+    /// A copy of the content, weak keys included. The only error is want of memory.
+    pub fn copy(&self) -> Result<Content, AllocError>
+        ensures { IfOk result (λ copy. copy ≡ self.now) }
+    {
+        Ok(Content {
+            values: self.values.copied()?,
+            metadata: self.metadata.copied()?,
+            weak: self.weak.copy()?,
+        })
+    }
+}

@@ -1,0 +1,12 @@
+pub mod PlaceTexts
+pub mod HeadLens
+pub mod WordParts
+pub mod WordTexts
+pub mod Apart
+pub mod OneTable
+pub mod Lengths
+pub mod Meetings
+pub mod Orders
+pub mod Searches
+pub mod Plainly
+pub mod Rows
