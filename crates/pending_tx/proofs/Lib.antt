@@ -1,0 +1,12 @@
+pub mod Changing
+pub mod Commits
+pub mod Drops
+pub mod Effects
+pub mod Ended
+pub mod Listed
+pub mod Merged
+pub mod Named
+pub mod Patches
+pub mod Present
+pub mod Rows
+pub mod Walked

@@ -1,0 +1,12 @@
+use Rattle.std.proofs.Common.{◌≡◌, ◌++◌, length, map}
+use Rattle.std.specs.FinMap.{keys}
+use Rattle.std.specs.Option.{option_copied}
+use Rattle.settings_maps.specs.Maps.{inner}
+use Rattle.settings_tree.specs.Walks.{entries_past}
+use Rattle.pending_tx.proofs.reading.keys_of.Given as goal
+
+abbrev pub invariant-loop-key : goal.invariant-loop-key
+invariant-loop-key l = l.keys.items ++ map (λ e. e.0) (entries_past (inner l.held.pending l.tx) (option_copied l.after)) ≡ keys (inner l.held.pending l.tx)
+
+abbrev pub decreases-loop-key : goal.decreases-loop-key
+decreases-loop-key l = length (entries_past (inner l.held.pending l.tx) (option_copied l.after))

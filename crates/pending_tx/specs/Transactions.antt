@@ -1,0 +1,81 @@
+-- What the calls read of a transaction, and what they make of what is held.
+use Rattle.std.specs.Prelude.{◌≡◌, ℕ, Bool, true, not, List, Option, Some, None, IsTrue, All, is_some, filter, fold, map}
+use Rattle.std.specs.FinMap.{FinMap, empty, get, insert, remove, entries, keys}
+use Rattle.key_names.specs.Order.{key_cmp}
+use Rattle.key_names.specs.Key.{is_prefix}
+use Rattle.json_trees.specs.Equal.{scalar_eq}
+use Rattle.json_trees.specs.declared.scalar.Scalar.{Scalar}
+use Rattle.json_trees.specs.declared.pending.Pending.{Pending}
+use Rattle.json_trees.specs.declared.pending.Pending.TheVariants.{Put, Gone}
+use Rattle.settings_maps.specs.Maps.{inner, value_at, with_value}
+use Rattle.settings_tree.specs.Rule.{Fits}
+use Rattle.settings_tree.specs.declared.entry.Owed.{Owed}
+use Rattle.settings_tree.specs.declared.entry.Owed.TheVariants as owed
+use Rattle.settings_tree.specs.declared.held.Held.{Held}
+use Rattle.pending_tx.specs.KeyLists.{joined, without_keys}
+
+-- What the transaction has pending, by key; nothing where there is no such transaction.
+abbrev pub pending_of : Held → List ℕ → FinMap key_cmp Pending
+pending_of h tx = inner h.pending tx
+
+-- The keys for which the transaction has something pending, rising.
+abbrev pub keys_of : Held → List ℕ → List (List (List ℕ))
+keys_of h tx = keys (pending_of h tx)
+
+-- Whether a live value is missing or another than the pending one, or stands where a removal is pending.
+abbrev pub differs : Pending → Option Scalar → Bool
+differs (Put v) None = true
+differs (Put v) (Some live) = not (scalar_eq v live)
+differs Gone live = is_some live
+
+-- What the transaction has pending that differs from the live values, rising by key.
+abbrev pub changes_of : Held → List ℕ → List (List (List ℕ) × Pending)
+changes_of h tx = filter (λ e. differs e.1 (get h.live.values e.0)) (entries (pending_of h tx))
+
+-- The keys of what differs, rising.
+abbrev pub changed_keys : Held → List ℕ → List (List (List ℕ))
+changed_keys h tx = map (λ e. e.0) (changes_of h tx)
+
+-- The values with a pending value laid over them, or a removed key taken from them.
+abbrev pub with_pending : FinMap key_cmp Scalar → List (List ℕ) → Pending → FinMap key_cmp Scalar
+with_pending values k (Put v) = insert values k v
+with_pending values k Gone = remove values k
+
+-- The owed keys with these keys owed too; all stay all.
+abbrev pub owing : Owed → List (List (List ℕ)) → Owed
+owing owed.All keys = owed.All
+owing (owed.Keys before) keys = owed.Keys (joined before keys)
+
+-- What is held after a commit: each pending value is laid over the live values and each removed key
+-- taken from them, all keys of the transaction are strong, the keys of what differed are owed, and
+-- the transaction is gone.
+abbrev pub committed : Held → List ℕ → Held
+committed h tx = record h {
+  live = record h.live {
+    values = fold (λ m e. with_pending m e.0 e.1) h.live.values (entries (pending_of h tx));
+    weak = without_keys h.live.weak (keys_of h tx);
+  };
+  pending = remove h.pending tx;
+  owed = owing h.owed (changed_keys h tx);
+}
+
+-- What is held after a transaction is dropped.
+abbrev pub dropped : Held → List ℕ → Held
+dropped h tx = record h { pending = remove h.pending tx }
+
+-- What is held after the pairs are laid over the transaction, one after another.
+abbrev pub patched : Held → List ℕ → List (List (List ℕ) × Pending) → Held
+patched h tx pairs = record h { pending = fold (λ m e. with_value m tx e.0 e.1) h.pending pairs }
+
+-- What the last pair of each key gives it.
+abbrev pub last_of : List (List (List ℕ) × Pending) → FinMap key_cmp Pending
+last_of pairs = fold (λ m e. insert m e.0 e.1) empty pairs
+
+-- Each key that the transaction sets overlaps no other live key.
+pub record FitLive (h : Held) (tx : List ℕ) : Type 0 where
+  pub fits : (k : List (List ℕ)) (v : Scalar) → value_at h.pending tx k ≡ Some (Put v) → Fits h.live.values k
+
+-- The keys of the pairs overlap no other key of the map, and no other of the pairs.
+pub record FitPairs (m : FinMap key_cmp Pending) (pairs : List (List (List ℕ) × Pending)) : Type 0 where
+  pub fit : All (λ e. Fits m e.0) pairs
+  pub apart : All (λ e. All (λ f. IsTrue (is_prefix e.0 f.0) → e.0 ≡ f.0) pairs) pairs

@@ -1,0 +1,81 @@
+//! The commit of a transaction.
+ghost use Rattle.std.specs.Prelude.{◌≡◌, ◌++◌, IfOk, OnOk, None, Err, not};
+ghost use Rattle.std.specs.List.{list_any};
+ghost use Rattle.std.specs.Option.{option_to_list};
+ghost use Rattle.std.specs.FinMap.{get};
+ghost use Rattle.settings_tree.specs.Change.{TheWeak, is_unnamed};
+ghost use Rattle.settings_tree.specs.Laid.{laid, KeepsPrefixRule, NamesWeak, TellsWeak};
+ghost use Rattle.pending_tx.specs.Changes.{NamesOnlyChanges};
+ghost use Rattle.pending_tx.specs.KeyLists.{has_key};
+ghost use Rattle.pending_tx.specs.Transactions.{changed_keys, committed, keys_of, FitLive};
+ghost use Rattle.pending_tx.specs.declared.answers.CommitError.TheVariants.{NoPending};
+
+use crate::answers::{Commit, CommitError};
+use crate::ending::end;
+use crate::live_changes::{changed_keys, changes_of, set_live};
+use crate::owing::{owed_entry, weak_entry};
+use crate::reading::{has_tx, keys_of};
+use settings_tree::{Change, Entry, Held, TxName};
+use std::alloc::{AllocError, Global};
+
+fn push_some(entries: &mut Vec<Entry>, entry: Option<Entry>) -> Result<(), AllocError>
+    ensures { OnOk result (entries.new.items ≡ entries.old.items ++ option_to_list entry) }
+{
+    if let Some(entry) = entry {
+        entries.push(entry)?;
+    }
+    Ok(())
+}
+
+fn commit_pending(alloc: Global, held: &Held, tx: &TxName) -> Result<Commit, AllocError>
+    ensures keys { IfOk result (λ c. c.keys ≡ keys_of held.now tx.now) }
+    ensures changed { IfOk result (λ c. c.changed ≡ changed_keys held.now tx.now) }
+    ensures laid { IfOk result (λ c. laid held.now c.change ≡ committed held.now tx.now) }
+    ensures rule { IfOk result (λ c. KeepsPrefixRule held.now → FitLive held.now tx.now → KeepsPrefixRule (laid held.now c.change)) }
+    ensures weak { IfOk result (λ c. NamesWeak held.now c.change) }
+    ensures told { IfOk result (λ c. TellsWeak held.now c.change) }
+    ensures strong { IfOk result (λ c. is_unnamed TheWeak c.change ≡ not (list_any (has_key held.now.live.weak) (keys_of held.now tx.now))) }
+    ensures changes { IfOk result (λ c. NamesOnlyChanges held.now c.change) }
+{
+    let keys = keys_of(alloc, held, tx)?;
+    let changes = changes_of(alloc, held, tx)?;
+    let changed = changed_keys(alloc, &changes)?;
+    let mut entries = Vec::new(alloc);
+    set_live(&mut entries, changes)?;
+    end(&mut entries, tx, &keys)?;
+    push_some(&mut entries, owed_entry(alloc, &held.owed, &changed)?)?;
+    push_some(&mut entries, weak_entry(alloc, held.live.weak(), &keys)?)?;
+    let change = Change::of(entries);
+    Ok(Commit {
+        keys,
+        changed,
+        change,
+    })
+}
+
+/// Commits the transaction: each of its values is laid over the live settings, each key that it
+/// removes is taken from them, all its keys become strong, those whose live value changes are owed,
+/// and it ends. The change names nothing that stays as it is; it has a `WeakIs` exactly where some key
+/// of the transaction is weak. What it makes keeps the prefix rule where what is held does and no key
+/// that the transaction sets overlaps another live one. `NoPending` comes exactly where there is no
+/// such transaction.
+///
+/// It takes a logarithmic step for each key of the transaction, and one for each owed or weak key where
+/// these change.
+pub fn commit(alloc: Global, held: &Held, tx: &TxName) -> Result<Commit, CommitError>
+    ensures missing { get held.now.pending tx.now ≡ None → result ≡ Err NoPending }
+    ensures refused { result ≡ Err NoPending → get held.now.pending tx.now ≡ None }
+    ensures keys { IfOk result (λ c. c.keys ≡ keys_of held.now tx.now) }
+    ensures changed { IfOk result (λ c. c.changed ≡ changed_keys held.now tx.now) }
+    ensures laid { IfOk result (λ c. laid held.now c.change ≡ committed held.now tx.now) }
+    ensures rule { IfOk result (λ c. KeepsPrefixRule held.now → FitLive held.now tx.now → KeepsPrefixRule (laid held.now c.change)) }
+    ensures weak { IfOk result (λ c. NamesWeak held.now c.change) }
+    ensures told { IfOk result (λ c. TellsWeak held.now c.change) }
+    ensures strong { IfOk result (λ c. is_unnamed TheWeak c.change ≡ not (list_any (has_key held.now.live.weak) (keys_of held.now tx.now))) }
+    ensures changes { IfOk result (λ c. NamesOnlyChanges held.now c.change) }
+{
+    if !has_tx(held, tx) {
+        return Err(CommitError::NoPending);
+    }
+    Ok(commit_pending(alloc, held, tx)?)
+}

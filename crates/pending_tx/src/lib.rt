@@ -1,0 +1,22 @@
+//! Transactions, as a pure machine. Each call reads what a store holds, and answers the change that
+//! a request makes of it; the crates above write that change down, and then lay it.
+#![tactic(auto)]
+
+mod answers;
+mod committing;
+mod dropping;
+mod ending;
+mod key_lists;
+mod live_changes;
+mod owing;
+mod patching;
+mod reading;
+
+pub use answers::{Commit, CommitError, Dropped};
+pub use committing::commit;
+pub use dropping::drop_tx;
+pub use patching::patch;
+pub use reading::{list, pending};
+
+#[cfg(test)]
+mod tests;

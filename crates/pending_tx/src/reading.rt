@@ -1,0 +1,62 @@
+//! What the transactions have pending.
+ghost use Rattle.std.specs.Prelude.{◌≡◌, IfOk, is_some};
+ghost use Rattle.std.specs.FinMap.{entries, get, keys};
+ghost use Rattle.std.specs.List.Sorted.{IsStrictlySortedBy};
+ghost use Rattle.key_names.specs.Order.{bytes_cmp};
+ghost use Rattle.settings_tree.specs.Pending.{IsPending};
+ghost use Rattle.pending_tx.specs.Transactions.{keys_of, pending_of};
+
+use key_names::Key;
+use settings_tree::{Held, KeyList, Pending, TxName};
+use std::alloc::{AllocError, Global};
+
+/// The names of the transactions, rising. It takes a logarithmic step for each. The only error is
+/// want of memory.
+pub fn list(alloc: Global, held: &Held) -> Result<Vec<TxName>, AllocError>
+    ensures names { IfOk result (λ names. names.items ≡ keys held.now.pending) }
+    ensures rising { IfOk result (λ names. IsStrictlySortedBy bytes_cmp names.items) }
+{
+    let mut names = Vec::new(alloc);
+    let mut after = None;
+    while let Some(tx) = held.pending.next_tx(after) {
+        names.push(tx.copy()?)?;
+        after = Some(tx);
+    }
+    Ok(names)
+}
+
+/// Copies of the values and removals that the transaction has pending, rising by key; none where
+/// there is no such transaction. It takes a logarithmic step for each. The only error is want of
+/// memory.
+pub fn pending(alloc: Global, held: &Held, tx: &TxName) -> Result<Vec<(Key, Pending)>, AllocError>
+    ensures { IfOk result (λ pairs. pairs.items ≡ entries (pending_of held.now tx.now)) }
+{
+    let mut pairs = Vec::new(alloc);
+    let mut after = None;
+    while let Some((key, value)) = held.pending.next_key(tx, after) {
+        pairs.push((key.copy()?, value.copy()?))?;
+        after = Some(key);
+    }
+    Ok(pairs)
+}
+
+/// Whether there is such a transaction. It is logarithmic and takes no memory.
+pub(crate) fn has_tx(held: &Held, tx: &TxName) -> bool
+    ensures { result ≡ is_some (get held.now.pending tx.now) }
+{
+    held.pending.next_key(tx, None).is_some()
+}
+
+/// The keys for which the transaction has something pending, rising.
+pub(crate) fn keys_of(alloc: Global, held: &Held, tx: &TxName) -> Result<KeyList, AllocError>
+    ensures keys { IfOk result (λ keys. keys ≡ keys_of held.now tx.now) }
+    ensures valid { IfOk result (λ keys. IsPending held.now.pending) }
+{
+    let mut keys = Vec::new(alloc);
+    let mut after = None;
+    while let Some((key, _)) = held.pending.next_key(tx, after) {
+        keys.push(key.copy()?)?;
+        after = Some(key);
+    }
+    Ok(KeyList::of(keys))
+}

@@ -1,0 +1,13 @@
+pub mod Glyphs
+pub mod Spread
+pub mod Chains
+pub mod Always
+pub mod Turns
+pub mod Flipped
+pub mod Kept
+pub mod Digits
+pub mod Valid
+pub mod Resolved
+pub mod Made
+pub mod First
+pub mod Rows

@@ -1,0 +1,82 @@
+//! Where the links of the store lead.
+ghost use Rattle.std.specs.Prelude.{◌≡◌, ◌<◌, ◌^◌, Some, IfOk, IsErrOf, IsTrue};
+ghost use Rattle.outside.specs.Names.{Names, is_name};
+ghost use Rattle.outside.specs.History.{tree_of};
+ghost use Rattle.outside.specs.Told.{WhereTold};
+ghost use Rattle.outside.specs.Faults.{HasCauseOf};
+ghost use Rattle.version_links.specs.Names.{store};
+ghost use Rattle.version_links.specs.Chain.{link_at, bad, Resolves};
+ghost use Rattle.version_links.specs.Steps.{extended, IsStuck, outcome_of};
+
+use crate::number::number_behind;
+use crate::store_path::store_path;
+use crate::{LinkError, Version};
+use outside::{Disk, Path};
+use std::alloc::Global;
+
+/// A data directory of the store.
+#[derive(Debug, Drop)]
+pub struct Place {
+    /// The version that its name tells.
+    pub version: Version,
+    /// Its path.
+    pub directory: Path,
+}
+
+// The text of the link with this name, and the number that it has behind the name and the mark.
+fn follow<D: Disk>(
+    alloc: Global,
+    disk: &mut D,
+    name: &[u8],
+    mark: u8,
+) -> Result<(Vec<u8>, u64), LinkError>
+    requires { IsTrue (is_name name.now) }
+    ensures link { IfOk result (λ step. WhereTold (D.told disk.old) (λ h. link_at (tree_of h) name.now ≡ Some step.0.items)) }
+    ensures text { IfOk result (λ step. step.0.items ≡ extended name.now mark step.1) }
+    ensures fits { IfOk result (λ step. step.1 < 2 ^ 64) }
+    ensures bad_link { (path : Names) → IsErrOf result (LinkError.BadLink path) → (path ≡ store name.now) × WhereTold (D.told disk.old) (λ h. IsStuck (tree_of h) name.now mark) }
+    ensures same { D.told disk.new ≡ D.told disk.old }
+    ensures cause { HasCauseOf LinkError.Failed (D.faults disk.old) (D.faults disk.new) result }
+    ensures bad_without_fault { (path : Names) → IsErrOf result (LinkError.BadLink path) → D.faults disk.new ≡ D.faults disk.old }
+{
+    let path = store_path(alloc, name)?;
+    let Some(text) = disk.read_link(alloc, &path)? else {
+        return Err(LinkError::BadLink { path });
+    };
+    match number_behind(&text, name, mark) {
+        Some(n) => Ok((text, n)),
+        None => Err(LinkError::BadLink { path }),
+    }
+}
+
+/// The data directory to which the links lead from `store/current`, with its version. It changes nothing.
+///
+/// None exactly where `store/current` is no link. `BadLink` exactly where a link of the chain is missing or its text
+/// doesn't go on as it should, with the first such path; `Failed` where the disk failed; `Memory` where memory is
+/// wanting.
+pub fn resolve<D: Disk>(alloc: Global, disk: &mut D) -> Result<Option<Place>, LinkError>
+    ensures ok { IfOk result (λ found. WhereTold (D.told disk.old) (λ h. Resolves (tree_of h) (outcome_of found))) }
+    ensures bad_link { (path : Names) → IsErrOf result (LinkError.BadLink path) → WhereTold (D.told disk.old) (λ h. Resolves (tree_of h) (bad path)) }
+    ensures same { D.told disk.new ≡ D.told disk.old }
+    ensures cause { HasCauseOf LinkError.Failed (D.faults disk.old) (D.faults disk.new) result }
+    ensures bad_without_fault { (path : Names) → IsErrOf result (LinkError.BadLink path) → D.faults disk.new ≡ D.faults disk.old }
+{
+    let current = store_path(alloc, b"current")?;
+    let Some(text) = disk.read_link(alloc, &current)? else {
+        return Ok(None);
+    };
+    let Some(major) = number_behind(&text, b"", b'v') else {
+        return Err(LinkError::BadLink { path: current });
+    };
+    let (text, minor) = follow(alloc, disk, &text, b'.')?;
+    let (text, patch) = follow(alloc, disk, &text, b'.')?;
+    let (text, _) = follow(alloc, disk, &text, b'_')?;
+    Ok(Some(Place {
+        version: Version {
+            major,
+            minor,
+            patch,
+        },
+        directory: store_path(alloc, &text)?,
+    }))
+}
