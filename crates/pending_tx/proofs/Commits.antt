@@ -1,24 +1,21 @@
 -- The change that commits a transaction.
 use Rattle.std.proofs.Common.{◌≡◌, ◌≢◌, ◌++◌, ◌⊎◌, inl, inr, ◌&&◌, ◌||◌, ℕ, List, [], ◌∷◌, slice_index_or, Option, Some, None, IsSome, is_some, Bool, true, false, not, cond, map, filter, refl, sym, ◌∙◌, ap, subst}
 use Rattle.std.specs.Prelude.{All, IsTrue, fold}
-use Rattle.std.specs.declared.cmp.Ordering.{Ordering}
-use Rattle.std.specs.declared.cmp.Ordering.TheVariants.{Less, Equal, Greater}
-use Rattle.std.specs.Ordering.{eq_by_cmp, is_eq, is_lt}
+use Rattle.std.specs.Ordering.{eq_by_cmp}
 use Rattle.std.specs.Cmp.{eq_by_cmp_equiv}
 use Rattle.std.specs.List.{list_all}
 use Rattle.std.specs.Option.{option_to_list}
 use Rattle.std.specs.FinMap.{FinMap, get, remove, entries, find, get-insert, get-remove, get-entries, is_sorted, contains_key-keys}
 use Rattle.std.specs.FinMap.Entries.{below_all}
-use Rattle.std.proofs.lemmas.Bool.{both_ways, and_parts, and_from, cond-false}
+use Rattle.std.proofs.lemmas.Bool.{both_ways, and_parts, and_from}
 use Rattle.std.proofs.lemmas.List.Elements.{All-nil, All-cons, All-head, All-tail, All-append}
 use Rattle.std.proofs.lemmas.List.Folds.{list_all-append, list_any_at}
-use Rattle.key_names.specs.Order.{bytes_cmp, key_cmp, key_total, key_cmp-IsAntisymmetric}
+use Rattle.key_names.specs.Order.{bytes_cmp, key_cmp, key_total}
 use Rattle.key_names.specs.Key.{is_prefix}
 use Rattle.json_trees.specs.declared.scalar.Scalar.{Scalar}
 use Rattle.json_trees.specs.declared.pending.Pending.{Pending}
 use Rattle.json_trees.specs.declared.pending.Pending.TheVariants.{Put, Gone}
 use Rattle.settings_maps.specs.Maps.{inner, value_at}
-use Rattle.settings_maps.proofs.NestedMaps.{tied_by}
 use Rattle.settings_tree.specs.Change.{Place, place, is_same, is_unnamed, is_once, has_bare_name}
 use Rattle.settings_tree.specs.Change.{Live, Pend, TheOwed, TheWeak}
 use Rattle.settings_tree.specs.Content.{MayBeWeak, IsContent}
@@ -40,6 +37,7 @@ use Rattle.pending_tx.proofs.Ended.{all_taken, removed_free}
 use Rattle.pending_tx.proofs.Listed.{has_key-without}
 use Rattle.pending_tx.proofs.Named.{are_apart, unnamed-append, once-append, live_once, live_bare, live_other, gone_once, gone_bare, gone_no_live, gone_no_weak, live_apart, gone_apart, live_no_weak}
 use Rattle.pending_tx.proofs.Walked.{entries_rise, keys_rise, sorted_some}
+use Rattle.pending_tx.proofs.Found.{not_found}
 
 abbrev Key : Type 0
 Key = List (List ℕ)
@@ -53,20 +51,6 @@ over (Some Gone) live = None
 one_over : (m : FinMap key_cmp Scalar) (k : Key) (p : Pending) (q : Key) → get (with_pending m k p) q ≡ cond (eq_by_cmp key_cmp q k) (over (Some p) (get m q)) (get m q)
 one_over m k (Put v) q = get-insert key_total m k v q
 one_over m k Gone q = get-remove key_total m k q
-
-not_found : (q : Key) (k : Key) (es : List (Key × Pending)) → eq_by_cmp key_cmp q k ≡ true → below_all key_cmp k es ≡ true → find key_cmp q es ≡ None
-not_found q k [] same below = refl
-not_found q k (e ∷ es) same below =
-    let both = and_parts (is_lt (key_cmp k e.0)) (below_all key_cmp k es) below in
-    cond-false _ _ _ (apart both.0) ∙ not_found q k es same both.1
-  where
-    less : (r : Ordering) → is_lt r ≡ true → is_eq r ≡ false
-    less Less l = refl
-    less Equal l = absurd (cc l)
-    less Greater l = absurd (cc l)
-
-    apart : is_lt (key_cmp k e.0) ≡ true → eq_by_cmp key_cmp q e.0 ≡ false
-    apart l = ap (λ (z : Key). eq_by_cmp key_cmp z e.0) (key_cmp-IsAntisymmetric q k (tied_by (key_cmp q k) same)) ∙ less (key_cmp k e.0) l
 
 -- What stands at a key after rising entries are laid over a map.
 found_over : (m : FinMap key_cmp Scalar) (es : List (Key × Pending)) (q : Key) → is_sorted key_cmp es ≡ true → get (fold (λ n e. with_pending n e.0 e.1) m es) q ≡ over (find key_cmp q es) (get m q)

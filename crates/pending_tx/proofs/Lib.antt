@@ -3,6 +3,7 @@ pub mod Commits
 pub mod Drops
 pub mod Effects
 pub mod Ended
+pub mod Found
 pub mod Listed
 pub mod Merged
 pub mod Named

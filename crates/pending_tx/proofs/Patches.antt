@@ -1,14 +1,12 @@
 -- The change that lays pairs over a transaction.
 use Rattle.std.proofs.Common.{arith, ◌≡◌, ◌<◌, ◌⊎◌, inl, inr, ℕ, suc, List, [], ◌∷◌, length, slice_index_or, Option, Some, None, IsSome, is_some, Bool, true, false, cond, filter, refl, sym, ◌∙◌, ap, subst}
 use Rattle.std.specs.Prelude.{IsTrue, fold}
-use Rattle.std.specs.declared.cmp.Ordering.{Ordering}
-use Rattle.std.specs.declared.cmp.Ordering.TheVariants.{Less, Equal, Greater}
-use Rattle.std.specs.Ordering.{eq_by_cmp, is_eq, is_lt}
+use Rattle.std.specs.Ordering.{eq_by_cmp}
 use Rattle.std.specs.Cmp.{eq_by_cmp_equiv}
 use Rattle.std.specs.List.{list_all}
 use Rattle.std.specs.FinMap.{FinMap, empty, get, insert, entries, find, get-empty, get-insert, get-entries, is_sorted, same_map}
 use Rattle.std.specs.FinMap.Entries.{below_all}
-use Rattle.std.proofs.lemmas.Bool.{and_parts, cond-false}
+use Rattle.std.proofs.lemmas.Bool.{and_parts}
 use Rattle.key_names.specs.Order.{bytes_cmp, bytes_total, bytes_cmp-IsAntisymmetric, key_cmp, key_total, key_cmp-IsAntisymmetric}
 use Rattle.key_names.specs.Key.{is_prefix}
 use Rattle.json_trees.specs.declared.pending.Pending.{Pending}
@@ -31,6 +29,7 @@ use Rattle.settings_maps.specs.Maps.{IsLeastAfter}
 use Rattle.settings_tree.specs.Walks.{entries_past}
 use Rattle.settings_tree.proofs.Walks.{walk_next}
 use Rattle.pending_tx.proofs.Walked.{entries_rise, sorted_some}
+use Rattle.pending_tx.proofs.Found.{not_found}
 
 abbrev Key : Type 0
 Key = List (List ℕ)
@@ -61,20 +60,6 @@ last_over (e ∷ es) m n i q is = last_over es (insert m e.0 e.1) (insert n e.0 
     by : (b : Bool) → cond b (Some e.1) (first_of_both (get n q) (get i q)) ≡ first_of_both (cond b (Some e.1) (get n q)) (get i q)
     by true = refl
     by false = refl
-
-not_found : (q k : Key) (es : Pairs) → eq_by_cmp key_cmp q k ≡ true → below_all key_cmp k es ≡ true → find key_cmp q es ≡ None
-not_found q k [] same below = refl
-not_found q k (e ∷ es) same below =
-    let both = and_parts (is_lt (key_cmp k e.0)) (below_all key_cmp k es) below in
-    cond-false _ _ _ (apart both.0) ∙ not_found q k es same both.1
-  where
-    less : (r : Ordering) → is_lt r ≡ true → is_eq r ≡ false
-    less Less l = refl
-    less Equal l = absurd (cc l)
-    less Greater l = absurd (cc l)
-
-    apart : is_lt (key_cmp k e.0) ≡ true → eq_by_cmp key_cmp q e.0 ≡ false
-    apart l = ap (λ (z : Key). eq_by_cmp key_cmp z e.0) (key_cmp-IsAntisymmetric q k (tied_by (key_cmp q k) same)) ∙ less (key_cmp k e.0) l
 
 -- What stands after rising entries are put over a map.
 found_over : (i : Keyed) (es : Pairs) (q : Key) → is_sorted key_cmp es ≡ true → get (put_all i es) q ≡ first_of_both (find key_cmp q es) (get i q)

@@ -1,8 +1,11 @@
 //! Each call once, and the worked rows.
+ghost use Rattle.std.specs.Prelude.{◌≡◌, [], ◌∷◌, IfOk};
 
 use crate::{CommitError, commit, drop_tx, list, patch, pending};
 use key_names::{Bytes, Key};
-use settings_tree::{Content, Entry, Held, KeyList, Owed, PendMaps, Pending, Scalar, TxName};
+use settings_tree::{
+    Content, Entry, Held, KeyList, Owed, PendMaps, Pending, Scalar, TxName, is_setting,
+};
 use std::alloc::{AllocError, Global};
 use std::test::Fail;
 
@@ -29,6 +32,22 @@ fn set_live(held: &mut Held, key: &Key, n: i64) -> Result<(), AllocError> {
 fn set_pending(held: &mut Held, tx: &TxName, key: &Key, value: Pending) -> Result<(), AllocError> {
     if held.pending.fits(tx, key) {
         held.pending.put(tx.copy()?, key.copy()?, value)?;
+    }
+    Ok(())
+}
+
+fn one_key(alloc: Global, key: &Key) -> Result<Vec<Key>, AllocError>
+    ensures { IfOk result (λ keys. keys.items ≡ key.now ∷ []) }
+{
+    let mut keys = Vec::new(alloc);
+    keys.push(key.copy()?)?;
+    Ok(keys)
+}
+
+fn weaken(alloc: Global, held: &mut Held, key: &Key) -> Result<(), AllocError> {
+    let keys = one_key(alloc, key)?;
+    if is_setting(key) && held.live.value(key).is_some() {
+        held.live.set_weak(KeyList::of(keys));
     }
     Ok(())
 }
@@ -179,6 +198,38 @@ fn removes_nothing(rt: HostRuntime) -> Result<(), Fail> {
     match done.change.as_slice() {
         [end] => assert!(rt; removes(end, &motd)),
         _ => assert!(rt; false, "the transaction ends, and nothing else changes"),
+    }
+    Ok(())
+}
+
+#[test]
+fn commits_one_of_two(rt: HostRuntime) -> Result<(), Fail> {
+    let motd = Key::read(rt.alloc(), b"settings.motd")?;
+    let host = Key::read(rt.alloc(), b"settings.host")?;
+    let first = tx(rt.alloc(), b"t1")?;
+    let second = tx(rt.alloc(), b"t2")?;
+    let mut held = with_pending(rt.alloc(), &first, &motd, Pending::Put(Scalar::Int(1)))?;
+    set_pending(&mut held, &second, &host, Pending::Put(Scalar::Int(2)))?;
+    assert!(rt; is_list(&commit(rt.alloc(), &held, &first)?.changed, &motd));
+    assert!(rt; is_list(&commit(rt.alloc(), &held, &second)?.changed, &host));
+    Ok(())
+}
+
+#[test]
+fn makes_weak_keys_strong(rt: HostRuntime) -> Result<(), Fail> {
+    let motd = Key::read(rt.alloc(), b"settings.motd")?;
+    let first = tx(rt.alloc(), b"t1")?;
+    let value = Pending::Put(Scalar::Int(1));
+    let mut held = with_pending(rt.alloc(), &first, &motd, value)?;
+    set_live(&mut held, &motd, 1)?;
+    weaken(rt.alloc(), &mut held, &motd)?;
+    let done = commit(rt.alloc(), &held, &first)?;
+    assert!(rt; is_list(&done.keys, &motd) && done.changed.as_slice().is_empty());
+    match done.change.as_slice() {
+        [end, Entry::WeakIs { weak }] => {
+            assert!(rt; removes(end, &motd) && weak.as_slice().is_empty())
+        }
+        _ => assert!(rt; false, "the transaction ends, and its key is strong"),
     }
     Ok(())
 }

@@ -8,5 +8,6 @@ pub mod PendingMaps
 pub mod PrefixRule
 pub mod RoomsLaid
 pub mod RoomsUndone
+pub mod SettingKeys
 pub mod Stores
 pub mod Walks

@@ -11,6 +11,7 @@ mod os;
 mod parts;
 mod pend_maps;
 mod rule;
+mod setting;
 
 pub use change::Change;
 pub use content::Content;
@@ -23,6 +24,7 @@ pub use json_trees::{
 pub use os::{Os, OsName};
 pub use pend_maps::PendMaps;
 pub use rule::fits;
+pub use setting::is_setting;
 pub use settings_maps::{KeyList, TxName};
 
 #[cfg(test)]

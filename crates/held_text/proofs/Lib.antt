@@ -1,0 +1,12 @@
+pub mod ContentReadings
+pub mod Fillings
+pub mod HeldBack
+pub mod HeldReadings
+pub mod HeldWalks
+pub mod JsonLists
+pub mod KeysLeft
+pub mod MapsLeft
+pub mod OwedReadings
+pub mod PartReadings
+pub mod Readings
+pub mod RowsBack

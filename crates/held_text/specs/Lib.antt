@@ -1,0 +1,2 @@
+pub mod HeldRules
+pub mod HeldText

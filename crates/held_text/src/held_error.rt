@@ -1,0 +1,66 @@
+//! Why a text is no held text.
+
+use json_trees::TreeError;
+use key_names::{KeyError, KeyFault};
+use std::alloc::{AllocError, AllocFailed};
+
+/// Why a text gives no `Held`.
+#[derive(Clone, Copy, Debug, PartialEq, Eq)]
+pub enum HeldError {
+    /// The text is the print of no `Held`.
+    BadHeld,
+    /// Memory was wanting. It says nothing of the text.
+    Memory,
+}
+
+impl From<AllocError> for HeldError {
+    ghost use Rattle.std.specs.Prelude.{◌≡◌};
+    ghost use Rattle.held_text.specs.declared.held_error.HeldError.TheVariants.{Memory};
+
+    ghost from_gives = { λ _ e. e ≡ Memory };
+
+    fn from(_: AllocError) -> Self {
+        HeldError::Memory
+    }
+}
+
+impl<T: Drop> From<AllocFailed<T>> for HeldError {
+    ghost use Rattle.std.specs.Prelude.{◌≡◌};
+    ghost use Rattle.held_text.specs.declared.held_error.HeldError.TheVariants.{Memory};
+
+    ghost from_gives = { λ _ e. e ≡ Memory };
+
+    fn from(_: AllocFailed<T>) -> Self {
+        HeldError::Memory
+    }
+}
+
+impl From<KeyError> for HeldError {
+    ghost use Rattle.std.specs.Prelude.{◌≡◌};
+    ghost use Rattle.key_names.specs.declared.key_error.KeyFault.TheVariants as key_fault;
+    ghost use Rattle.held_text.specs.declared.held_error.HeldError.TheVariants.{Memory};
+
+    ghost from_gives = { λ fault e. fault.kind ≡ key_fault.Memory → e ≡ Memory };
+
+    fn from(fault: KeyError) -> Self {
+        match fault.kind {
+            KeyFault::Memory => HeldError::Memory,
+            _ => HeldError::BadHeld,
+        }
+    }
+}
+
+impl From<TreeError> for HeldError {
+    ghost use Rattle.std.specs.Prelude.{◌≡◌};
+    ghost use Rattle.json_trees.specs.declared.tree_error.TreeError.TheVariants as tree_error;
+    ghost use Rattle.held_text.specs.declared.held_error.HeldError.TheVariants.{Memory};
+
+    ghost from_gives = { λ fault e. fault ≡ tree_error.Memory → e ≡ Memory };
+
+    fn from(fault: TreeError) -> Self {
+        match fault {
+            TreeError::Memory => HeldError::Memory,
+            _ => HeldError::BadHeld,
+        }
+    }
+}

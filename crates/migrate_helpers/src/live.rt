@@ -1,0 +1,115 @@
+//! The live content as a migration leaves it.
+ghost use Rattle.std.specs.Prelude.{◌≡◌, ◌≢◌, [], ◌∷◌, ◌++◌, OnOk, IfOk, IfErr, Ok, Err};
+ghost use Rattle.std.specs.FinMap.{entries};
+ghost use Rattle.settings_tree.specs.Rule.{IsPrefixFree};
+ghost use Rattle.migrate_helpers.specs.Conflict.{conflict};
+ghost use Rattle.migrate_helpers.specs.Mapped.{live_edited, strong, unless_conflict};
+ghost use Rattle.migrate_helpers.specs.Settings.{settings, content_of, values_of, weak_keys, IsWeakRightly};
+ghost use Rattle.migrate_helpers.specs.Step.{step_of};
+ghost use Rattle.migrate_helpers.specs.declared.map_error.MapError.TheVariants.{Memory};
+
+use crate::edits::{edited, remove_keys};
+use crate::map_error::MapError;
+use crate::migration::Migration;
+use crate::setting::Setting;
+use json_trees::Scalar;
+use key_names::Key;
+use settings_maps::{Copied, KeyList, KeyMap};
+use settings_tree::Content;
+use std::alloc::{AllocError, Global};
+
+// The settings of the content, each with its weakness.
+fn settings_of(content: &Content) -> Result<KeyMap<Setting>, AllocError>
+    ensures settings { IfOk result (λ map. map ≡ settings content.now) }
+    ensures weak { IfOk result (λ map. IsWeakRightly map) }
+{
+    let weak = content.weak();
+    let mut settings = KeyMap::new(weak.allocator());
+    let mut after = None;
+    while let Some((key, value)) = content.next_value(after) {
+        let setting = Setting {
+            value: value.copy()?,
+            weak: weak.contains(key),
+        };
+        settings.put(key.copy()?, setting)?;
+        after = Some(key);
+    }
+    Ok(settings)
+}
+
+fn values_of(alloc: Global, settings: &KeyMap<Setting>) -> Result<KeyMap<Scalar>, AllocError>
+    ensures { IfOk result (λ values. values ≡ values_of settings.now) }
+{
+    let mut values = KeyMap::new(alloc);
+    let mut after = None;
+    while let Some((key, setting)) = settings.next_after(after) {
+        values.put(key.copy()?, setting.value.copy()?)?;
+        after = Some(key);
+    }
+    Ok(values)
+}
+
+fn push_if_weak(keys: &mut Vec<Key>, key: &Key, setting: &Setting) -> Result<(), AllocError>
+    ensures { OnOk result (keys.new.items ≡ keys.old.items ++ weak_keys ((key.now, setting.now) ∷ [])) }
+{
+    if setting.weak {
+        keys.push(key.copy()?)?;
+    }
+    Ok(())
+}
+
+fn weak_keys(alloc: Global, settings: &KeyMap<Setting>) -> Result<KeyList, AllocError>
+    ensures { IfOk result (λ keys. keys ≡ weak_keys (entries settings.now)) }
+{
+    let mut keys = Vec::new(alloc);
+    let mut after = None;
+    while let Some((key, setting)) = settings.next_after(after) {
+        push_if_weak(&mut keys, key, setting)?;
+        after = Some(key);
+    }
+    Ok(KeyList::of(keys))
+}
+
+// The content with these settings in place of its own.
+fn with_settings(content: &Content, settings: &KeyMap<Setting>) -> Result<Content, AllocError>
+    requires rule { IsPrefixFree settings.now }
+    requires weak { IsWeakRightly settings.now }
+    ensures { IfOk result (λ made. made ≡ content_of settings.now content.now.metadata) }
+{
+    let alloc = content.weak().allocator();
+    let values = values_of(alloc, settings)?;
+    let metadata = content.metadata().copied()?;
+    let weak = weak_keys(alloc, settings)?;
+    Ok(Content::of(values, metadata, weak))
+}
+
+/// The live content as the migration of settings leaves it. It takes a logarithmic step or two for
+/// each value and each key that the migration names.
+///
+/// `Conflict` with the least key that is then a proper prefix of another, exactly where there is one;
+/// `Memory` where memory is wanting.
+pub(crate) fn edited_live(
+    migration: &Migration,
+    back: bool,
+    content: &Content,
+) -> Result<Content, MapError>
+    ensures ok { IfOk result (λ made. let whole = live_edited (step_of back migration.now) content.now
+        in unless_conflict (conflict whole) (content_of whole content.now.metadata) ≡ Ok made) }
+    ensures err { IfErr result (λ e. e ≢ Memory → (let whole = live_edited (step_of back migration.now) content.now
+        in unless_conflict (conflict whole) (content_of whole content.now.metadata) ≡ Err e)) }
+{
+    let settings = edited(migration, back, settings_of(content)?)?;
+    Ok(with_settings(content, &settings)?)
+}
+
+/// The content without its weak settings. It takes a logarithmic step for each value. The only error
+/// is want of memory.
+pub(crate) fn without_weak(content: &Content) -> Result<Content, AllocError>
+    ensures { IfOk result (λ made. made ≡ strong content.now) }
+{
+    let weak = content.weak();
+    let mut values = content.values().copied()?;
+    remove_keys(&mut values, weak.as_slice());
+    let metadata = content.metadata().copied()?;
+    Ok(Content::of(values, metadata, KeyList::new(weak.allocator())))
+}
