@@ -1,0 +1,14 @@
+use Rattle.std.proofs.Common.{length, map}
+use Rattle.template_eval.specs.Rendered.{led}
+use Rattle.template_eval.specs.Render.{child_pair}
+use Rattle.template_eval.specs.Steps.{Going}
+use Rattle.template_eval.specs.Views.{places_of}
+use Rattle.template_eval.proofs.joins.push_led.Given as goal
+
+abbrev pub invariant-loop-split : goal.invariant-loop-split
+invariant-loop-split l =
+    let pair = child_pair l.inputs.content.now l.inputs.os.now l.joiner l.path in
+    Going (led l.separator (map pair (places_of l.places))) (led l.separator (map pair (places_of l.rest))) l.initial.out.items l.out.items
+
+abbrev pub decreases-loop-split : goal.decreases-loop-split
+decreases-loop-split l = length (places_of l.rest)

@@ -1,0 +1,9 @@
+pub mod Place
+pub mod Children
+pub mod Node
+pub mod Written
+pub mod Rendered
+pub mod Render
+pub mod Views
+pub mod Steps
+pub mod Lies

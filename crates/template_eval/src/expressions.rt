@@ -1,0 +1,263 @@
+//! What expressions print.
+ghost use Rattle.std.specs.Prelude.{◌≡◌, ◌≢◌, IfErr, OnOk, Err};
+ghost use Rattle.base64.specs.Engines.{standard};
+ghost use Rattle.base64.specs.GeneralPurpose.{decode_of};
+ghost use Rattle.template_eval.specs.Written.{path_text, literal_text};
+ghost use Rattle.template_eval.specs.Render.{node_text, default_text, decoded, decode_text, join_array_text, join_map_text, path_of};
+ghost use Rattle.template_eval.specs.Steps.{Adds};
+ghost use Rattle.template_eval.specs.Views.{atom_node, node_of, seen, pair_of, printing, expression};
+
+use crate::RenderError;
+use crate::inputs::Inputs;
+use crate::joins::{push_children, push_items};
+use crate::node::{Atom, Node};
+use crate::nodes::node;
+use crate::place::{Here, place_at};
+use crate::refusals::{bad_base64, missing, not_list, not_scalar};
+use crate::scalars::{push_atom, push_literal};
+use base64::DecodeAllocError;
+use base64::engine::general_purpose::STANDARD;
+use key_names::Text;
+use std::alloc::Global;
+use template_reader::{Expr, Literal, Walk};
+
+// Adds the text of a node, which has to be a scalar.
+fn push_node(
+    alloc: Global,
+    node: Node<'_>,
+    path: &Walk,
+    out: &mut Vec<u8>,
+) -> Result<(), RenderError>
+    ensures ok { OnOk result
+        (Adds (node_text (path_text path.now) (node_of node.entry)) out.old.items out.new.items) }
+    ensures err { IfErr result (λ e. e ≢ RenderError.Memory
+        → node_text (path_text path.now) (node_of node.entry) ≡ Err e) }
+{
+    match node {
+        Node::Missing => Err(missing(alloc, path)),
+        Node::Atom(atom) => {
+            push_atom(out, atom)?;
+            Ok(())
+        }
+        Node::Items(_) => Err(not_scalar(alloc, path)),
+        Node::Children(_) => Err(not_scalar(alloc, path)),
+    }
+}
+
+// Adds the text of a node, or of the literal where nothing stands.
+fn push_default(
+    alloc: Global,
+    node: Node<'_>,
+    literal: &Literal,
+    path: &Walk,
+    out: &mut Vec<u8>,
+) -> Result<(), RenderError>
+    ensures ok { OnOk result
+        (Adds (default_text (literal_text literal.now) (path_text path.now) (node_of node.entry))
+        out.old.items out.new.items) }
+    ensures err { IfErr result (λ e. e ≢ RenderError.Memory
+        → default_text (literal_text literal.now) (path_text path.now) (node_of node.entry)
+        ≡ Err e) }
+{
+    match node {
+        Node::Missing => {
+            push_literal(out, literal)?;
+            Ok(())
+        }
+        _ => push_node(alloc, node, path, out),
+    }
+}
+
+// Adds the bytes of which the text is the base64.
+fn push_decoded(
+    alloc: Global,
+    text: &[u8],
+    path: &Walk,
+    out: &mut Vec<u8>,
+) -> Result<(), RenderError>
+    ensures ok { OnOk result
+        (Adds (decoded (path_text path.now) (decode_of standard text.now))
+        out.old.items out.new.items) }
+    ensures err { IfErr result (λ e. e ≢ RenderError.Memory
+        → decoded (path_text path.now) (decode_of standard text.now) ≡ Err e) }
+{
+    match STANDARD.decode_vec(text, out) {
+        Ok(()) => Ok(()),
+        Err(DecodeAllocError::OutOfMemory) => Err(RenderError::Memory),
+        Err(DecodeAllocError::DecodeError(_)) => Err(bad_base64(alloc, path)),
+    }
+}
+
+fn push_decoded_atom(
+    alloc: Global,
+    atom: Atom<'_>,
+    path: &Walk,
+    out: &mut Vec<u8>,
+) -> Result<(), RenderError>
+    ensures ok { OnOk result
+        (Adds (decode_text (path_text path.now) (atom_node atom.entry))
+        out.old.items out.new.items) }
+    ensures err { IfErr result (λ e. e ≢ RenderError.Memory
+        → decode_text (path_text path.now) (atom_node atom.entry) ≡ Err e) }
+{
+    match atom {
+        Atom::Text(text) => push_decoded(alloc, text.as_str().as_bytes(), path, out),
+        Atom::Name(name) => push_decoded(alloc, name, path, out),
+        Atom::Bool(_) => Err(bad_base64(alloc, path)),
+        Atom::Int(_) => Err(bad_base64(alloc, path)),
+        Atom::Index(_) => Err(bad_base64(alloc, path)),
+    }
+}
+
+// Adds the bytes of which the text of a node is the base64.
+fn push_decoded_node(
+    alloc: Global,
+    node: Node<'_>,
+    path: &Walk,
+    out: &mut Vec<u8>,
+) -> Result<(), RenderError>
+    ensures ok { OnOk result
+        (Adds (decode_text (path_text path.now) (node_of node.entry)) out.old.items out.new.items) }
+    ensures err { IfErr result (λ e. e ≢ RenderError.Memory
+        → decode_text (path_text path.now) (node_of node.entry) ≡ Err e) }
+{
+    match node {
+        Node::Missing => Err(missing(alloc, path)),
+        Node::Atom(atom) => push_decoded_atom(alloc, atom, path, out),
+        Node::Items(_) => Err(not_scalar(alloc, path)),
+        Node::Children(_) => Err(not_scalar(alloc, path)),
+    }
+}
+
+// Adds the texts of the items of a list, joined.
+fn push_array(
+    alloc: Global,
+    node: Node<'_>,
+    joiner: &Text,
+    path: &Walk,
+    out: &mut Vec<u8>,
+) -> Result<(), RenderError>
+    ensures ok { OnOk result
+        (Adds (join_array_text joiner.now (path_text path.now) (node_of node.entry))
+        out.old.items out.new.items) }
+    ensures err { IfErr result (λ e. e ≢ RenderError.Memory
+        → join_array_text joiner.now (path_text path.now) (node_of node.entry) ≡ Err e) }
+{
+    match node {
+        Node::Missing => Err(missing(alloc, path)),
+        Node::Items(items) => {
+            push_items(items, joiner.as_str().as_bytes(), out)?;
+            Ok(())
+        }
+        Node::Atom(_) => Err(not_list(alloc, path)),
+        Node::Children(_) => Err(not_list(alloc, path)),
+    }
+}
+
+// What `join_map` has beside its path.
+#[derive(Clone, Copy, Drop)]
+struct MapForm<'a> {
+    joiner: &'a Text,
+    separator: &'a Text,
+    fail: bool,
+}
+
+// Adds the children of a map, joined.
+fn push_map(
+    inputs: &Inputs<'_>,
+    node: Node<'_>,
+    form: MapForm<'_>,
+    path: &Walk,
+    out: &mut Vec<u8>,
+) -> Result<(), RenderError>
+    ensures ok { OnOk result
+        (Adds (join_map_text (pair_of inputs.now form.entry.joiner.now path.now)
+        form.entry.separator.now
+        form.entry.fail (path_text path.now) (node_of node.entry)) out.old.items out.new.items) }
+    ensures err { IfErr result (λ e. e ≢ RenderError.Memory
+        → join_map_text (pair_of inputs.now form.entry.joiner.now path.now)
+        form.entry.separator.now
+        form.entry.fail (path_text path.now) (node_of node.entry) ≡ Err e) }
+{
+    match node {
+        Node::Missing => {
+            if form.fail {
+                Err(missing(inputs.alloc, path))
+            } else {
+                Ok(())
+            }
+        }
+        Node::Children(places) => push_children(
+            inputs,
+            places,
+            form.joiner.as_str().as_bytes(),
+            form.separator.as_str().as_bytes(),
+            path,
+            out,
+        ),
+        Node::Atom(_) => Err(not_list(inputs.alloc, path)),
+        Node::Items(_) => Err(not_list(inputs.alloc, path)),
+    }
+}
+
+fn path_of(expr: &Expr) -> &Walk
+    ensures { result.now ≡ path_of expr.now }
+{
+    match expr {
+        Expr::Plain { path } => path,
+        Expr::Default { path, .. } => path,
+        Expr::Decode { path } => path,
+        Expr::JoinArray { path, .. } => path,
+        Expr::JoinMap { path, .. } => path,
+    }
+}
+
+// Adds what the expression prints of what stands where its path leads.
+fn push_print(
+    inputs: &Inputs<'_>,
+    expr: &Expr,
+    node: Node<'_>,
+    out: &mut Vec<u8>,
+) -> Result<(), RenderError>
+    ensures ok { OnOk result
+        (Adds (printing inputs.now expr.now (node_of node.entry)) out.old.items out.new.items) }
+    ensures err { IfErr result (λ e. e ≢ RenderError.Memory
+        → printing inputs.now expr.now (node_of node.entry) ≡ Err e) }
+{
+    let alloc = inputs.alloc;
+    match expr {
+        Expr::Plain { path } => push_node(alloc, node, path, out),
+        Expr::Default { literal, path } => push_default(alloc, node, literal, path, out),
+        Expr::Decode { path } => push_decoded_node(alloc, node, path, out),
+        Expr::JoinArray { joiner, path } => push_array(alloc, node, joiner, path, out),
+        Expr::JoinMap {
+            joiner,
+            separator,
+            fail,
+            path,
+        } => {
+            let form = MapForm {
+                joiner,
+                separator,
+                fail: *fail,
+            };
+            push_map(inputs, node, form, path, out)
+        }
+    }
+}
+
+/// Adds what the expression prints, behind the item or the child of the innermost each.
+pub fn push_expr(
+    inputs: &Inputs<'_>,
+    expr: &Expr,
+    here: Option<&Here<'_>>,
+    out: &mut Vec<u8>,
+) -> Result<(), RenderError>
+    ensures ok { OnOk result
+        (Adds (expression inputs.now (seen here.entry) expr.now) out.old.items out.new.items) }
+    ensures err { IfErr result (λ e. e ≢ RenderError.Memory
+        → expression inputs.now (seen here.entry) expr.now ≡ Err e) }
+{
+    let place = place_at(here, path_of(expr))?;
+    push_print(inputs, expr, node(inputs.content, inputs.os, &place), out)
+}

@@ -1,0 +1,138 @@
+//! Items and children, joined.
+ghost use Rattle.std.specs.Prelude.{◌≡◌, ◌≢◌, ◌++◌, map, IfErr, OnOk, Err};
+ghost use Rattle.std.specs.List.{join_by};
+ghost use Rattle.template_eval.specs.Place.{last_name};
+ghost use Rattle.template_eval.specs.Written.{item_text};
+ghost use Rattle.template_eval.specs.Rendered.{led, joined};
+ghost use Rattle.template_eval.specs.Render.{name_of};
+ghost use Rattle.template_eval.specs.Steps.{Adds};
+ghost use Rattle.template_eval.specs.Views.{place_of, places_of, pair_of};
+
+use crate::RenderError;
+use crate::inputs::Inputs;
+use crate::keys::last_name;
+use crate::node::Node;
+use crate::nodes::node;
+use crate::place::Place;
+use crate::places::Places;
+use crate::refusals::{child_missing, child_not_scalar};
+use crate::scalars::{push_atom, push_item};
+use key_names::Key;
+use settings_tree::Item;
+use std::alloc::AllocError;
+use template_reader::Walk;
+
+/// Adds the texts of the items, joined. The only error is want of memory.
+pub fn push_items(items: &[Item], joiner: &[u8], out: &mut Vec<u8>) -> Result<(), AllocError>
+    ensures { OnOk result
+        (out.new.items ≡ out.old.items ++ join_by item_text joiner.now items.now) }
+{
+    let Some((first, rest)) = items.split_first() else {
+        return Ok(());
+    };
+    push_item(out, first)?;
+    for item in rest {
+        out.extend_from_slice(joiner)?;
+        push_item(out, item)?;
+    }
+    Ok(())
+}
+
+fn last_text(key: &Key) -> &str
+    ensures { result.now ≡ last_name key.now }
+{
+    let name = std::str::from_utf8(last_name(key));
+    name.unwrap()
+}
+
+// The name of a child.
+fn name_of<'a>(place: &'a Place<'a>) -> &'a str
+    ensures { result.now ≡ name_of (place_of place.now) }
+{
+    match place {
+        Place::At(key) => last_text(key),
+        Place::Made(key) => last_text(key),
+        Place::System(name) => name.name.as_str(),
+        _ => "",
+    }
+}
+
+// Adds a child: its name, the joiner and its text.
+fn push_child(
+    inputs: &Inputs<'_>,
+    place: &Place<'_>,
+    joiner: &[u8],
+    path: &Walk,
+    out: &mut Vec<u8>,
+) -> Result<(), RenderError>
+    ensures ok { OnOk result
+        (Adds (pair_of inputs.now joiner.now path.now (place_of place.now))
+        out.old.items out.new.items) }
+    ensures err { IfErr result (λ e. e ≢ RenderError.Memory
+        → pair_of inputs.now joiner.now path.now (place_of place.now) ≡ Err e) }
+{
+    let name = name_of(place);
+    out.extend_from_slice(name.as_bytes())?;
+    out.extend_from_slice(joiner)?;
+    match node(inputs.content, inputs.os, place) {
+        Node::Atom(atom) => {
+            push_atom(out, atom)?;
+            Ok(())
+        }
+        Node::Missing => Err(child_missing(inputs.alloc, path, name)),
+        Node::Items(_) => Err(child_not_scalar(inputs.alloc, path, name)),
+        Node::Children(_) => Err(child_not_scalar(inputs.alloc, path, name)),
+    }
+}
+
+// Adds the children, each behind the separator.
+fn push_led(
+    inputs: &Inputs<'_>,
+    places: Places<'_>,
+    joiner: &[u8],
+    separator: &[u8],
+    path: &Walk,
+    out: &mut Vec<u8>,
+) -> Result<(), RenderError>
+    ensures ok { OnOk result
+        (Adds (led separator.now
+        (map (pair_of inputs.now joiner.now path.now) (places_of places.entry)))
+        out.old.items out.new.items) }
+    ensures err { IfErr result (λ e. e ≢ RenderError.Memory
+        → led separator.now
+        (map (pair_of inputs.now joiner.now path.now) (places_of places.entry)) ≡ Err e) }
+{
+    let mut rest = places;
+    while let Some(split) = rest.split_first()? {
+        out.extend_from_slice(separator)?;
+        push_child(inputs, &split.first, joiner, path, out)?;
+        rest = split.rest;
+    }
+    Ok(())
+}
+
+/// Adds the children, joined by the separator: each its name and its text, joined by the joiner.
+pub fn push_children(
+    inputs: &Inputs<'_>,
+    places: Places<'_>,
+    joiner: &[u8],
+    separator: &[u8],
+    path: &Walk,
+    out: &mut Vec<u8>,
+) -> Result<(), RenderError>
+    ensures ok { OnOk result
+        (Adds (joined separator.now
+        (map (pair_of inputs.now joiner.now path.now) (places_of places.entry)))
+        out.old.items out.new.items) }
+    ensures err { IfErr result (λ e. e ≢ RenderError.Memory
+        → joined separator.now
+        (map (pair_of inputs.now joiner.now path.now) (places_of places.entry)) ≡ Err e) }
+{
+    match places.split_first()? {
+        Some(split) => {
+            push_child(inputs, &split.first, joiner, path, out)?;
+            push_led(inputs, split.rest, joiner, separator, path, out)
+        }
+        None => Ok(()),
+    }
+}

@@ -1,0 +1,213 @@
+//! Templates rendered, node by node.
+ghost use Rattle.std.specs.Prelude.{◌≡◌, ◌≢◌, length, IfErr, IfOk, OnOk, Ok, Err, None};
+ghost use Rattle.template_reader.specs.Forest.{tree_of, tree_in, branch_of};
+ghost use Rattle.template_reader.specs.Spans.{RiseWithin, spans_of};
+ghost use Rattle.template_eval.specs.Render.{render, is_first};
+ghost use Rattle.template_eval.specs.Node.{is_true};
+ghost use Rattle.template_eval.specs.Lies.{Lies, LiesOne};
+ghost use Rattle.template_eval.specs.Steps.{Adds};
+ghost use Rattle.template_eval.specs.Views.{places_of, seen, found, rendering, rendering_one, each_rendering, places_rendering, firsts_rendering};
+
+use crate::RenderError;
+use crate::expressions::push_expr;
+use crate::inputs::Inputs;
+use crate::node::Node as Found;
+use crate::nodes::node;
+use crate::place::{Here, place_at};
+use crate::places::Places;
+use crate::refusals::{missing, not_list};
+use crate::scalars::is_true;
+use settings_tree::{Content, Os};
+use std::alloc::{AllocError, Global};
+use template_reader::{Node, Nodes, Template, Walk, piece};
+
+// Whether the first part of an if, or of an unless, is rendered.
+fn is_first(
+    inputs: &Inputs<'_>,
+    unless: bool,
+    path: &Walk,
+    here: Option<&Here<'_>>,
+) -> Result<bool, AllocError>
+    ensures { IfOk result
+        (λ b. b ≡ is_first unless (is_true (found inputs.now (seen here.entry) path.now))) }
+{
+    let place = place_at(here, path)?;
+    let truth = is_true(node(inputs.content, inputs.os, &place));
+    Ok(if unless { !truth } else { truth })
+}
+
+// The nodes, one after another.
+#[cycle(render)]
+fn push_nodes(
+    inputs: &Inputs<'_>,
+    nodes: &[Node],
+    here: Option<&Here<'_>>,
+    out: &mut Vec<u8>,
+) -> Result<(), RenderError>
+    requires { Lies (length inputs.now.source.now) (tree_of nodes.now) }
+    ensures ok { OnOk result
+        (Adds (rendering inputs.now (tree_of nodes.now) (seen here.entry))
+        out.old.items out.new.items) }
+    ensures err { IfErr result (λ e. e ≢ RenderError.Memory
+        → rendering inputs.now (tree_of nodes.now) (seen here.entry) ≡ Err e) }
+{
+    for node in nodes {
+        push_node(inputs, node, here, out)?;
+    }
+    Ok(())
+}
+
+#[cycle(render)]
+fn push_node(
+    inputs: &Inputs<'_>,
+    node: &Node,
+    here: Option<&Here<'_>>,
+    out: &mut Vec<u8>,
+) -> Result<(), RenderError>
+    requires { LiesOne (length inputs.now.source.now) (branch_of node.now) }
+    ensures ok { OnOk result
+        (Adds (rendering_one inputs.now (branch_of node.now) (seen here.entry))
+        out.old.items out.new.items) }
+    ensures err { IfErr result (λ e. e ≢ RenderError.Memory
+        → rendering_one inputs.now (branch_of node.now) (seen here.entry) ≡ Err e) }
+{
+    match node {
+        Node::Text { span } => {
+            out.extend_from_slice(piece(inputs.source, *span))?;
+            Ok(())
+        }
+        Node::Print { expr } => push_expr(inputs, expr, here, out),
+        Node::Test {
+            unless,
+            path,
+            first,
+            other,
+        } => {
+            if is_first(inputs, *unless, path, here)? {
+                push_nodes(inputs, first.as_slice(), here, out)
+            } else {
+                push_nodes(inputs, other.as_slice(), here, out)
+            }
+        }
+        Node::Each { path, first, other } => push_each(inputs, path, first, other, here, out),
+    }
+}
+
+// An each: its first part for each item or child, or its other part where there is none.
+#[cycle(render)]
+fn push_each(
+    inputs: &Inputs<'_>,
+    path: &Walk,
+    first: &Nodes,
+    other: &Nodes,
+    here: Option<&Here<'_>>,
+    out: &mut Vec<u8>,
+) -> Result<(), RenderError>
+    requires first { Lies (length inputs.now.source.now) (tree_in first.now) }
+    requires other { Lies (length inputs.now.source.now) (tree_in other.now) }
+    ensures ok { OnOk result
+        (Adds (each_rendering inputs.now path.now (tree_in first.now) (tree_in other.now)
+        (seen here.entry)) out.old.items out.new.items) }
+    ensures err { IfErr result (λ e. e ≢ RenderError.Memory
+        → each_rendering inputs.now path.now (tree_in first.now) (tree_in other.now)
+        (seen here.entry) ≡ Err e) }
+{
+    let place = place_at(here, path)?;
+    match node(inputs.content, inputs.os, &place) {
+        Found::Missing => Err(missing(inputs.alloc, path)),
+        Found::Atom(_) => Err(not_list(inputs.alloc, path)),
+        Found::Items(items) => push_places(inputs, Places::Items(items), first, other, here, out),
+        Found::Children(places) => push_places(inputs, places, first, other, here, out),
+    }
+}
+
+#[cycle(render)]
+fn push_places(
+    inputs: &Inputs<'_>,
+    places: Places<'_>,
+    first: &Nodes,
+    other: &Nodes,
+    here: Option<&Here<'_>>,
+    out: &mut Vec<u8>,
+) -> Result<(), RenderError>
+    requires first { Lies (length inputs.now.source.now) (tree_in first.now) }
+    requires other { Lies (length inputs.now.source.now) (tree_in other.now) }
+    ensures ok { OnOk result
+        (Adds (places_rendering inputs.now (places_of places.entry) (tree_in first.now)
+        (tree_in other.now) (seen here.entry)) out.old.items out.new.items) }
+    ensures err { IfErr result (λ e. e ≢ RenderError.Memory
+        → places_rendering inputs.now (places_of places.entry) (tree_in first.now)
+        (tree_in other.now) (seen here.entry) ≡ Err e) }
+{
+    if places.is_empty() {
+        push_nodes(inputs, other.as_slice(), here, out)
+    } else {
+        push_firsts(inputs, places, first, out)
+    }
+}
+
+// The first part of an each, for each of these places.
+#[cycle(render)]
+fn push_firsts(
+    inputs: &Inputs<'_>,
+    places: Places<'_>,
+    first: &Nodes,
+    out: &mut Vec<u8>,
+) -> Result<(), RenderError>
+    requires { Lies (length inputs.now.source.now) (tree_in first.now) }
+    ensures ok { OnOk result
+        (Adds (firsts_rendering inputs.now (places_of places.entry) (tree_in first.now))
+        out.old.items out.new.items) }
+    ensures err { IfErr result (λ e. e ≢ RenderError.Memory
+        → firsts_rendering inputs.now (places_of places.entry) (tree_in first.now) ≡ Err e) }
+{
+    let mut rest = places;
+    let mut index: usize = 0;
+    while let Some(split) = rest.split_first()? {
+        let here = Here {
+            this: split.first,
+            index,
+        };
+        push_nodes(inputs, first.as_slice(), Some(&here), out)?;
+        rest = split.rest;
+        // More places than an index counts don't fit in memory.
+        index = index.checked_add(1).ok_or(AllocError)?;
+    }
+    Ok(())
+}
+
+/// The bytes that the template renders to, or the first refusal in order of evaluation. The
+/// template was read from the source, so that the spans of its texts lie in it.
+///
+/// Paths lead through the tree of the live values whose key doesn't begin with `os`, together with
+/// `os`, a map of the names of the operating system to their texts; `this` leads on from the item
+/// or the child of the innermost `each`. Weak keys count as all others. False are `false`, 0, the
+/// empty text, list and map, what is missing, and a child's name `0`.
+///
+/// It takes time linear in the output and in the values below the paths of the `each`s and
+/// `join_map`s, up to a logarithm. It builds no tree, and recurses as deep as the blocks are
+/// nested.
+pub fn render(
+    alloc: Global,
+    template: &Template,
+    source: &[u8],
+    content: &Content,
+    os: &Os,
+) -> Result<Vec<u8>, RenderError>
+    requires { RiseWithin 0 (spans_of (tree_in template.now.nodes)) (length source.now) }
+    ensures ok { IfOk result
+        (λ out. render content.now os.now source.now (tree_in template.now.nodes) None
+        ≡ Ok out.items) }
+    ensures err { IfErr result (λ e. e ≢ RenderError.Memory
+        → render content.now os.now source.now (tree_in template.now.nodes) None ≡ Err e) }
+{
+    let inputs = Inputs {
+        alloc,
+        source,
+        content,
+        os,
+    };
+    let mut out = Vec::new(alloc);
+    push_nodes(&inputs, template.nodes.as_slice(), None, &mut out)?;
+    Ok(out)
+}

@@ -1,0 +1,63 @@
+//! Paths as they are written.
+ghost use Rattle.std.specs.Prelude.{◌≡◌, ◌++◌, IfOk, codes};
+ghost use Rattle.std.specs.List.{list_all};
+ghost use Rattle.key_names.specs.Segment.{is_bare};
+ghost use Rattle.template_eval.specs.Written.{path_text, child_text};
+
+use key_names::Text;
+use std::alloc::{AllocError, Global};
+use template_reader::Walk;
+
+/// The path as it is written, its key printed. The only error is want of memory.
+pub fn path_text(alloc: Global, path: &Walk) -> Result<Text, AllocError>
+    ensures { IfOk result (λ text. text ≡ path_text path.now) }
+{
+    match path {
+        Walk::Root(key) => key.print(),
+        Walk::This(None) => text_of(alloc, "this"),
+        Walk::This(Some(key)) => below_this(alloc, key.print()?.as_str()),
+        Walk::AtKey => text_of(alloc, "@key"),
+        Walk::AtIndex => text_of(alloc, "@index"),
+    }
+}
+
+fn text_of(alloc: Global, text: &str) -> Result<Text, AllocError>
+    ensures { IfOk result (λ copy. copy ≡ text.now) }
+{
+    let text = text.to_string(alloc)?;
+    Ok(Text::of(text))
+}
+
+fn below_this(alloc: Global, key: &str) -> Result<Text, AllocError>
+    ensures { IfOk result (λ text. text ≡ codes "this." ++ key.now) }
+{
+    let text = format!(in alloc; "this.{key}")?;
+    Ok(Text::of(text))
+}
+
+// A to Z, a to z, 0 to 9, _ and -.
+fn is_bare(byte: u8) -> bool
+    ensures { result ≡ is_bare byte }
+{
+    byte.is_ascii_alphanumeric() || byte == b'_' || byte == b'-'
+}
+
+fn are_bare(bytes: &[u8]) -> bool
+    ensures { result ≡ list_all is_bare bytes.now }
+{
+    bytes.iter().all(|b| is_bare(*b))
+}
+
+/// The path of a child, as it would be written. The only error is want of memory.
+pub fn child_text(alloc: Global, path: &Walk, name: &str) -> Result<Text, AllocError>
+    ensures { IfOk result (λ text. text ≡ child_text path.now name.now) }
+{
+    let parent = path_text(alloc, path)?;
+    let parent = parent.as_str();
+    let text = if are_bare(name.as_bytes()) {
+        format!(in alloc; "{parent}.{name}")?
+    } else {
+        format!(in alloc; "{parent}.\"{name}\"")?
+    };
+    Ok(Text::of(text))
+}

@@ -1,0 +1,15 @@
+use Rattle.std.proofs.Common.{List, [], sym, subst, map}
+use Rattle.std.specs.List.Sorted.{IsStrictlySortedBy}
+use Rattle.key_names.specs.Order.{bytes_cmp}
+use Rattle.settings_tree.specs.declared.os.OsName.{OsName}
+use Rattle.template_examples.proofs.tests.no_names.Goals as goal
+
+-- No names rise.
+none : IsStrictlySortedBy bytes_cmp (map (λ (m : OsName). m.name) [])
+unfolding IsStrictlySortedBy
+none = tt
+
+pub invariant_of-result : goal.invariant_of-result
+invariant_of-result c =
+    let P : List OsName → Type 0 = λ l. IsStrictlySortedBy bytes_cmp (map (λ (m : OsName). m.name) l) in
+    record { rising = subst P (sym c.new.ensures.items) none }

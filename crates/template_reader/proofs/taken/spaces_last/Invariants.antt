@@ -1,0 +1,10 @@
+use Rattle.std.proofs.Common.{length, ◌≡◌, ◌≤◌, ◌+◌, take}
+use Rattle.std.specs.List.{suffix_len}
+use Rattle.template_reader.specs.Bytes.{is_space}
+use Rattle.template_reader.proofs.taken.spaces_last.Given as goal
+
+abbrev pub invariant-loop-n : goal.invariant-loop-n
+invariant-loop-n l = (l.n ≤ length l.bytes) × (l.n + suffix_len is_space l.bytes ≡ length l.bytes + suffix_len is_space (take l.n l.bytes))
+
+abbrev pub decreases-loop-n : goal.decreases-loop-n
+decreases-loop-n l = l.n

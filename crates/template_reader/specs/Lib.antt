@@ -1,0 +1,15 @@
+pub mod Bytes
+pub mod Cut
+pub mod Words
+pub mod Says
+pub mod Tree
+pub mod Forest
+pub mod Spot
+pub mod Taken
+pub mod Fault
+pub mod Nest
+pub mod Front
+pub mod Parses
+pub mod Spans
+pub mod Reading
+pub mod Kept

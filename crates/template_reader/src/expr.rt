@@ -1,0 +1,45 @@
+//! What a tag prints.
+use crate::Walk;
+use key_names::Text;
+
+/// A value that is written in a tag.
+#[derive(Debug, Drop)]
+pub enum Literal {
+    /// `true` or `false`.
+    Bool(bool),
+    /// An integer in decimal.
+    Int(i64),
+    /// A text, without its quotes.
+    Text(Text),
+}
+
+/// An expression: what a tag prints of a path.
+#[derive(Debug, Drop)]
+pub enum Expr {
+    /// The text of the scalar.
+    Plain {
+        path: Walk,
+    },
+    /// The same, and the literal's text where nothing stands at the path.
+    Default {
+        literal: Literal,
+        path: Walk,
+    },
+    /// The bytes of which the text is the base64.
+    Decode {
+        path: Walk,
+    },
+    /// The items of a list, joined.
+    JoinArray {
+        joiner: Text,
+        path: Walk,
+    },
+    /// The children of a map, each as its name and its text joined by `joiner`, and these joined by
+    /// `separator`. With `fail`, something must stand at the path.
+    JoinMap {
+        joiner: Text,
+        separator: Text,
+        fail: bool,
+        path: Walk,
+    },
+}
