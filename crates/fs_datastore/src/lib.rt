@@ -1,0 +1,10 @@
+//! The state of a store as files below a data directory, one for each value, read from a disk. A change of it is a
+//! batch of these files, which `commit_journal` carries out.
+#![tactic(auto)]
+
+mod load_error;
+mod loading;
+
+pub use load_error::LoadError;
+pub use loading::{Loaded, load};
+pub use store_files::batch_of;

@@ -1,0 +1,19 @@
+use Rattle.store_files.proofs.Meaning.{one_meaning}
+use Rattle.store_files.proofs.Faults.{faultless, one_fault}
+use Rattle.store_files.proofs.Places.{one_place, no_format}
+use Rattle.store_files.proofs.law.laws.Goals as goal
+
+pub returns-clause-one_place : goal.returns-clause-one_place
+returns-clause-one_place c = one_place
+
+pub returns-clause-no_format : goal.returns-clause-no_format
+returns-clause-no_format c = no_format
+
+pub returns-clause-no_fault : goal.returns-clause-no_fault
+returns-clause-no_fault c = faultless
+
+pub returns-clause-one_fault : goal.returns-clause-one_fault
+returns-clause-one_fault c = one_fault
+
+pub returns-clause-one_meaning : goal.returns-clause-one_meaning
+returns-clause-one_meaning c = one_meaning

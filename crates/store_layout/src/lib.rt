@@ -1,0 +1,5 @@
+//! Tests of a data directory over a disk in memory: what its files stand for, and damaged ones.
+#![tactic(auto)]
+
+#[cfg(test)]
+mod tests;
