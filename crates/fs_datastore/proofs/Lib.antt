@@ -1,2 +1,5 @@
 pub mod Listing
 pub mod FilesRead
+pub mod Savings
+pub mod SavedWalks
+pub mod SavedWhole

@@ -1,10 +1,13 @@
-//! A data directory is read, and read again after each kind of damage.
-use disk_memory::MemoryDisk;
-use fs_datastore::{LoadError, load};
+//! A data directory is read, and read again after each kind of damage; a store is made, and a change of it written down.
+use disk_memory::{MemoryDisk, Node};
+use fs_datastore::{LoadError, batch_of, load, save_all};
 use held_text::HeldText;
 use outside::{Disk, Path};
+use pending_tx::commit;
+use settings_tree::{Held, TxName};
 use std::alloc::Global;
 use std::test::Fail;
+use version_links::{Version, flip, fresh_dir};
 
 const HELD: &str =
     r#"{"image":"aW1n","live":[["settings.\"a.b\"",true],["settings.motd","hi"]],"meta":[["settings.motd","name",["x"]]],"owed":["settings.motd"],"pending":[["t1",[["settings.motd",null],["settings.n",7]]]],"weak":["settings.motd"]}"#;
@@ -23,6 +26,35 @@ const FILES: [(&str, &str); 9] = [
     ("pending/t1/settings/n", "7"),
     ("weak", r#"["settings.motd"]"#),
 ];
+
+// All nodes of the store at version 1.5.2, in the order of their paths.
+const STORE: [&str; 13] = [
+    "store/current -> v1",
+    "store/v1 -> v1.5",
+    "store/v1.5 -> v1.5.2",
+    "store/v1.5.2 -> v1.5.2_0000000000000000",
+    "store/v1.5.2_0000000000000000/format = 2",
+    "store/v1.5.2_0000000000000000/image = img",
+    "store/v1.5.2_0000000000000000/live/settings/a%2Eb = true",
+    r#"store/v1.5.2_0000000000000000/live/settings/motd = "hi""#,
+    r#"store/v1.5.2_0000000000000000/live/settings/motd.name = ["x"]"#,
+    r#"store/v1.5.2_0000000000000000/owed = ["settings.motd"]"#,
+    "store/v1.5.2_0000000000000000/pending/t1/settings/motd = null",
+    "store/v1.5.2_0000000000000000/pending/t1/settings/n = 7",
+    r#"store/v1.5.2_0000000000000000/weak = ["settings.motd"]"#,
+];
+
+// A setting that is pending, and the journal of the change that commits it.
+const PENDING: &str =
+    r#"{"image":"","live":[],"meta":[],"owed":[],"pending":[["default",[["settings.motd","hi"]]]],"weak":[]}"#;
+
+const JOURNAL: &str = r#"set live/settings/motd 4
+"hi"
+set owed 17
+["settings.motd"]
+remove pending/default/settings/motd
+end
+"#;
 
 // The path of a file of the data directory.
 fn file_path(alloc: Global, name: &str) -> Result<Path, Fail> {
@@ -154,5 +186,62 @@ fn reads_the_first_format(rt: HostRuntime) -> Result<(), Fail> {
     put(rt.alloc(), &mut disk, "weak", None)?;
     let text = stands_for(rt.alloc(), &mut disk)?;
     assert!(rt; text.as_str().strip_suffix(r#""weak":[]} 1"#).is_some());
+    Ok(())
+}
+
+// A disk with a new store at 1.5.2 that holds `HELD`.
+fn made(alloc: Global) -> Result<MemoryDisk, Fail> {
+    let mut disk = MemoryDisk::new(alloc)?;
+    let held = Held::read(alloc, HELD.as_bytes())?;
+    let version = Version {
+        major: 1,
+        minor: 5,
+        patch: 2,
+    };
+    let names = fresh_dir(alloc, &mut disk, &version)?;
+    save_all(alloc, &mut disk, names.directory(), &held)?;
+    flip(&mut disk, &names)?;
+    Ok(disk)
+}
+
+// The path with what stands there: the text of a link behind an arrow, the bytes of a file behind a `=`.
+fn row(disk: &MemoryDisk, path: &Path) -> Result<Vec<u8>, Fail> {
+    let mut row = path.print()?;
+    match disk.node(path) {
+        Some(Node::Link(text)) => {
+            row.extend_from_slice(b" -> ")?;
+            row.extend_from_slice(text.as_slice())?;
+        }
+        Some(Node::File(bytes)) => {
+            row.extend_from_slice(b" = ")?;
+            row.extend_from_slice(bytes.as_slice())?;
+        }
+        None => {}
+    }
+    Ok(row)
+}
+
+#[test]
+fn makes_a_store(rt: HostRuntime) -> Result<(), Fail> {
+    let mut disk = made(rt.alloc())?;
+    let paths = disk.list(rt.alloc(), &Path::root(rt.alloc()))?;
+    assert_eq!(rt; paths.len(), STORE.len());
+    for (path, wanted) in paths.iter().zip(STORE) {
+        assert!(rt;
+            row(&disk, path)?.as_slice() == wanted.as_bytes(),
+            "{wanted}"
+        );
+    }
+    Ok(())
+}
+
+#[test]
+fn writes_a_commit_as_a_journal(rt: HostRuntime) -> Result<(), Fail> {
+    let held = Held::read(rt.alloc(), PENDING.as_bytes())?;
+    let tx = TxName::read(rt.alloc(), b"default")?.ok_or("no name")?;
+    let committed = commit(rt.alloc(), &held, &tx)?;
+    let dir = Path::root(rt.alloc()).child(b"store")?.child(b"v1")?;
+    let batch = batch_of(rt.alloc(), &dir, &committed.change)?;
+    assert!(rt; batch.text() == JOURNAL.as_bytes());
     Ok(())
 }

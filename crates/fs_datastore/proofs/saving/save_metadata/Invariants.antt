@@ -1,0 +1,19 @@
+use Rattle.std.proofs.Common.{◌≡◌, length, Ok}
+use Rattle.std.specs.Option.{option_copied}
+use Rattle.outside.specs.Told.{Moves}
+use Rattle.outside.specs.declared.disk_error.DiskErr.{DiskErr}
+use Rattle.key_names.specs.Order.{key_cmp}
+use Rattle.settings_tree.specs.Walks.{entries_past}
+use Rattle.fs_datastore.specs.Saving.{all_metadata, SavesTo}
+use Rattle.fs_datastore.proofs.SavedWalks.{up_to, meta_key}
+use Rattle.fs_datastore.proofs.saving.save_metadata.Given as goal
+
+-- what stands up to the last one is saved
+abbrev pub invariant-loop-key : goal.invariant-loop-key
+invariant-loop-key g l = record {
+  saved : Moves (g.D.Disk.told l.initial.disk) (g.D.Disk.told l.disk) (SavesTo {E = DiskErr} l.dir (up_to key_cmp meta_key (option_copied l.after) (all_metadata l.metadata)) (Ok tt));
+  faults : g.D.Disk.faults l.disk ≡ g.D.Disk.faults l.initial.disk;
+}
+
+abbrev pub decreases-loop-key : goal.decreases-loop-key
+decreases-loop-key g l = length (entries_past l.metadata (option_copied l.after))

@@ -1,0 +1,301 @@
+//! What is held is written into an empty data directory.
+ghost use Rattle.std.specs.Prelude.{◌≡◌, length, IsTrue, Some, OnOk};
+ghost use Rattle.outside.specs.DiskCalls.{Syncs, Writes};
+ghost use Rattle.outside.specs.Told.{Moves};
+ghost use Rattle.outside.specs.Faults.{HasCauseOf};
+ghost use Rattle.settings_maps.specs.Maps.{inner};
+ghost use Rattle.settings_maps.specs.TxName.{is_meta_name};
+ghost use Rattle.settings_tree.specs.Change.{Live, Meta, Pend, TheOwed, TheImage, TheWeak};
+ghost use Rattle.settings_tree.specs.Content.{IsContent, IsNamed};
+ghost use Rattle.settings_tree.specs.Pending.{IsPending};
+ghost use Rattle.store_files.specs.Values.{live, pending, owed, image, weak, value_in};
+ghost use Rattle.fs_datastore.specs.Saving.{Saves, SavesTo, TellsFormat, value_at_place, live_values, names_of_key, all_metadata, keys_of_transaction, all_pending, single_values};
+
+use json_trees::{Pending, Scalar};
+use key_names::{Bytes, Key, Text};
+use outside::{Disk, DiskErr, Failed, Path};
+use settings_maps::{KeyList, KeyMap, Metadata, Transactions, TxName};
+use settings_tree::{Held, Owed};
+use std::alloc::Global;
+use store_files::{
+    live_path, meta_path, owed_text, pending_path, pending_text, top_path, weak_text,
+};
+
+// A failure under the name that a call with memory has for it.
+fn write<D: Disk>(disk: &mut D, path: &Path, bytes: &[u8]) -> Result<(), DiskErr>
+    ensures writes { Moves (D.told disk.old) (D.told disk.new) (Writes path.now bytes.now result) }
+    ensures cause { HasCauseOf DiskErr.Failed (D.faults disk.old) (D.faults disk.new) result }
+{
+    match disk.write(path, bytes) {
+        Ok(()) => Ok(()),
+        Err(Failed) => Err(DiskErr::Failed),
+    }
+}
+
+fn write_text<D: Disk>(disk: &mut D, path: &Path, text: &Text) -> Result<(), DiskErr>
+    ensures writes { Moves (D.told disk.old) (D.told disk.new) (Writes path.now text.now result) }
+    ensures cause { HasCauseOf DiskErr.Failed (D.faults disk.old) (D.faults disk.new) result }
+{
+    write(disk, path, text.as_str().as_bytes())
+}
+
+fn sync<D: Disk>(disk: &mut D) -> Result<(), DiskErr>
+    ensures syncs { Moves (D.told disk.old) (D.told disk.new) (Syncs result) }
+    ensures cause { HasCauseOf DiskErr.Failed (D.faults disk.old) (D.faults disk.new) result }
+{
+    match disk.sync() {
+        Ok(()) => Ok(()),
+        Err(Failed) => Err(DiskErr::Failed),
+    }
+}
+
+#[tactic(auto, using(crate::proofs::Savings::saving))]
+fn save_value<D: Disk>(
+    alloc: Global,
+    disk: &mut D,
+    dir: &Path,
+    key: &Key,
+    value: &Scalar,
+) -> Result<(), DiskErr>
+    requires { length dir.now ≡ 2 }
+    ensures saves { Moves (D.told disk.old) (D.told disk.new) (SavesTo dir.now (value_at_place (Live key.now) (live value.now)) result) }
+    ensures cause { HasCauseOf DiskErr.Failed (D.faults disk.old) (D.faults disk.new) result }
+{
+    let path = live_path(alloc, dir, key)?;
+    let text = value.print(alloc)?;
+    write_text(disk, &path, &text)
+}
+
+#[tactic(auto, using(crate::proofs::Savings::saving))]
+fn save_meta<D: Disk>(
+    alloc: Global,
+    disk: &mut D,
+    dir: &Path,
+    key: &Key,
+    name: &[u8],
+    value: &Scalar,
+) -> Result<(), DiskErr>
+    requires length { length dir.now ≡ 2 }
+    requires bare { IsTrue (is_meta_name name.now) }
+    ensures saves { Moves (D.told disk.old) (D.told disk.new) (SavesTo dir.now (value_at_place (Meta key.now name.now) (live value.now)) result) }
+    ensures cause { HasCauseOf DiskErr.Failed (D.faults disk.old) (D.faults disk.new) result }
+{
+    let path = meta_path(alloc, dir, key, name)?;
+    let text = value.print(alloc)?;
+    write_text(disk, &path, &text)
+}
+
+#[tactic(auto, using(crate::proofs::Savings::saving))]
+fn save_pending<D: Disk>(
+    alloc: Global,
+    disk: &mut D,
+    dir: &Path,
+    tx: &TxName,
+    key: &Key,
+    value: &Pending,
+) -> Result<(), DiskErr>
+    requires { length dir.now ≡ 2 }
+    ensures saves { Moves (D.told disk.old) (D.told disk.new) (SavesTo dir.now (value_at_place (Pend tx.now key.now) (pending value.now)) result) }
+    ensures cause { HasCauseOf DiskErr.Failed (D.faults disk.old) (D.faults disk.new) result }
+{
+    let path = pending_path(alloc, dir, tx, key)?;
+    let text = pending_text(alloc, value)?;
+    write_text(disk, &path, &text)
+}
+
+#[tactic(auto, using(crate::proofs::Savings::saving))]
+fn save_values<D: Disk>(
+    alloc: Global,
+    disk: &mut D,
+    dir: &Path,
+    values: &KeyMap<Scalar>,
+) -> Result<(), DiskErr>
+    requires { length dir.now ≡ 2 }
+    ensures saves { Moves (D.told disk.old) (D.told disk.new) (SavesTo dir.now (live_values values.now) result) }
+    ensures cause { HasCauseOf DiskErr.Failed (D.faults disk.old) (D.faults disk.new) result }
+{
+    let mut after = None;
+    while let Some((key, value)) = values.next_after(after) {
+        save_value(alloc, disk, dir, key, value)?;
+        after = Some(key);
+    }
+    Ok(())
+}
+
+// The metadata of one key.
+#[tactic(auto, using(crate::proofs::Savings::saving))]
+fn save_names<D: Disk>(
+    alloc: Global,
+    disk: &mut D,
+    dir: &Path,
+    key: &Key,
+    metadata: &Metadata,
+) -> Result<(), DiskErr>
+    requires length { length dir.now ≡ 2 }
+    requires named { IsNamed metadata.now }
+    ensures saves { Moves (D.told disk.old) (D.told disk.new) (SavesTo dir.now (names_of_key key.now (inner metadata.now key.now)) result) }
+    ensures cause { HasCauseOf DiskErr.Failed (D.faults disk.old) (D.faults disk.new) result }
+{
+    let mut after = None;
+    while let Some((name, value)) = metadata.next_name(key, after) {
+        let name = name.as_str().as_bytes();
+        save_meta(alloc, disk, dir, key, name, value)?;
+        after = Some(name);
+    }
+    Ok(())
+}
+
+#[tactic(auto, using(crate::proofs::Savings::saving))]
+fn save_metadata<D: Disk>(
+    alloc: Global,
+    disk: &mut D,
+    dir: &Path,
+    metadata: &Metadata,
+) -> Result<(), DiskErr>
+    requires length { length dir.now ≡ 2 }
+    requires named { IsNamed metadata.now }
+    ensures saves { Moves (D.told disk.old) (D.told disk.new) (SavesTo dir.now (all_metadata metadata.now) result) }
+    ensures cause { HasCauseOf DiskErr.Failed (D.faults disk.old) (D.faults disk.new) result }
+{
+    let mut after = None;
+    while let Some(key) = metadata.next_key(after) {
+        save_names(alloc, disk, dir, key, metadata)?;
+        after = Some(key);
+    }
+    Ok(())
+}
+
+// What one transaction has pending.
+#[tactic(auto, using(crate::proofs::Savings::saving))]
+fn save_keys<D: Disk>(
+    alloc: Global,
+    disk: &mut D,
+    dir: &Path,
+    tx: &TxName,
+    keys: &KeyMap<Pending>,
+) -> Result<(), DiskErr>
+    requires { length dir.now ≡ 2 }
+    ensures saves { Moves (D.told disk.old) (D.told disk.new) (SavesTo dir.now (keys_of_transaction tx.now keys.now) result) }
+    ensures cause { HasCauseOf DiskErr.Failed (D.faults disk.old) (D.faults disk.new) result }
+{
+    let mut after = None;
+    while let Some((key, value)) = keys.next_after(after) {
+        save_pending(alloc, disk, dir, tx, key, value)?;
+        after = Some(key);
+    }
+    Ok(())
+}
+
+#[tactic(auto, using(crate::proofs::Savings::saving))]
+fn save_pending_maps<D: Disk>(
+    alloc: Global,
+    disk: &mut D,
+    dir: &Path,
+    transactions: &Transactions,
+) -> Result<(), DiskErr>
+    requires { length dir.now ≡ 2 }
+    ensures saves { Moves (D.told disk.old) (D.told disk.new) (SavesTo dir.now (all_pending transactions.now) result) }
+    ensures cause { HasCauseOf DiskErr.Failed (D.faults disk.old) (D.faults disk.new) result }
+{
+    let mut after = None;
+    while let Some((tx, keys)) = transactions.next_keys(after) {
+        save_keys(alloc, disk, dir, tx, keys)?;
+        after = Some(tx);
+    }
+    Ok(())
+}
+
+#[tactic(auto, using(crate::proofs::Savings::saving))]
+fn save_owed<D: Disk>(alloc: Global, disk: &mut D, dir: &Path, keys: &Owed) -> Result<(), DiskErr>
+    requires { length dir.now ≡ 2 }
+    ensures saves { Moves (D.told disk.old) (D.told disk.new) (SavesTo dir.now (value_at_place TheOwed (owed keys.now)) result) }
+    ensures cause { HasCauseOf DiskErr.Failed (D.faults disk.old) (D.faults disk.new) result }
+{
+    let path = top_path(dir, b"owed")?;
+    let text = owed_text(alloc, keys)?;
+    write_text(disk, &path, &text)
+}
+
+#[tactic(auto, using(crate::proofs::Savings::saving))]
+fn save_image<D: Disk>(disk: &mut D, dir: &Path, text: &Bytes) -> Result<(), DiskErr>
+    requires { length dir.now ≡ 2 }
+    ensures saves { Moves (D.told disk.old) (D.told disk.new) (SavesTo dir.now (value_at_place TheImage (image text.now)) result) }
+    ensures cause { HasCauseOf DiskErr.Failed (D.faults disk.old) (D.faults disk.new) result }
+{
+    let path = top_path(dir, b"image")?;
+    write(disk, &path, text.as_slice())
+}
+
+#[tactic(auto, using(crate::proofs::Savings::saving))]
+fn save_weak<D: Disk>(
+    alloc: Global,
+    disk: &mut D,
+    dir: &Path,
+    keys: &KeyList,
+) -> Result<(), DiskErr>
+    requires { length dir.now ≡ 2 }
+    ensures saves { Moves (D.told disk.old) (D.told disk.new) (SavesTo dir.now (value_at_place TheWeak (weak keys.now)) result) }
+    ensures cause { HasCauseOf DiskErr.Failed (D.faults disk.old) (D.faults disk.new) result }
+{
+    let path = top_path(dir, b"weak")?;
+    let text = weak_text(alloc, keys)?;
+    write_text(disk, &path, &text)
+}
+
+#[tactic(auto, using(crate::proofs::Savings::telling))]
+fn save_format<D: Disk>(disk: &mut D, dir: &Path) -> Result<(), DiskErr>
+    requires { length dir.now ≡ 2 }
+    ensures tells { Moves (D.told disk.old) (D.told disk.new) (TellsFormat dir.now result) }
+    ensures cause { HasCauseOf DiskErr.Failed (D.faults disk.old) (D.faults disk.new) result }
+{
+    let path = top_path(dir, b"format")?;
+    write(disk, &path, b"2")
+}
+
+// The owed keys, the image text and the weak keys.
+#[tactic(auto, using(crate::proofs::Savings::saving))]
+fn save_single<D: Disk>(alloc: Global, disk: &mut D, dir: &Path, held: &Held) -> Result<(), DiskErr>
+    requires { length dir.now ≡ 2 }
+    ensures saves { Moves (D.told disk.old) (D.told disk.new) (SavesTo dir.now (single_values held.now) result) }
+    ensures cause { HasCauseOf DiskErr.Failed (D.faults disk.old) (D.faults disk.new) result }
+{
+    save_owed(alloc, disk, dir, &held.owed)?;
+    save_image(disk, dir, &held.image)?;
+    save_weak(alloc, disk, dir, held.live.weak())
+}
+
+// All that is held.
+#[tactic(auto, using(crate::proofs::Savings::saving))]
+fn save_held<D: Disk>(alloc: Global, disk: &mut D, dir: &Path, held: &Held) -> Result<(), DiskErr>
+    requires { length dir.now ≡ 2 }
+    ensures saves { Moves (D.told disk.old) (D.told disk.new) (SavesTo dir.now (value_in held.now (Some held.now.live.weak)) result) }
+    ensures content { OnOk result (IsContent held.now.live) }
+    ensures pending { OnOk result (IsPending held.now.pending) }
+    ensures cause { HasCauseOf DiskErr.Failed (D.faults disk.old) (D.faults disk.new) result }
+{
+    save_values(alloc, disk, dir, held.live.values())?;
+    save_metadata(alloc, disk, dir, held.live.metadata())?;
+    save_pending_maps(alloc, disk, dir, held.pending.transactions())?;
+    save_single(alloc, disk, dir, held)
+}
+
+/// Writes what is held into a data directory of two names with nothing below it, in format 2, and syncs at the end. It
+/// takes a logarithmic step for each file, and copies no value.
+///
+/// After Ok the files stand for what is held in format 2, and are on the disk. After an error some of them may be there.
+/// Nothing changes elsewhere. `Failed` where the disk failed, `Memory` where memory is wanting.
+#[tactic(auto, using(crate::proofs::SavedWhole::whole_saved))]
+pub fn save_all<D: Disk>(
+    alloc: Global,
+    disk: &mut D,
+    dir: &Path,
+    held: &Held,
+) -> Result<(), DiskErr>
+    requires { length dir.now ≡ 2 }
+    ensures saves { Moves (D.told disk.old) (D.told disk.new) (Saves dir.now held.now result) }
+    ensures cause { HasCauseOf DiskErr.Failed (D.faults disk.old) (D.faults disk.new) result }
+{
+    save_held(alloc, disk, dir, held)?;
+    save_format(disk, dir)?;
+    sync(disk)
+}
