@@ -1,0 +1,12 @@
+pub mod Clashes
+pub mod Counts
+pub mod Faultless
+pub mod Filtered
+pub mod Gatherings
+pub mod Listings
+pub mod Named
+pub mod Rests
+pub mod Sets
+pub mod Sorted
+pub mod Spaces
+pub mod Spelled

@@ -1,0 +1,15 @@
+pub mod Commands
+pub mod Faults
+pub mod Fields
+pub mod Files
+pub mod Firsts
+pub mod Gathered
+pub mod Links
+pub mod Lists
+pub mod Manifest
+pub mod Nearest
+pub mod Paths
+pub mod Rising
+pub mod Services
+pub mod Texts
+pub mod Words

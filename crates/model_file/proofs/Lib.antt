@@ -1,0 +1,17 @@
+pub mod Checking
+pub mod LongerPaths
+pub mod PrintedPaths
+pub mod Items
+pub mod Names
+pub mod Sections
+pub mod OsNames
+pub mod LeftChecks
+pub mod Documents
+pub mod Faults
+pub mod EntryChecks
+pub mod Puts
+pub mod KnownKeys
+pub mod RowChecks
+pub mod MetaChecks
+pub mod ValueChecks
+pub mod Parts

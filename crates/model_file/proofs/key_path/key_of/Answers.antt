@@ -1,0 +1,8 @@
+use Rattle.std.proofs.Common.{[], ◌∷◌, sym, ◌∙◌, arith}
+use Rattle.model_file.proofs.LongerPaths.{ends}
+use Rattle.model_file.proofs.key_path.key_of.Goals as goal
+
+pub returns-in-None : goal.returns-in-None
+returns-in-None c =
+    ends (c.args.first.now ∷ []) c.args.names.now c.loop-name.key c.loop-name.name-index c.as_str.result.now c.name-item.result (omega arith) c.loop-name.invariant.0
+    (c.as_str.ensures ∙ c.name-item.is) (sym c.in-None.is ∙ c.in_ok-more.ensures)

@@ -1,0 +1,56 @@
+-- The TOML table that a text is, and its sections.
+use Rattle.std.specs.Prelude.{ℕ, Bool, true, false, List, [], ◌∷◌, Option, None, unwrap_or, if◌then◌else◌, codes}
+use Rattle.std.specs.Str.{is_utf8}
+use Rattle.toml.specs.Data.{Data, string, integer, float, boolean, datetime, array, table, Members, no_members, member, get_member}
+use Rattle.std.specs.Prelude.{String, Some}
+use Rattle.std.specs.BTreeMap.{BTreeMap}
+use Rattle.std.specs.declared.alloc.Global.{Global}
+use Rattle.toml.specs.View.{table_view}
+use Rattle.toml.specs.declared.value.Value.{Value}
+use Rattle.toml.specs.Parse.{parse_document}
+
+-- The table that the bytes are, where `toml` reads them.
+abbrev pub table_of : List ℕ → Option Members
+table_of text = if is_utf8 text then parse_document text else None
+
+-- The names of the six sections, in the order in which they are read.
+abbrev pub sections : List (List ℕ)
+sections = codes "os" ∷ codes "types" ∷ codes "settings" ∷ codes "services" ∷ codes "configuration-files" ∷ codes "metadata" ∷ []
+
+-- What stands under a section's name; a section that is missing is an empty table.
+abbrev pub section : List ℕ → Members → Data
+section name document = unwrap_or (get_member name document) (table no_members)
+
+-- The value is a table.
+abbrev pub is_table : Data → Bool
+is_table (string s) = false
+is_table (integer z) = false
+is_table (float x) = false
+is_table (boolean b) = false
+is_table (datetime d) = false
+is_table (array ds) = false
+is_table (table ms) = true
+
+-- The members of a table; another value has none.
+abbrev pub members_of : Data → Members
+members_of (string s) = no_members
+members_of (integer z) = no_members
+members_of (float x) = no_members
+members_of (boolean b) = no_members
+members_of (datetime d) = no_members
+members_of (array ds) = no_members
+members_of (table ms) = ms
+
+-- The members of a section.
+abbrev pub section_members : List ℕ → Members → Members
+section_members name document = members_of (section name document)
+
+-- Each name with what stands under it, in the table's order.
+abbrev pub named : Members → List (List ℕ × Data)
+named no_members = []
+named (member name d ms) = (name, d) ∷ named ms
+
+-- For private clauses: the members of a table that may be missing.
+abbrev pub members_in : Option (BTreeMap (String Global) Value) → Members
+members_in None = no_members
+members_in (Some found) = table_view found

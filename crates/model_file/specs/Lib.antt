@@ -1,0 +1,8 @@
+pub mod Document
+pub mod Values
+pub mod Entries
+pub mod Rows
+pub mod Checks
+pub mod Contents
+pub mod Model
+pub mod Refused

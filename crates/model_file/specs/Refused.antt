@@ -1,0 +1,39 @@
+-- For private clauses: how a part of the checks is met or refused.
+use Rattle.std.specs.Prelude.{◌≡◌, ℕ, List, ⊤}
+use Rattle.std.specs.List.{AllByRecursion}
+use Rattle.typed_settings.specs.Row.{IsKnown}
+use Rattle.typed_settings.specs.declared.row.Row.{Row}
+use Rattle.std.specs.FinMap.{FinMap, get}
+use Rattle.std.specs.Prelude.{IsSome}
+use Rattle.key_names.specs.Order.{key_cmp}
+use Rattle.json_trees.specs.declared.scalar.Scalar.{Scalar}
+use Rattle.model_file.specs.Checks.{Check, Holds, kind_of, path_of, IsFirstFailing}
+use Rattle.model_file.specs.Entries.{Path}
+use Rattle.model_file.specs.Rows.{RowTexts}
+use Rattle.model_file.specs.Model.{printed_path, IsFault}
+use Rattle.model_file.specs.declared.model_error.ModelKind.{ModelKind}
+use Rattle.model_file.specs.declared.refusal.Refusal.{Refusal}
+use Rattle.model_file.specs.declared.refusal.Refusal.TheVariants.{Fault, Memory}
+
+-- All of the checks hold.
+abbrev pub Passes : RowTexts → List Check → Type 0
+Passes rows all = AllByRecursion (Holds rows) all
+
+-- The refusal is that of the first of the checks which fails, unless memory was wanting.
+abbrev pub Refuses : RowTexts → List Check → Refusal → Type 0
+Refuses rows all Memory = ⊤
+Refuses rows all (Fault kind at) = (check : Check) × IsFirstFailing rows all check × (kind ≡ kind_of check) × (at ≡ printed_path (path_of check))
+
+-- The refusal is of this kind and at this path, unless memory was wanting.
+abbrev pub IsAt : ModelKind → Path → Refusal → Type 0
+IsAt kind path Memory = ⊤
+IsAt kind path (Fault k at) = (k ≡ kind) × (at ≡ printed_path path)
+
+-- Each key that has a value is known to the types.
+abbrev pub AreKnown : List Row → FinMap key_cmp Scalar → Type 0
+AreKnown table values = (key : Path) → IsSome (get values key) → IsKnown table key
+
+-- The refusal is a fault of the text, unless memory was wanting.
+abbrev pub RefusesText : List ℕ → Refusal → Type 0
+RefusesText text Memory = ⊤
+RefusesText text (Fault kind at) = IsFault text kind at

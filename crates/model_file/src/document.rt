@@ -1,0 +1,78 @@
+//! The document that a text is, and its sections.
+ghost use Rattle.std.specs.Prelude.{◌≡◌, ◌∷◌, [], ℕ, List, IfOk, IfErr, OnOk, option_map};
+ghost use Rattle.std.specs.List.{list_any};
+ghost use Rattle.std.specs.Ordering.{eq_by_cmp};
+ghost use Rattle.key_names.specs.Order.{bytes_cmp};
+ghost use Rattle.std.specs.Option.{option_copied};
+ghost use Rattle.toml.specs.View.{table_view};
+ghost use Rattle.model_file.specs.Document.{table_of, sections, section_members, members_in};
+ghost use Rattle.model_file.specs.Checks.{name_checks, table_check};
+ghost use Rattle.model_file.specs.Rows.{RowTexts};
+ghost use Rattle.model_file.specs.Refused.{Passes, Refuses};
+
+use crate::ModelKind;
+use crate::refusal::{Refusal, refused};
+use std::alloc::{AllocError, Global};
+use toml::Table;
+
+/// The table that a text is, None where it is no TOML. The only error is want of memory.
+pub fn document_of(alloc: Global, text: &[u8]) -> Result<Option<Table>, AllocError>
+    ensures { IfOk result (λ document. option_map (λ t. table_view t) document ≡ table_of text.now) }
+{
+    match toml::table_from_slice(alloc, text) {
+        Ok(table) => Ok(Some(table)),
+        Err(error) => {
+            if error.is_memory() {
+                Err(AllocError)
+            } else {
+                Ok(None)
+            }
+        }
+    }
+}
+
+// The name is that of a section.
+fn is_section(name: &str) -> bool
+    ensures { result ≡ list_any (eq_by_cmp bytes_cmp name.now) sections }
+{
+    matches!(
+        name,
+        "os" | "types" | "settings" | "services" | "configuration-files" | "metadata"
+    )
+}
+
+/// Checks that each top-level name is that of a section.
+pub fn check_names(alloc: Global, document: &Table) -> Result<(), Refusal>
+    ensures passes { (rows : RowTexts) → OnOk result (Passes rows (name_checks (table_view document.now))) }
+    ensures refused { (rows : RowTexts)
+        → IfErr result (Refuses rows (name_checks (table_view document.now))) }
+{
+    for (name, _) in document.iter() {
+        if !is_section(name.as_str()) {
+            return Err(refused(alloc, ModelKind::UnknownSection, name.as_str(), &[]));
+        }
+    }
+    Ok(())
+}
+
+/// The table of a section, None where the section is missing.
+pub fn section<'a>(
+    alloc: Global,
+    document: &'a Table,
+    name: &str,
+) -> Result<Option<&'a Table>, Refusal>
+    ensures passes { (rows : RowTexts)
+        → OnOk result (Passes rows (table_check name.now (table_view document.now) ∷ [])) }
+    ensures members { IfOk result
+        (λ found. section_members name.now (table_view document.now) ≡ members_in (option_copied found)) }
+    ensures refused { (rows : RowTexts)
+        → IfErr result (Refuses rows (table_check name.now (table_view document.now) ∷ [])) }
+{
+    let Some(value) = document.get(name) else {
+        return Ok(None);
+    };
+    match value.as_table() {
+        Some(table) => Ok(Some(table)),
+        None => Err(refused(alloc, ModelKind::NotTable, name, &[])),
+    }
+}
