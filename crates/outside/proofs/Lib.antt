@@ -1,6 +1,7 @@
 pub mod PathTexts
 pub mod Told
 pub mod Trees
+pub mod Ties
 pub mod Crash
 pub mod Since
 pub mod Goes

@@ -81,3 +81,13 @@ module _ {S : Type 0} where
   -- two clauses of one call
   pub moves_both : {R Q : S → S → Type 0} {a b : Option S} → Moves a b R → Moves a b Q → Moves a b (λ s t. R s t × Q s t)
   moves_both {R = R} {Q = Q} {a = a} {b = b} m n = record { told = related_both R Q a b m.told n.told }
+
+  with_end : (P : S → Type 0) (R : S → S → Type 0) (a b : Option S) → BothBy R a b → IfSome b P → BothBy (λ s t. R s t × P t) a b
+  with_end P R None None m p = tt
+  with_end P R (Some s) (Some t) m p = (m, p)
+  with_end P R None (Some t) m p = m
+  with_end P R (Some s) None m p = m
+
+  -- what is known at the end
+  pub moves_ends : {P : S → Type 0} {R : S → S → Type 0} {a b : Option S} → Moves a b R → WhereTold b P → Moves a b (λ s t. R s t × P t)
+  moves_ends {P = P} {R = R} {a = a} {b = b} m p = record { told = with_end P R a b m.told p.is }

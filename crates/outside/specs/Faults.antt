@@ -1,5 +1,7 @@
 -- When a device may answer that it failed.
-use Rattle.std.specs.Prelude.{◌≡◌, ℕ, ◌+◌, ◌-◌, ◌^◌, ◌≤◌, min, Result, OnOk, OnErr, IsErrOf}
+use Rattle.std.specs.Prelude.{◌≡◌, ℕ, ◌+◌, ◌-◌, ◌^◌, ◌≤◌, min, Result, OnOk, OnErr, IsErr, IsErrOf}
+use Rattle.outside.specs.declared.disk_error.DiskErr.{DiskErr}
+use Rattle.outside.specs.declared.disk_error.DiskErr.TheVariants as device
 
 -- The count rose, or it stands at its last value.
 abbrev pub Rose : ℕ → ℕ → Type 0
@@ -11,8 +13,14 @@ pub record HasCause {T E : Type 0} (before now : ℕ) (result : Result T E) : Ty
   pub failed : OnErr result (Rose before now)
   pub kept : OnOk result (now ≡ before)
 
--- The same where an error may also be want of memory: only `failure` tells of a rise.
+-- The same where there are other errors: `failure` tells of a rise, and any other error leaves the count.
 pub record HasCauseOf {T E : Type 0} (failure : E) (before now : ℕ) (result : Result T E) : Type 0 where
   pub later : before ≤ now
   pub failed : IsErrOf result failure → Rose before now
   pub kept : OnOk result (now ≡ before)
+  pub other : IsErr result → (IsErrOf result failure → ⊥) → now ≡ before
+
+-- A disk's error is told under these two names: the first where it failed, the second where memory was wanting.
+abbrev pub HandsOn : {E : Type 0} → E → E → DiskErr → E → Type 0
+HandsOn failed memory device.Failed e = e ≡ failed
+HandsOn failed memory device.Memory e = e ≡ memory

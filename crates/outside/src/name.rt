@@ -1,5 +1,5 @@
 //! The names that a path is made of.
-ghost use Rattle.std.specs.Prelude.{◌≡◌, IsTrue, IfOk};
+ghost use Rattle.std.specs.Prelude.{◌≡◌, ◌↔◌, IsTrue, IfOk};
 ghost use Rattle.std.specs.List.{list_all};
 ghost use Rattle.outside.specs.Names.{is_name_byte, is_dots, is_name};
 
@@ -92,7 +92,10 @@ impl PartialEq for Name {
 
     ghost laws = { names_equal_partly };
 
-    fn eq(&self, other: &Name) -> bool {
+    fn eq(&self, other: &Name) -> bool
+        ensures gives { result ≡ eq_by_cmp name_cmp self.now other.now }
+        ensures exact { IsTrue result ↔ (self.now ≡ other.now) }
+    {
         self.cmp(other).is_eq()
     }
 }

@@ -1,6 +1,6 @@
 //! Paths: lists of names.
-ghost use Rattle.std.specs.Prelude.{◌≡◌, ◌≢◌, [], IfOk, IfErr, OnOk, OnErr};
-ghost use Rattle.outside.specs.Names.{is_below};
+ghost use Rattle.std.specs.Prelude.{◌≡◌, ◌≢◌, ◌<◌, ◌≤◌, ◌∷◌, ◌++◌, [], true, false, length, ◌↔◌, IsTrue, IfSome, IfNone, IfOk, IfErr, OnOk, OnErr};
+ghost use Rattle.outside.specs.Names.{is_name, is_below};
 ghost use Rattle.outside.specs.PathText.{joined, added, path_of, Answers};
 
 use crate::PathError;
@@ -105,35 +105,75 @@ impl Path {
         is_above(&self.names, &other.names)
     }
 
-    /// The path with one name more.
-    ///
-    /// `BadName` exactly where the name is none, else `TooDeep` exactly where the path has 40 names,
-    /// and `Memory` where memory is wanting.
-    pub fn child(&self, name: &[u8]) -> Result<Path, PathError>
-        ensures { Answers result (added self.now name.now) }
+    /// The path with one name more, or want of memory.
+    pub fn join(&self, name: &Name) -> Result<Path, AllocError>
+        requires { length self.now < 40 }
+        ensures { IfOk result (λ path. path ≡ self.now ++ name.now ∷ []) }
     {
         let mut path = self.copy()?;
-        match path.push(name) {
-            Ok(()) => Ok(path),
-            Err(e) => Err(e),
-        }
+        path.push_name(name.copy()?)?;
+        Ok(path)
     }
 
-    /// Adds one name at the end. The refusals are those of [`child`](Path::child), and leave the path as it is.
+    /// Adds one name at the end. Want of memory leaves the path as it is.
+    pub fn push_name(&mut self, name: Name) -> Result<(), AllocError>
+        requires { length self.old < 40 }
+        ensures ok { OnOk result (self.new ≡ self.old ++ name ∷ []) }
+        ensures same { OnErr result (self.new ≡ self.old) }
+    {
+        self.names.push(name)?;
+        Ok(())
+    }
+
+    /// The path with this text as one name more.
+    ///
+    /// `BadName` exactly where the text is no name, else `TooDeep` exactly where the path has 40 names: both are told
+    /// before any memory is asked for. `Memory` where memory is wanting.
+    pub fn child(&self, name: &[u8]) -> Result<Path, PathError>
+        ensures answer { Answers result (added self.now name.now) }
+        ensures bad { is_name name.now ≡ false → result ≡ Err PathError.BadName }
+        ensures deep { is_name name.now ≡ true → 40 ≤ length self.now → result ≡ Err PathError.TooDeep }
+    {
+        if let Some(refusal) = self.refusal(name) {
+            return Err(refusal);
+        }
+        let mut path = self.copy()?;
+        let name = Name::of(name.to_vec(*self.names.allocator())?);
+        path.push_name(name)?;
+        Ok(path)
+    }
+
+    /// Adds this text as one name at the end. The refusals are those of [`child`](Path::child), and leave the path as
+    /// it is.
     pub fn push(&mut self, name: &[u8]) -> Result<(), PathError>
         ensures ok { OnOk result (added self.old name.now ≡ Ok self.new) }
         ensures err { IfErr result (λ e. e ≢ PathError.Memory → added self.old name.now ≡ Err e) }
         ensures same { OnErr result (self.new ≡ self.old) }
+        ensures bad { is_name name.now ≡ false → result ≡ Err PathError.BadName }
+        ensures deep { is_name name.now ≡ true → 40 ≤ length self.old → result ≡ Err PathError.TooDeep }
+    {
+        if let Some(refusal) = self.refusal(name) {
+            return Err(refusal);
+        }
+        let name = Name::of(name.to_vec(*self.names.allocator())?);
+        self.push_name(name)?;
+        Ok(())
+    }
+
+    // Why this text can't be one name more, or None where it can.
+    fn refusal(&self, name: &[u8]) -> Option<PathError>
+        ensures none { IfNone result ((is_name name.now ≡ true) × (length self.now < 40)) }
+        ensures some { IfSome result (λ e. added self.now name.now ≡ Err e) }
+        ensures bad { is_name name.now ≡ false → result ≡ Some PathError.BadName }
+        ensures deep { is_name name.now ≡ true → 40 ≤ length self.now → result ≡ Some PathError.TooDeep }
     {
         if !is_name(name) {
-            return Err(PathError::BadName);
+            return Some(PathError::BadName);
         }
         if self.names.len() >= Path::MAX_NAMES {
-            return Err(PathError::TooDeep);
+            return Some(PathError::TooDeep);
         }
-        let alloc = *self.names.allocator();
-        self.names.push(Name::of(name.to_vec(alloc)?))?;
-        Ok(())
+        None
     }
 }
 
@@ -146,7 +186,10 @@ impl PartialEq for Path {
 
     ghost laws = { paths_equal_partly };
 
-    fn eq(&self, other: &Path) -> bool {
+    fn eq(&self, other: &Path) -> bool
+        ensures gives { result ≡ eq_by_cmp path_cmp self.now other.now }
+        ensures exact { IsTrue result ↔ (self.now ≡ other.now) }
+    {
         self.cmp(other).is_eq()
     }
 }

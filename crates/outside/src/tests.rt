@@ -33,3 +33,28 @@ fn a_child_is_below(rt: HostRuntime) -> Result<(), Fail> {
     assert!(rt; matches!(etc.child(b".."), Err(PathError::BadName)));
     Ok(())
 }
+
+#[test]
+fn ends_at_forty_names_and_255_bytes(rt: HostRuntime) -> Result<(), Fail> {
+    let alloc = rt.alloc();
+    let forty = "a/b/c/d/e/f/g/h/a/b/c/d/e/f/g/h/a/b/c/d/e/f/g/h/a/b/c/d/e/f/g/h/a/b/c/d/e/f/g/h";
+    let longest = Path::read(alloc, forty.as_bytes())?;
+    assert_eq!(rt; longest.names().len(), 40);
+    assert!(rt; matches!(longest.child(b"i"), Err(PathError::TooDeep)));
+    assert!(rt; matches!(longest.child(b"/"), Err(PathError::BadName)));
+    let longer = format!(in alloc; "{forty}/i")?;
+    assert!(rt;
+        matches!(
+            Path::read(alloc, longer.as_bytes()),
+            Err(PathError::TooDeep)
+        )
+    );
+
+    let root = Path::root(alloc);
+    let bytes = [b'n'; 256];
+    assert!(rt; matches!(root.child(&bytes), Err(PathError::BadName)));
+    let name = root.child(&bytes[..255])?;
+    let joined = name.join(&name.names()[0])?;
+    assert_eq!(rt; joined.print()?.len(), 511);
+    Ok(())
+}
