@@ -1,17 +1,16 @@
 -- A segment, a child and a list of segments have one fault at most, and none where they are in order.
-use Rattle.std.proofs.Common.{◌≡◌, ◌≢◌, ℕ, List, [], ◌∷◌, ◌++◌, true, false, true≢false, nat_lt, length, length-append, refl, sym, ◌∙◌, ap, subst, arith, inr, Result, Ok, Err}
-use Rattle.std.specs.Prelude.{IsTrue, IfOk, IfErr}
+use Rattle.std.proofs.Common.{◌≡◌, ◌≢◌, ℕ, List, [], ◌∷◌, ◌++◌, Bool, true, false, true≢false, nat_lt, length, length-append, refl, sym, ◌∙◌, ap, arith, inr}
+use Rattle.std.specs.Prelude.{IsTrue}
 use Rattle.std.specs.List.{list_all, prefix_len}
 use Rattle.std.proofs.lemmas.Bool.{and_parts, leb-true}
 use Rattle.std.proofs.lemmas.List.Folds.{list_all-append}
 use Rattle.key_names.specs.declared.key_error.KeyError.{KeyError}
 use Rattle.key_names.specs.declared.key_error.KeyFault.{KeyFault}
-use Rattle.key_names.specs.declared.key_error.KeyFault.TheVariants.{Memory}
 use Rattle.key_names.specs.Segment.{is_quotable, is_segment}
-use Rattle.key_names.specs.Key.{is_key}
-use Rattle.key_names.specs.Faults.{SegmentFault, no_bytes, bad_byte, Breaks, too_many, segment_too_long, too_long, RefusesChild, segment_fault, child_limit, IsRefused}
+use Rattle.key_names.specs.Key.{fits, is_key}
+use Rattle.key_names.specs.Faults.{SegmentFault, no_bytes, bad_byte, Breaks, too_many, segment_too_long, too_long, RefusesChild, segment_fault, child_limit}
 use Rattle.key_names.proofs.Runs.{prefix_len-run}
-use Rattle.key_names.proofs.KeyLimits.{IsKey-from, breaks_none, fits-from}
+use Rattle.key_names.proofs.KeyLimits.{breaks_none, IsKey-from, fits-from}
 
 -- segments break one limit first
 pub one_limit : {segments : List (List ℕ)} {a b : KeyFault} → Breaks segments a → Breaks segments b → a ≡ b
@@ -56,18 +55,26 @@ one_child_fault (segment_fault a p f) (child_limit b valid breaks) = absurd (no_
 one_child_fault (child_limit a valid breaks) (segment_fault b q g) = absurd (no_segment_fault g valid)
 one_child_fault (child_limit a valid breaks) (child_limit b valid' breaks') = (one_limit breaks breaks', refl)
 
--- a key has no fault as the child that it is
-no_child_fault : {key : List (List ℕ)} {segment : List ℕ} {kind : KeyFault} {place : ℕ} → RefusesChild key segment kind place → is_key (key ++ segment ∷ []) ≢ true
-no_child_fault {key} {segment} (segment_fault kind place f) is =
-    let all = (IsKey-from (key ++ segment ∷ []) is).valid in
-    let both = and_parts (list_all is_segment key) (list_all is_segment (segment ∷ [])) (sym (list_all-append is_segment key (segment ∷ [])) ∙ all) in
-    no_segment_fault f (and_parts (is_segment segment) true both.1).0
-no_child_fault {key} {segment} (child_limit kind valid breaks) is = breaks_none breaks (fits-from (key ++ segment ∷ []) (IsKey-from (key ++ segment ∷ []) is).fits)
+-- an error is its kind and its place
+error_is : (e : KeyError) (kind : KeyFault) (place : ℕ) → (e.kind ≡ kind) × (e.place ≡ place) → e ≡ record { kind = kind; place = place }
+error_is e kind place both = ap (λ k. record { kind = k; place = e.place }) both.0 ∙ ap (λ p. record { kind = kind; place = p }) both.1
 
--- a call that answers the child or its fault answers a fault exactly where it stands
-pub child_refused :
-    (key : List (List ℕ)) (segment : List ℕ) (result : Result (List (List ℕ)) KeyError)
-    → IfOk result (λ k. k ≡ key ++ segment ∷ []) → IfOk result (λ k. IsTrue (is_key k)) → IfErr result (λ e. e.kind ≢ Memory → RefusesChild key segment e.kind e.place)
-    → (kind : KeyFault) (place : ℕ) → RefusesChild key segment kind place → IsRefused result kind place
-child_refused key segment (Ok k) ok valid refused kind place f = no_child_fault f (subst (λ x. is_key x ≡ true) ok valid)
-child_refused key segment (Err e) ok valid refused kind place f = λ other. one_child_fault (refused other) f
+-- the fault that was found is any fault that there is
+pub fault_is : (key : List (List ℕ)) (segment : List ℕ) (e : KeyError) → RefusesChild key segment e.kind e.place → (kind : KeyFault) (place : ℕ) → RefusesChild key segment kind place → e ≡ record { kind = kind; place = place }
+fault_is key segment e found kind place f = error_is e kind place (one_child_fault found f)
+
+-- a child of a segment within the limits has no fault
+pub no_child_fault : (key : List (List ℕ)) (segment : List ℕ) → IsTrue (is_segment segment) × IsTrue (fits (key ++ segment ∷ [])) → (kind : KeyFault) (place : ℕ) → RefusesChild key segment kind place → ⊥
+no_child_fault key segment fine kind place (segment_fault kind' place' f) = no_segment_fault f fine.0
+no_child_fault key segment fine kind place (child_limit kind' valid' breaks) = breaks_none breaks fine.1
+
+-- what is refused as a child is no key
+pub refused_no_key : (key : List (List ℕ)) (segment : List ℕ) (kind : KeyFault) (place : ℕ) → RefusesChild key segment kind place → is_key (key ++ segment ∷ []) ≡ false
+refused_no_key key segment kind place fault = by (is_key (key ++ segment ∷ [])) refl
+  where
+    by : (b : Bool) → is_key (key ++ segment ∷ []) ≡ b → is_key (key ++ segment ∷ []) ≡ false
+    by false is = is
+    by true is =
+        let k = IsKey-from (key ++ segment ∷ []) is in
+        let both = and_parts (list_all is_segment key) (list_all is_segment (segment ∷ [])) (sym (list_all-append is_segment key (segment ∷ [])) ∙ k.valid) in
+        absurd (no_child_fault key segment ((and_parts (is_segment segment) true both.1).0, fits-from (key ++ segment ∷ []) k.fits) kind place fault)

@@ -1,7 +1,7 @@
 -- The limits of a key, and of a key with one segment more.
 use Rattle.std.proofs.Common.{◌≡◌, ◌<◌, ◌≤◌, ◌+◌, ℕ, List, [], ◌∷◌, ◌++◌, Bool, true, false, true≢false, ◌&&◌, nat_lt, nat_le, length, length-append, refl, sym, ◌∙◌, ap, arith}
 use Rattle.std.specs.Prelude.{IsTrue}
-use Rattle.std.specs.List.{list_all}
+use Rattle.std.specs.List.{list_all, sum_by}
 use Rattle.std.proofs.lemmas.Bool.{and_parts, leb-true, le-leb}
 use Rattle.std.proofs.lemmas.List.Folds.{list_all-append}
 use Rattle.key_names.specs.declared.key_error.KeyFault.{KeyFault}
@@ -10,7 +10,7 @@ use Rattle.key_names.specs.Segment.{is_segment, has_short_name, printed_segment}
 use Rattle.key_names.specs.Key.{printed, fits, is_key}
 use Rattle.key_names.specs.Faults.{Breaks, too_many, segment_too_long, too_long}
 use Rattle.key_names.proofs.Segments.{both}
-use Rattle.key_names.proofs.Printed.{length-printed-push}
+use Rattle.key_names.proofs.Printed.{length-printed-push, printed-empty}
 
 -- what it is to fit
 pub record Fits (segments : List (List ℕ)) : Type 0 where
@@ -31,6 +31,10 @@ fits-from segments f =
     both (nat_le (length segments) 32 && list_all has_short_name segments) (nat_le (length (printed segments)) 1024)
     (both (nat_le (length segments) 32) (list_all has_short_name segments) (le-leb (length segments) 32 f.few) f.short)
     (le-leb (length (printed segments)) 1024 f.narrow)
+
+-- no segments fit
+pub none_fit : IsTrue (fits [])
+none_fit = fits-from [] (record { few = omega arith; short = refl; narrow = omega (arith, ap length (printed-empty [] refl)) })
 
 -- what it is to be a key
 pub record IsKey (segments : List (List ℕ)) : Type 0 where
@@ -72,21 +76,30 @@ module _ (key : List (List ℕ)) (segment : List ℕ) where
   child_too_many full = too_many (omega (arith, length-append key (segment ∷ [])))
 
   -- a child with too long a file name
-  pub child_segment_too_long : IsTrue (is_key key) → length key < 32 → has_short_name segment ≡ false → Breaks (key ++ segment ∷ []) SegmentTooLong
-  child_segment_too_long is few long =
-      segment_too_long (omega (arith, length-append key (segment ∷ []))) (list_all-push has_short_name key segment (IsKey-from key is).fits.short ∙ long)
+  pub child_segment_too_long : IsTrue (fits key) → length key < 32 → has_short_name segment ≡ false → Breaks (key ++ segment ∷ []) SegmentTooLong
+  child_segment_too_long fit few long =
+      segment_too_long (omega (arith, length-append key (segment ∷ []))) (list_all-push has_short_name key segment (Fits-from key fit).short ∙ long)
 
   -- a child with too long a text
-  pub child_too_long : IsTrue (is_key key) → length key < 32 → IsTrue (has_short_name segment) → 1024 < length (printed key) + 1 + length (printed_segment segment) → Breaks (key ++ segment ∷ []) TooLong
-  child_too_long is few short wide =
-      too_long (omega (arith, length-append key (segment ∷ []))) (list_all-push has_short_name key segment (IsKey-from key is).fits.short ∙ short)
-      (omega (arith, length-printed-push key segment (IsKey-from key is).some))
+  pub child_too_long : IsTrue (fits key) → length key < 32 → IsTrue (has_short_name segment) → 1024 < sum_by (λ s. length (printed_segment s) + 1) key + length (printed_segment segment) → Breaks (key ++ segment ∷ []) TooLong
+  child_too_long fit few short wide =
+      too_long (omega (arith, length-append key (segment ∷ []))) (list_all-push has_short_name key segment (Fits-from key fit).short ∙ short)
+      (omega (arith, length-printed-push key segment))
 
   -- a child within the limits
-  pub child_fits : IsTrue (is_key key) → length key < 32 → IsTrue (has_short_name segment) → length (printed key) + 1 + length (printed_segment segment) ≤ 1024 → IsTrue (fits (key ++ segment ∷ []))
-  child_fits is few short narrow =
+  pub child_fits : IsTrue (fits key) → length key < 32 → IsTrue (has_short_name segment) → sum_by (λ s. length (printed_segment s) + 1) key + length (printed_segment segment) ≤ 1024 → IsTrue (fits (key ++ segment ∷ []))
+  child_fits fit few short narrow =
       fits-from (key ++ segment ∷ []) (record {
         few = omega (arith, length-append key (segment ∷ []));
-        short = list_all-push has_short_name key segment (IsKey-from key is).fits.short ∙ short;
-        narrow = omega (arith, length-printed-push key segment (IsKey-from key is).some);
+        short = list_all-push has_short_name key segment (Fits-from key fit).short ∙ short;
+        narrow = omega (arith, length-printed-push key segment);
+      })
+
+  -- a child that is within the limits, of a segment, is a key
+  pub child_key : IsTrue (list_all is_segment key) → IsTrue (is_segment segment) → IsTrue (fits (key ++ segment ∷ [])) → IsTrue (is_key (key ++ segment ∷ []))
+  child_key all valid fit =
+      is_key-from (key ++ segment ∷ []) (record {
+        some = omega (arith, length-append key (segment ∷ []));
+        valid = list_all-push is_segment key segment all ∙ valid;
+        fits = Fits-from (key ++ segment ∷ []) fit;
       })

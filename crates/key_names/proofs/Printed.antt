@@ -34,12 +34,11 @@ length-printed (segment ∷ next ∷ segments) some =
       sum_by-cons (λ (s : List ℕ). length (printed_segment s) + 1) segment (next ∷ segments),
     )
 
--- one segment more is a dot and the printed segment more
-pub length-printed-push : (segments : List (List ℕ)) (segment : List ℕ) → 0 < length segments → length (printed (segments ++ segment ∷ [])) ≡ length (printed segments) + 1 + length (printed_segment segment)
-length-printed-push segments segment some =
+-- one segment more is printed behind the others, each with a dot behind it
+pub length-printed-push : (segments : List (List ℕ)) (segment : List ℕ) → length (printed (segments ++ segment ∷ [])) ≡ sum_by (λ s. length (printed_segment s) + 1) segments + length (printed_segment segment)
+length-printed-push segments segment =
     omega (
       arith,
-      length-printed segments some,
       length-printed (segments ++ segment ∷ []) (omega (arith, length-append segments (segment ∷ []))),
       sum_by_push (λ (s : List ℕ). length (printed_segment s) + 1) segments segment,
     )

@@ -16,11 +16,20 @@ pub data FaultAt (text : List ℕ) : KeyFault → ℕ → Type 0 where
   -- Every byte after the opening quote may stand inside quotes.
   never_closed : (inside : List ℕ) → text ≡ 34 ∷ inside → IsTrue (list_all is_quotable inside) → FaultAt text Unclosed 0
   -- Behind bare characters, or none, a byte that neither is one nor ends them nor opens quotes.
-  in_bare : (run : List ℕ) (b : ℕ) (rest : List ℕ) → text ≡ run ++ b ∷ rest → IsTrue (list_all is_bare run) → is_bare b ≡ false → b ≢ 46 → (b ≡ 34 → run ≢ []) → FaultAt text BadByte (length run)
+  in_bare :
+      (run : List ℕ) (b : ℕ) (rest : List ℕ) → text ≡ run ++ b ∷ rest
+      → IsTrue (list_all is_bare run) → is_bare b ≡ false → b ≢ 46 → (b ≡ 34 → run ≢ [])
+      → FaultAt text BadByte (length run)
   -- Inside quotes, a byte that may not stand there.
-  in_quotes : (inside : List ℕ) (b : ℕ) (rest : List ℕ) → text ≡ 34 ∷ inside ++ b ∷ rest → IsTrue (list_all is_quotable inside) → is_quotable b ≡ false → b ≢ 34 → FaultAt text BadByte (1 + length inside)
+  in_quotes :
+      (inside : List ℕ) (b : ℕ) (rest : List ℕ) → text ≡ 34 ∷ inside ++ b ∷ rest
+      → IsTrue (list_all is_quotable inside) → is_quotable b ≡ false → b ≢ 34
+      → FaultAt text BadByte (1 + length inside)
   -- Behind a quoted segment, a byte other than a dot.
-  behind_quotes : (segment : List ℕ) (b : ℕ) (rest : List ℕ) → text ≡ quoted segment ++ b ∷ rest → IsTrue (is_segment segment) → b ≢ 46 → FaultAt text BadByte (length (quoted segment))
+  behind_quotes :
+      (segment : List ℕ) (b : ℕ) (rest : List ℕ) → text ≡ quoted segment ++ b ∷ rest
+      → IsTrue (is_segment segment) → b ≢ 46
+      → FaultAt text BadByte (length (quoted segment))
 
 -- Behind spellings of some segments, with a dot behind each, this fault stands.
 abbrev pub GrammarFault : List ℕ → KeyFault → ℕ → Type 0
@@ -43,9 +52,16 @@ pub data Breaks (segments : List (List ℕ)) : KeyFault → Type 0 where
 -- A text that spells the segments breaks this limit at this place.
 pub data LimitAt (text : List ℕ) (segments : List (List ℕ)) : KeyFault → ℕ → Type 0 where
   -- At the 33rd segment.
-  at_surplus : (first : List (List ℕ)) (surplus : List ℕ) (others : List (List ℕ)) (place : ℕ) → segments ≡ first ++ surplus ∷ others → length first ≡ 32 → BeginsAt text first place → LimitAt text segments TooMany place
+  at_surplus :
+      (first : List (List ℕ)) (surplus : List ℕ) (others : List (List ℕ)) (place : ℕ)
+      → segments ≡ first ++ surplus ∷ others → length first ≡ 32 → BeginsAt text first place
+      → LimitAt text segments TooMany place
   -- At the first segment with too long a file name.
-  at_overlong : (first : List (List ℕ)) (overlong : List ℕ) (others : List (List ℕ)) (place : ℕ) → segments ≡ first ++ overlong ∷ others → IsTrue (list_all has_short_name first) → has_short_name overlong ≡ false → BeginsAt text first place → LimitAt text segments SegmentTooLong place
+  at_overlong :
+      (first : List (List ℕ)) (overlong : List ℕ) (others : List (List ℕ)) (place : ℕ)
+      → segments ≡ first ++ overlong ∷ others
+      → IsTrue (list_all has_short_name first) → has_short_name overlong ≡ false → BeginsAt text first place
+      → LimitAt text segments SegmentTooLong place
   -- At the end of the text.
   at_end : LimitAt text segments TooLong (length text)
 
@@ -58,7 +74,10 @@ pub data Refuses (text : List ℕ) (kind : KeyFault) (place : ℕ) : Type 0 wher
 pub data SegmentFault (bytes : List ℕ) : KeyFault → ℕ → Type 0 where
   no_bytes : bytes ≡ [] → SegmentFault bytes Empty 0
   -- At the first byte that may not stand in quotes.
-  bad_byte : (front : List ℕ) (b : ℕ) (rest : List ℕ) → bytes ≡ front ++ b ∷ rest → IsTrue (list_all is_quotable front) → is_quotable b ≡ false → SegmentFault bytes BadByte (length front)
+  bad_byte :
+      (front : List ℕ) (b : ℕ) (rest : List ℕ) → bytes ≡ front ++ b ∷ rest
+      → IsTrue (list_all is_quotable front) → is_quotable b ≡ false
+      → SegmentFault bytes BadByte (length front)
 
 -- The key has no child with this segment, with this fault: of the segment, or else the first limit that the child breaks.
 pub data RefusesChild (key : List (List ℕ)) (segment : List ℕ) : KeyFault → ℕ → Type 0 where

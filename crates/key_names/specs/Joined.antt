@@ -14,15 +14,20 @@ Ends separator text = (text ≡ []) ⊎ Begins text (separator ∷ [])
 unfoldable pub Joins : {X : Type 0} → (List ℕ → X → Type 0) → ℕ → List ℕ → List X → Type 0
 Joins IsText separator text [] = ⊥
 Joins IsText separator text (x ∷ []) = IsText text x
-Joins IsText separator text (x ∷ y ∷ xs) = (front : List ℕ) × (rest : List ℕ) × (text ≡ front ++ separator ∷ rest) × IsText front x × Joins IsText separator rest (y ∷ xs)
+Joins IsText separator text (x ∷ y ∷ xs) =
+    (front : List ℕ) × (rest : List ℕ) × (text ≡ front ++ separator ∷ rest)
+    × IsText front x × Joins IsText separator rest (y ∷ xs)
 
 -- The text is made of a text of each item, with the separator behind each.
 unfoldable pub Leads : {X : Type 0} → (List ℕ → X → Type 0) → ℕ → List ℕ → List X → Type 0
 Leads IsText separator text [] = text ≡ []
-Leads IsText separator text (x ∷ xs) = (front : List ℕ) × (rest : List ℕ) × (text ≡ front ++ separator ∷ rest) × IsText front x × Leads IsText separator rest xs
+Leads IsText separator text (x ∷ xs) =
+    (front : List ℕ) × (rest : List ℕ) × (text ≡ front ++ separator ∷ rest)
+    × IsText front x × Leads IsText separator rest xs
 
 -- Behind texts of some items, with the separator behind each, this fault stands.
-pub record FaultBehind {X : Type 0} (IsText : List ℕ → X → Type 0) (separator : ℕ) (Fails : List ℕ → KeyFault → ℕ → Type 0) (text : List ℕ) (kind : KeyFault) (place : ℕ) : Type 0 where
+pub record FaultBehind {X : Type 0} (IsText : List ℕ → X → Type 0) (separator : ℕ) (Fails : List ℕ → KeyFault → ℕ → Type 0)
+    (text : List ℕ) (kind : KeyFault) (place : ℕ) : Type 0 where
   pub front : List ℕ
   pub items : List X
   pub rest : List ℕ

@@ -1,5 +1,5 @@
 //! The file names under which segments are stored.
-ghost use Rattle.std.specs.Prelude.{◌≡◌, ◌≤◌, ℕ, List, Ok, Some, None, IfOk, IfSome, sum_by, length};
+ghost use Rattle.std.specs.Prelude.{◌≡◌, ◌<◌, ◌≤◌, ◌⊎◌, ℕ, List, Ok, Some, None, IfOk, IfSome, sum_by, length};
 ghost use Rattle.key_names.specs.Segment.{glyph, file_name, has_short_name, IsFileNameOf};
 
 use crate::Bytes;
@@ -34,6 +34,7 @@ pub fn file_name(alloc: Global, segment: &[u8]) -> Result<Bytes, AllocError>
 fn segment_named(alloc: Global, name: &[u8]) -> Result<Option<Bytes>, AllocError>
     ensures some { IfOk result (λ o. IfSome o (IsFileNameOf name.now)) }
     ensures none { result ≡ Ok None → (segment : List ℕ) → ¬ IsFileNameOf name.now segment }
+    ensures refused { (length name.now ≡ 0) ⊎ (127 < length name.now) → result ≡ Ok None }
 {
     if name.is_empty() || name.len() > MAX_NAME {
         return Ok(None);
@@ -60,6 +61,9 @@ pub fn of_file_name(alloc: Global, name: &[u8]) -> Result<Option<Bytes>, AllocEr
     // So `Some` of exactly this segment, and `None` where there is none.
     ensures exact { (segment : List ℕ) → IsFileNameOf name.now segment
         → IfOk result (λ o. o ≡ Some segment) }
+
+    // A name of a length that none has is refused before any memory is asked for.
+    ensures refused { (length name.now ≡ 0) ⊎ (127 < length name.now) → result ≡ Ok None }
 {
     segment_named(alloc, name)
 }

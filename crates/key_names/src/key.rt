@@ -1,16 +1,16 @@
 //! Keys: lists of segments.
 ghost use Rattle.std.specs.Prelude.{◌≡◌, ◌≢◌, ◌<◌, ◌≤◌, ◌↔◌, ℕ, List, [], ◌∷◌, ◌++◌, length, slice_index_or, IfOk, IfErr, IsTrue};
+ghost use Rattle.std.specs.List.{list_all};
 ghost use Rattle.std.specs.Ordering.{eq_by_cmp};
 ghost use Rattle.key_names.specs.Order.{key_cmp};
 ghost use Rattle.key_names.specs.Segment.{is_segment};
-ghost use Rattle.key_names.specs.Key.{is_key, printed, is_prefix, overlaps};
+ghost use Rattle.key_names.specs.Key.{fits, is_key, printed, is_prefix, overlaps};
 ghost use Rattle.key_names.specs.Spelling.{SpellsKey};
 ghost use Rattle.key_names.specs.Faults.{Refuses, RefusesChild, IsRead, IsRefused};
 ghost use Rattle.key_names.specs.declared.key_error.KeyFault.{KeyFault};
 ghost use Rattle.key_names.specs.declared.key_error.KeyFault.TheVariants.{Memory};
 
-use crate::characters::segment_fault;
-use crate::limits::child_limit;
+use crate::limits::child_fault;
 use crate::printing::printed;
 use crate::segment::Segment;
 use crate::spelled::spelled_by;
@@ -99,35 +99,52 @@ impl Key {
         Key::of_text(alloc, text)
     }
 
-    // The child, or the first fault.
-    fn extended(&self, segment: &[u8]) -> Result<Key, KeyError>
-        ensures ok { IfOk result (λ key. key ≡ self.now ++ segment.now ∷ []) }
+    // The key of the segments and one more, or the first fault.
+    fn extended(alloc: Global, segments: &[Segment], segment: &[u8]) -> Result<Key, KeyError>
+        requires valid { IsTrue (list_all is_segment segments.now) }
+        requires fit { IsTrue (fits segments.now) }
+        ensures ok { IfOk result (λ key. key ≡ segments.now ++ segment.now ∷ []) }
         ensures valid { IfOk result (λ key. IsTrue (is_key key)) }
         ensures refused { IfErr result (λ e. e.kind ≢ Memory
-            → RefusesChild self.now segment.now e.kind e.place) }
+            → RefusesChild segments.now segment.now e.kind e.place) }
+        ensures exact { (kind : KeyFault) (place : ℕ) → RefusesChild segments.now segment.now kind place
+            → result ≡ Err (record { kind = kind; place = place }) }
     {
-        if let Some(fault) = segment_fault(segment) {
+        if let Some(fault) = child_fault(segments, segment) {
             return Err(fault);
         }
-        if let Some(kind) = child_limit(&self.segments, segment) {
-            return Err(KeyError { kind, place: 0 });
-        }
-        let segments = with_segment(&self.segments, *self.segments.allocator(), segment)?;
+        let segments = with_segment(segments, alloc, segment)?;
         Ok(Key { segments })
+    }
+
+    /// The key of one segment. Refused are, in this order: an empty segment (`Empty`); one with a byte
+    /// that may not stand in quotes (`BadByte`, at the first such); and one with a file name over 127
+    /// bytes (`SegmentTooLong`). The place is 0 but for `BadByte`. These come before any memory is
+    /// asked for; the only other error is want of memory.
+    pub fn of_segment(alloc: Global, segment: &[u8]) -> Result<Key, KeyError>
+        ensures ok { IfOk result (λ key. key ≡ segment.now ∷ []) }
+        ensures valid { IfOk result (λ key. IsTrue (is_key key)) }
+        ensures refused { IfErr result (λ e. e.kind ≢ Memory
+            → RefusesChild [] segment.now e.kind e.place) }
+        ensures exact { (kind : KeyFault) (place : ℕ) → RefusesChild [] segment.now kind place
+            → result ≡ Err (record { kind = kind; place = place }) }
+    {
+        Key::extended(alloc, &[], segment)
     }
 
     /// The key with one segment more. Refused are, in this order: an empty segment (`Empty`); one with
     /// a byte that may not stand in quotes (`BadByte`, at the first such); and a child that breaks a
-    /// limit (`TooMany`, `SegmentTooLong`, `TooLong`). The place is 0 but for `BadByte`.
+    /// limit (`TooMany`, `SegmentTooLong`, `TooLong`). The place is 0 but for `BadByte`. These come
+    /// before any memory is asked for; the only other error is want of memory.
     pub fn child(&self, segment: &[u8]) -> Result<Key, KeyError>
         ensures ok { IfOk result (λ key. key ≡ self.now ++ segment.now ∷ []) }
         ensures valid { IfOk result (λ key. IsTrue (is_key key)) }
         ensures refused { IfErr result (λ e. e.kind ≢ Memory
             → RefusesChild self.now segment.now e.kind e.place) }
         ensures exact { (kind : KeyFault) (place : ℕ) → RefusesChild self.now segment.now kind place
-            → IsRefused result kind place }
+            → result ≡ Err (record { kind = kind; place = place }) }
     {
-        self.extended(segment)
+        Key::extended(*self.segments.allocator(), &self.segments, segment)
     }
 
     /// The printed text: the segments joined by dots, in quotes those that hold another byte than bare

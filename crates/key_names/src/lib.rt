@@ -16,11 +16,9 @@ mod spelled;
 mod text;
 
 pub use bytes::Bytes;
+pub use characters::{are_bare, is_bare};
 pub use file_names::{file_name, of_file_name};
 pub use key::Key;
 pub use key_error::{KeyError, KeyFault};
 pub use list::read_list;
 pub use text::Text;
-
-#[cfg(test)]
-mod tests;

@@ -1,6 +1,6 @@
 //! The printed text of segments.
-ghost use Rattle.std.specs.Prelude.{◌≡◌, ◌≤◌, ◌<◌, ◌++◌, ◌∷◌, IfOk, OnOk, IsTrue, length, string_bytes};
-ghost use Rattle.std.specs.List.{list_all, flat_map};
+ghost use Rattle.std.specs.Prelude.{◌≡◌, ◌≤◌, ◌<◌, ◌+◌, ◌*◌, ◌++◌, ◌∷◌, IfOk, OnOk, IsTrue, length, string_bytes};
+ghost use Rattle.std.specs.List.{list_all, flat_map, sum_by};
 ghost use Rattle.key_names.specs.Segment.{is_quotable, printed_segment, has_short_name};
 ghost use Rattle.key_names.specs.Key.{printed};
 
@@ -66,6 +66,20 @@ pub fn printed_segment_len(segment: &[u8]) -> usize
     }
 }
 
+/// The length of the printed segments with a dot behind each, where they are few and short enough.
+pub fn dotted_len(segments: &[Segment]) -> usize
+    requires few { length segments.now ≤ 32 }
+    requires short { IsTrue (list_all has_short_name segments.now) }
+    ensures value { result ≡ sum_by (λ s. length (printed_segment s) + 1) segments.now }
+    ensures bound { result ≤ 130 * 32 }
+{
+    let mut len = 0;
+    for segment in segments {
+        len += printed_segment_len(segment.as_slice()) + 1;
+    }
+    len
+}
+
 /// The length of the printed text of segments that are few and short enough.
 pub fn printed_len(segments: &[Segment]) -> usize
     requires some { 0 < length segments.now }
@@ -73,10 +87,6 @@ pub fn printed_len(segments: &[Segment]) -> usize
     requires short { IsTrue (list_all has_short_name segments.now) }
     ensures { result ≡ length (printed segments.now) }
 {
-    let mut len = 0;
-    for segment in segments {
-        // with a dot behind it
-        len += printed_segment_len(segment.as_slice()) + 1;
-    }
-    len - 1
+    // without the last dot
+    dotted_len(segments) - 1
 }

@@ -1,5 +1,6 @@
 //! The segments that a text spells, and where they break limits.
-ghost use Rattle.std.specs.Prelude.{◌≡◌, ◌≢◌, ◌≤◌, ◌==◌, ◌||◌, ◌++◌, ◌∷◌, [], length, IsTrue, IfOk, IfErr, IfSome, OnOk, Some, None, is_some, if◌then◌else◌, MatchOption};
+ghost use Rattle.std.specs.Prelude.{◌≡◌, ◌≢◌, ◌≤◌, ◌==◌, ◌||◌, ◌++◌, ◌∷◌, [], length, if◌then◌else◌};
+ghost use Rattle.std.specs.Prelude.{IsTrue, IfOk, IfErr, IfSome, OnOk, Some, None, is_some, MatchOption};
 ghost use Rattle.key_names.specs.declared.key_error.KeyFault.TheVariants.{Memory};
 ghost use Rattle.key_names.specs.Segment.{is_segment, has_short_name};
 ghost use Rattle.key_names.specs.Spelling.{Spells};

@@ -8,8 +8,8 @@ returns-then-segments-ge-MAX_SEGMENTS c = child_too_many c.args.segments.now c.a
 pub returns-then-not-has_short_name : goal.returns-then-not-has_short_name
 returns-then-not-has_short_name c = child_segment_too_long c.args.segments.now c.args.segment.now c.requires c.if-segments-ge-MAX_SEGMENTS.false (sym c.has_short_name.ensures ∙ c.if-not-has_short_name.true)
 
-pub returns-then-printed_len-printed_segment_len-gt-MAX_PRINTED : goal.returns-then-printed_len-printed_segment_len-gt-MAX_PRINTED
-returns-then-printed_len-printed_segment_len-gt-MAX_PRINTED c = child_too_long c.args.segments.now c.args.segment.now c.requires c.if-segments-ge-MAX_SEGMENTS.false (sym c.has_short_name.ensures ∙ c.if-not-has_short_name.false) (omega arith)
+pub returns-then-dotted_len-printed_segment_len-gt-MAX_PRINTED : goal.returns-then-dotted_len-printed_segment_len-gt-MAX_PRINTED
+returns-then-dotted_len-printed_segment_len-gt-MAX_PRINTED c = child_too_long c.args.segments.now c.args.segment.now c.requires c.if-segments-ge-MAX_SEGMENTS.false (sym c.has_short_name.ensures ∙ c.if-not-has_short_name.false) (omega arith)
 
 pub returns : goal.returns
 returns c = child_fits c.args.segments.now c.args.segment.now c.requires c.if-segments-ge-MAX_SEGMENTS.false (sym c.has_short_name.ensures ∙ c.if-not-has_short_name.false) (omega arith)

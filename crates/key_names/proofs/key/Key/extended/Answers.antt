@@ -1,8 +1,12 @@
-use Rattle.key_names.specs.Faults.{segment_fault, child_limit}
+use Rattle.std.proofs.Common.{ap, Err}
+use Rattle.key_names.proofs.ChildFaults.{fault_is, no_child_fault}
 use Rattle.key_names.proofs.key.Key.extended.Goals as goal
 
-pub returns-in-Some-clause-refused : goal.returns-in-Some-clause-refused
-returns-in-Some-clause-refused c _ = segment_fault c.in-Some.fault.kind c.in-Some.fault.place c.in-Some.ensures
+pub returns-in-Some-clause-exact : goal.returns-in-Some-clause-exact
+returns-in-Some-clause-exact c kind place f = ap Err (fault_is c.args.segments.now c.args.segment.now c.in-Some.fault c.in-Some.ensures kind place f)
 
-pub returns-in-Some-child_limit-clause-refused : goal.returns-in-Some-child_limit-clause-refused
-returns-in-Some-child_limit-clause-refused c _ = child_limit c.in-Some-child_limit.kind c.in_default.ensures (rw (c.deref.ensures.value, c.self.view_is) at c.in-Some-child_limit.ensures)
+pub returns-in_err-segments-clause-exact : goal.returns-in_err-segments-clause-exact
+returns-in_err-segments-clause-exact c kind place f = absurd (no_child_fault c.args.segments.now c.args.segment.now c.in_default.ensures kind place f)
+
+pub returns-clause-exact : goal.returns-clause-exact
+returns-clause-exact c kind place f = absurd (no_child_fault c.args.segments.now c.args.segment.now c.in_default.ensures kind place f)

@@ -1,7 +1,7 @@
 use Rattle.std.proofs.Common.{◌≡◌, ◌≤◌, ◌+◌, ◌*◌, length, take}
 use Rattle.std.specs.List.{sum_by}
 use Rattle.key_names.specs.Segment.{printed_segment}
-use Rattle.key_names.proofs.printing.printed_len.Given as goal
+use Rattle.key_names.proofs.printing.dotted_len.Given as goal
 
 abbrev pub invariant-loop-segment : goal.invariant-loop-segment
 invariant-loop-segment l =
