@@ -1,6 +1,6 @@
 -- The keys of flattened trees are apart.
 use Rattle.std.proofs.Common.{◌≡◌, ℕ, List, [], ◌∷◌, ◌++◌, Option, Some, None, Result, Ok, Err, ok_or, option_map, Bool, true, false, ◌⊎◌, inl, inr, Less, take, length, length-append, ◌<◌, arith, append_assoc, append-nil, refl, sym, ap, ◌∙◌, subst}
-use Rattle.std.specs.List.{AllByRecursion}
+use Rattle.std.specs.List.{All, AllByRecursion}
 use Rattle.std.specs.Map.{keys_of}
 use Rattle.std.proofs.lemmas.List.{map-append, take_at}
 use Rattle.key_names.specs.Key.{is_key}
@@ -125,3 +125,10 @@ module _ {V : Type 0} (leaf : Data → Option V) where
         alike = λ i j d before within. alike i d (omega arith) ∙ sym (alike j d within);
       }
   ShareFirst-tree_pairs path _ pairs e = cc
+
+  -- the keys of the pairs of a JSON value that stands at a path begin with this path
+  pub All_below-tree_pairs : (path : Path) (d : Data) (pairs : List (Path × V)) → tree_pairs leaf path d ≡ Ok pairs → All (λ key. take (length path) key ≡ path) (keys_of pairs)
+  All_below-tree_pairs path (object ms) pairs e =
+      All-from (λ key. take (length path) key ≡ path) (keys_of pairs)
+      (AllByRecursion-weaker (GoesOn path ms) (λ key. take (length path) key ≡ path) (keys_of pairs) (λ key on. ap (take (length path)) on.3 ∙ take_at path (on.0 ∷ on.1) (length path) refl) (members_below path ms pairs e))
+  All_below-tree_pairs path _ pairs e = cc

@@ -1,11 +1,9 @@
--- Equality of items and scalars: tests that hold exactly of equal values, and their laws.
-use Rattle.std.proofs.Common.{◌≡◌, ℕ, List, Bool, true, false, ap, refl}
-use Rattle.std.specs.Bool.{Decides, beq}
+-- Equality of items and scalars, as tests.
+use Rattle.std.specs.Prelude.{Bool, true, false, List}
+use Rattle.std.specs.Bool.{beq}
 use Rattle.std.specs.Ordering.{int_eq, eq_by_cmp}
-use Rattle.std.specs.Cmp.{IsEquivalence, IsPartialEquivalence, partial_equiv_from_equiv, decided, booleans_Decides, signed_Decides}
-use Rattle.std.specs.Cmp.Lexicographic.{pointwise, pointwise_decides}
+use Rattle.std.specs.Cmp.Lexicographic.{pointwise}
 use Rattle.key_names.specs.Order.{bytes_cmp}
-use Rattle.key_names.proofs.Ties.{same_bytes}
 use Rattle.json_trees.specs.declared.item.Item.{Item}
 use Rattle.json_trees.specs.declared.item.Item.TheVariants as item
 use Rattle.json_trees.specs.declared.scalar.Scalar.{Scalar}
@@ -37,55 +35,3 @@ abbrev pub pending_eq : Pending → Pending → Bool
 pending_eq (pending.Put a) (pending.Put b) = scalar_eq a b
 pending_eq pending.Gone pending.Gone = true
 pending_eq _ _ = false
-
-text_Decides : (a b : List ℕ) → Decides (eq_by_cmp bytes_cmp a b) (a ≡ b)
-text_Decides a b = same_bytes a b _ _ refl refl
-
--- Items are equal exactly where the test holds.
-pub item_eq-Decides : (a b : Item) → Decides (item_eq a b) (a ≡ b)
-item_eq-Decides (item.Bool a) (item.Bool b) = (λ e. ap item.Bool ((booleans_Decides a b).0 e), λ e. (booleans_Decides a b).1 (cc))
-item_eq-Decides (item.Int a) (item.Int b) = (λ e. ap item.Int ((signed_Decides a b).0 e), λ e. (signed_Decides a b).1 (cc))
-item_eq-Decides (item.Text a) (item.Text b) = (λ e. ap item.Text ((text_Decides a b).0 e), λ e. (text_Decides a b).1 (cc))
-item_eq-Decides _ _ = (λ e. cc, λ e. cc)
-
--- Lists of items are equal exactly where the test holds.
-pub items_eq-Decides : (a b : List Item) → Decides (items_eq a b) (a ≡ b)
-items_eq-Decides = pointwise_decides item_eq-Decides
-
--- Scalars are equal exactly where the test holds.
-pub scalar_eq-Decides : (a b : Scalar) → Decides (scalar_eq a b) (a ≡ b)
-scalar_eq-Decides (scalar.Bool a) (scalar.Bool b) = (λ e. ap scalar.Bool ((booleans_Decides a b).0 e), λ e. (booleans_Decides a b).1 (cc))
-scalar_eq-Decides (scalar.Int a) (scalar.Int b) = (λ e. ap scalar.Int ((signed_Decides a b).0 e), λ e. (signed_Decides a b).1 (cc))
-scalar_eq-Decides (scalar.Text a) (scalar.Text b) = (λ e. ap scalar.Text ((text_Decides a b).0 e), λ e. (text_Decides a b).1 (cc))
-scalar_eq-Decides (scalar.List a) (scalar.List b) = (λ e. ap scalar.List ((items_eq-Decides a b).0 e), λ e. (items_eq-Decides a b).1 (cc))
-scalar_eq-Decides _ _ = (λ e. cc, λ e. cc)
-
--- Pending values are equal exactly where the test holds.
-pub pending_eq-Decides : (a b : Pending) → Decides (pending_eq a b) (a ≡ b)
-pending_eq-Decides (pending.Put a) (pending.Put b) = (λ e. ap pending.Put ((scalar_eq-Decides a b).0 e), λ e. (scalar_eq-Decides a b).1 (cc))
-pending_eq-Decides pending.Gone pending.Gone = (λ _. refl, λ _. refl)
-pending_eq-Decides _ _ = (λ e. cc, λ e. cc)
-
-pub item_equal : IsEquivalence item_eq
-item_equal = decided item_eq item_eq-Decides
-
-pub items_equal : IsEquivalence items_eq
-items_equal = decided items_eq items_eq-Decides
-
-pub scalars_equal : IsEquivalence scalar_eq
-scalars_equal = decided scalar_eq scalar_eq-Decides
-
-pub pending_equal : IsEquivalence pending_eq
-pending_equal = decided pending_eq pending_eq-Decides
-
-pub item_equal_partly : IsPartialEquivalence item_eq
-item_equal_partly = partial_equiv_from_equiv item_equal
-
-pub items_equal_partly : IsPartialEquivalence items_eq
-items_equal_partly = partial_equiv_from_equiv items_equal
-
-pub scalars_equal_partly : IsPartialEquivalence scalar_eq
-scalars_equal_partly = partial_equiv_from_equiv scalars_equal
-
-pub pending_equal_partly : IsPartialEquivalence pending_eq
-pending_equal_partly = partial_equiv_from_equiv pending_equal

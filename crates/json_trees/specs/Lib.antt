@@ -1,4 +1,5 @@
 pub mod Equal
+pub mod EqualLaws
 pub mod Collected
 pub mod Json
 pub mod Scalar

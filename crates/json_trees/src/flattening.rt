@@ -1,5 +1,5 @@
 //! JSON trees as lists of pairs.
-ghost use Rattle.std.specs.Prelude.{◌≡◌, ◌≢◌, Ok, Err, OnOk, IfOk, IfErr, length};
+ghost use Rattle.std.specs.Prelude.{◌≡◌, ◌≢◌, Ok, Err, OnOk, IfOk, IfErr, All, length, take};
 ghost use Rattle.serde_json.specs.View.{view, members_view};
 ghost use Rattle.std.specs.Map.{keys_of};
 ghost use Rattle.json_trees.specs.Apart.{AreApart};
@@ -31,6 +31,8 @@ pub fn flatten(
     ensures apart { IfOk result (λ pairs. AreApart (keys_of pairs.items)) }
     ensures shared { IfOk result
         (λ pairs. ShareFirst (length (path_of under.entry)) (keys_of pairs.items)) }
+    ensures below { IfOk result (λ pairs. All
+        (λ key. take (length (path_of under.entry)) key ≡ path_of under.entry) (keys_of pairs.items)) }
     ensures err { IfErr result
         (λ e. e ≢ Memory → flattened scalar_leaf (path_of under.entry) json.now ≡ Err e) }
 {
@@ -47,6 +49,8 @@ pub fn flatten_patch(
     ensures ok { IfOk result (λ pairs. flattened pending_leaf under.now json.now ≡ Ok pairs.items) }
     ensures apart { IfOk result (λ pairs. AreApart (keys_of pairs.items)) }
     ensures shared { IfOk result (λ pairs. ShareFirst (length under.now) (keys_of pairs.items)) }
+    ensures below { IfOk result (λ pairs. All
+        (λ key. take (length under.now) key ≡ under.now) (keys_of pairs.items)) }
     ensures err { IfErr result
         (λ e. e ≢ Memory → flattened pending_leaf under.now json.now ≡ Err e) }
 {
@@ -63,6 +67,8 @@ fn pairs_of<L: Leaf + Drop>(
     ensures apart { IfOk result (λ pairs. AreApart (keys_of pairs.items)) }
     ensures shared { IfOk result
         (λ pairs. ShareFirst (length (path_of under.entry)) (keys_of pairs.items)) }
+    ensures below { IfOk result (λ pairs. All
+        (λ key. take (length (path_of under.entry)) key ≡ path_of under.entry) (keys_of pairs.items)) }
     ensures err { IfErr result
         (λ e. e ≢ Memory → flattened L.leaf (path_of under.entry) json.now ≡ Err e) }
 {

@@ -29,7 +29,8 @@ impl Item {
 }
 
 impl PartialEq for Item {
-    ghost use Rattle.json_trees.specs.Equal.{item_eq, item_equal_partly};
+    ghost use Rattle.json_trees.specs.Equal.{item_eq};
+    ghost use Rattle.json_trees.specs.EqualLaws.{item_equal_partly};
 
     ghost eq = { item_eq };
 
@@ -49,7 +50,7 @@ impl PartialEq for Item {
 }
 
 impl Eq for Item {
-    ghost use Rattle.json_trees.specs.Equal.{item_equal};
+    ghost use Rattle.json_trees.specs.EqualLaws.{item_equal};
 
     ghost laws = { item_equal };
 }

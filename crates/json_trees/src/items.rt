@@ -55,7 +55,8 @@ impl Items {
 }
 
 impl PartialEq for Items {
-    ghost use Rattle.json_trees.specs.Equal.{items_eq, items_equal_partly};
+    ghost use Rattle.json_trees.specs.Equal.{items_eq};
+    ghost use Rattle.json_trees.specs.EqualLaws.{items_equal_partly};
 
     ghost eq = { items_eq };
 
@@ -70,7 +71,7 @@ impl PartialEq for Items {
 }
 
 impl Eq for Items {
-    ghost use Rattle.json_trees.specs.Equal.{items_equal};
+    ghost use Rattle.json_trees.specs.EqualLaws.{items_equal};
 
     ghost laws = { items_equal };
 }

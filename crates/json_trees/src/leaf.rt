@@ -29,7 +29,8 @@ pub trait Leaf: Sized {
         ensures err { IfErr result
             (λ e. e ≢ Memory → (e ≡ BadValue) × (leaf (view value) ≡ None)) };
 
-    /// Writes the tokens of the leaf.
+    /// Writes the tokens of the leaf. The only error is want of memory; after it the writer's tokens
+    /// are any, so that what was written is to be dropped.
     fn write(&self, writer: &mut Writer) -> Result<(), AllocError>
         ensures tokens { OnOk result
             (writer.new.tokens ≡ writer.old.tokens ++ data_tokens (written self.now)) }

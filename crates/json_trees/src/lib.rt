@@ -13,8 +13,6 @@ mod pending;
 mod reading;
 mod scalar;
 mod scalar_error;
-#[cfg(test)]
-mod tests;
 mod tree_error;
 mod writing;
 

@@ -26,7 +26,8 @@ impl Pending {
 }
 
 impl PartialEq for Pending {
-    ghost use Rattle.json_trees.specs.Equal.{pending_eq, pending_equal_partly};
+    ghost use Rattle.json_trees.specs.Equal.{pending_eq};
+    ghost use Rattle.json_trees.specs.EqualLaws.{pending_equal_partly};
 
     ghost eq = { pending_eq };
 
@@ -45,7 +46,7 @@ impl PartialEq for Pending {
 }
 
 impl Eq for Pending {
-    ghost use Rattle.json_trees.specs.Equal.{pending_equal};
+    ghost use Rattle.json_trees.specs.EqualLaws.{pending_equal};
 
     ghost laws = { pending_equal };
 }

@@ -67,7 +67,8 @@ impl Scalar {
 }
 
 impl PartialEq for Scalar {
-    ghost use Rattle.json_trees.specs.Equal.{scalar_eq, scalars_equal_partly};
+    ghost use Rattle.json_trees.specs.Equal.{scalar_eq};
+    ghost use Rattle.json_trees.specs.EqualLaws.{scalars_equal_partly};
 
     ghost eq = { scalar_eq };
 
@@ -88,7 +89,7 @@ impl PartialEq for Scalar {
 }
 
 impl Eq for Scalar {
-    ghost use Rattle.json_trees.specs.Equal.{scalars_equal};
+    ghost use Rattle.json_trees.specs.EqualLaws.{scalars_equal};
 
     ghost laws = { scalars_equal };
 }

@@ -1,5 +1,5 @@
 use Rattle.std.proofs.Common.{rules}
-use Rattle.json_trees.specs.Equal.{item_eq-Decides}
+use Rattle.json_trees.specs.EqualLaws.{item_eq-Decides}
 use Rattle.json_trees.proofs.Tested.{tested}
 use Rattle.json_trees.proofs.item.ItemPartialEq.eq.Goals as goal
 

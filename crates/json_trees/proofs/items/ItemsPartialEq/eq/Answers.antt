@@ -1,5 +1,5 @@
 use Rattle.std.proofs.Common.{rules}
-use Rattle.json_trees.specs.Equal.{items_eq-Decides}
+use Rattle.json_trees.specs.EqualLaws.{items_eq-Decides}
 use Rattle.json_trees.proofs.Tested.{tested}
 use Rattle.json_trees.proofs.items.ItemsPartialEq.eq.Goals as goal
 

@@ -1,5 +1,5 @@
 use Rattle.std.proofs.Common.{rules}
-use Rattle.json_trees.specs.Equal.{pending_eq-Decides}
+use Rattle.json_trees.specs.EqualLaws.{pending_eq-Decides}
 use Rattle.json_trees.proofs.Tested.{tested}
 use Rattle.json_trees.proofs.pending.PendingPartialEq.eq.Goals as goal
 

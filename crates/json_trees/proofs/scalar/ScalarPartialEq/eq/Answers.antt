@@ -1,5 +1,5 @@
 use Rattle.std.proofs.Common.{rules}
-use Rattle.json_trees.specs.Equal.{scalar_eq-Decides}
+use Rattle.json_trees.specs.EqualLaws.{scalar_eq-Decides}
 use Rattle.json_trees.proofs.Tested.{tested}
 use Rattle.json_trees.proofs.scalar.ScalarPartialEq.eq.Goals as goal
 
