@@ -1,6 +1,9 @@
 pub mod BTreeMaps
 pub mod BareNames
 pub mod CopiedMaps
+pub mod KeySets
+pub mod Merged
 pub mod NestedMaps
 pub mod RisingKeys
+pub mod RisingTests
 pub mod SortedEntries

@@ -1,14 +1,13 @@
 -- Rising lists of keys, and the search in them.
-use Rattle.std.proofs.Common.{arith, ◌≡◌, ◌<◌, ◌≤◌, ◌⊎◌, inl, inr, ◌||◌, ◌+◌, ℕ, zero, suc, List, [], ◌∷◌, ◌++◌, length, take, drop, slice_index_or, filter, not, cond, Bool, true, false, refl, sym, ◌∙◌, ap, subst}
+use Rattle.std.proofs.Common.{arith, ◌≡◌, ◌<◌, ◌≤◌, ◌⊎◌, inl, inr, ◌+◌, ℕ, zero, suc, List, [], ◌∷◌, length, slice_index_or, filter, not, cond, true, false, refl, sym, ◌∙◌, ap, subst}
 use Rattle.std.specs.Prelude.{remove}
 use Rattle.std.specs.declared.cmp.Ordering.{Ordering}
 use Rattle.std.specs.declared.cmp.Ordering.TheVariants.{Less, Equal, Greater}
 use Rattle.std.specs.Ordering.{eq_by_cmp, is_eq, is_lt, ordering_index, ordering_reverse}
 use Rattle.std.specs.Cmp.{IsTotalOrder}
-use Rattle.std.specs.FinMap.{IsAntisymmetric}
-use Rattle.std.specs.List.{AllByRecursion, AllWithin, list_any}
-use Rattle.std.specs.List.Sorted.{IsStrictlySortedBy, IsSortedBy, IsNonDecreasingBy, IsPartitionPoint}
-use Rattle.std.proofs.lemmas.Bool.{cases_lt, or_right}
+use Rattle.std.specs.List.{AllByRecursion}
+use Rattle.std.specs.List.Sorted.{IsStrictlySortedBy, IsNonDecreasingBy, IsPartitionPoint}
+use Rattle.std.proofs.lemmas.Bool.{cases_lt}
 use Rattle.std.proofs.lemmas.List.Kept.{IsStrictlySortedBy-filter}
 use Rattle.std.proofs.lemmas.List.Sorted.{searchable_from_sorted}
 use Rattle.std.proofs.lemmas.Map.Keys.{Less-from_sorted, sorted_head, sorted_tail}
@@ -76,32 +75,12 @@ module _ {K : Type 0} {R : K → K → Ordering} (o : IsTotalOrder R) where
   pub not_found : (ks : List K) (i : ℕ) (k : K) → IsPartitionPoint (λ y. R y k ≡ Less) (λ y. R y k ≡ Greater) ks i → filter (λ q. not (eq_by_cmp R k q)) ks ≡ ks
   not_found ks i k point = none_left_out ks k (apart_from_point ks i k point)
 
-  -- An element that ties with k is one of the list.
-  any_at : (ks : List K) (i : ℕ) (k : K) → i < length ks → ((d : K) → R (slice_index_or ks i d) k ≡ Equal) → list_any (eq_by_cmp R k) ks ≡ true
-  any_at [] i k low tie = absurd (omega arith)
-  any_at (x ∷ ks) zero k low tie = ap (λ r. is_eq r || list_any (eq_by_cmp R k) ks) (turned k x Equal (tie x))
-  any_at (x ∷ ks) (suc i) k low tie = or_right (eq_by_cmp R k x) _ (any_at ks i k (omega arith) tie)
-
-  none_any : (ks : List K) (k : K) → ((j : ℕ) → j < length ks → (d : K) → eq_by_cmp R k (slice_index_or ks j d) ≡ false) → list_any (eq_by_cmp R k) ks ≡ false
-  none_any [] k none = refl
-  none_any (x ∷ ks) k none = ap (λ b. b || list_any (eq_by_cmp R k) ks) (none 0 (omega arith) x) ∙ none_any ks k (λ j low d. none (suc j) (omega arith) d)
-
--- What a search in the list found is in it.
-pub found_in : (keys list : List (List (List ℕ))) (i : ℕ) (key : List (List ℕ)) → list ≡ keys → i < length list → ((d : List (List ℕ)) → key_cmp (slice_index_or list i d) key ≡ Equal) → true ≡ list_any (eq_by_cmp key_cmp key) keys
-found_in keys list i key is low tie = sym (ap (list_any (eq_by_cmp key_cmp key)) (sym is) ∙ any_at key_total list i key low tie)
-
--- What a search in the list did not find is not in it.
-pub not_found_in : (keys list : List (List (List ℕ))) (i : ℕ) (key : List (List ℕ)) → list ≡ keys → IsRising keys → (IsNonDecreasingBy (λ y. ordering_index (key_cmp y key)) list → IsPartitionPoint (λ y. key_cmp y key ≡ Less) (λ y. key_cmp y key ≡ Greater) list i) → false ≡ list_any (eq_by_cmp key_cmp key) keys
-not_found_in keys list i key is rises point =
-    let at : IsPartitionPoint (λ y. key_cmp y key ≡ Less) (λ y. key_cmp y key ≡ Greater) keys i = subst (λ (l : List (List (List ℕ))). IsNonDecreasingBy (λ y. ordering_index (key_cmp y key)) l → IsPartitionPoint (λ y. key_cmp y key ≡ Less) (λ y. key_cmp y key ≡ Greater) l i) is point (searchable key_total keys key rises) in
-    sym (none_any key_total keys key (apart_from_point key_total keys i key at))
-
 -- What a search in the list found is removed.
 pub found_removed : (keys list others : List (List (List ℕ))) (i : ℕ) (key : List (List ℕ)) → list ≡ keys → IsRising keys → others ≡ remove keys i → i < length list → ((d : List (List ℕ)) → key_cmp (slice_index_or list i d) key ≡ Equal) → others ≡ without_key keys key
 found_removed keys list others i key is rises left low tie =
     left ∙ removed key_total keys i key rises (subst (λ (l : List (List (List ℕ))). i < length l) is low) (λ d. ap (λ (l : List (List (List ℕ))). key_cmp (slice_index_or l i d) key) (sym is) ∙ tie d)
 
--- What a search in the list did not find is not in it.
+-- Where a search did not find the key, the list is the one without it.
 pub not_found_stays : (keys list : List (List (List ℕ))) (i : ℕ) (key : List (List ℕ)) → list ≡ keys → IsRising keys → (IsNonDecreasingBy (λ y. ordering_index (key_cmp y key)) list → IsPartitionPoint (λ y. key_cmp y key ≡ Less) (λ y. key_cmp y key ≡ Greater) list i) → keys ≡ without_key keys key
 not_found_stays keys list i key is rises point =
     sym (not_found key_total keys i key (subst (λ (l : List (List (List ℕ))). IsNonDecreasingBy (λ y. ordering_index (key_cmp y key)) l → IsPartitionPoint (λ y. key_cmp y key ≡ Less) (λ y. key_cmp y key ≡ Greater) l i) is point (searchable key_total keys key rises)))

@@ -1,9 +1,7 @@
 //! Lists of keys that rise.
-ghost use Rattle.std.specs.Prelude.{◌≡◌, ◌↔◌, [], Contains, IfOk, IsTrue};
-ghost use Rattle.std.specs.List.{list_any};
-ghost use Rattle.std.specs.Ordering.{eq_by_cmp};
-ghost use Rattle.key_names.specs.Order.{key_cmp};
-ghost use Rattle.settings_maps.specs.KeyList.{IsRising, without_key};
+ghost use Rattle.std.specs.Prelude.{◌≡◌, ◌↔◌, [], IfOk, IsTrue};
+ghost use Rattle.std.specs.List.{list_all, list_any};
+ghost use Rattle.settings_maps.specs.KeyList.{IsRising, has_key, without_key};
 
 use key_names::Key;
 use std::alloc::{AllocError, Global};
@@ -35,6 +33,13 @@ fn copy_keys(alloc: Global, keys: &[Key]) -> Result<Vec<Key>, AllocError>
         copies.push(key.copy()?)?;
     }
     Ok(copies)
+}
+
+fn has_key(keys: &[Key], key: &Key) -> bool
+    requires { IsRising keys.now }
+    ensures { result ≡ has_key keys.now key.now }
+{
+    keys.binary_search(key).is_ok()
 }
 
 #[tactic(auto, using(crate::proofs::RisingKeys::rising_keys))]
@@ -77,14 +82,46 @@ impl KeyList {
         *self.keys.allocator()
     }
 
+    /// Whether the keys rise, so that they make a list. It takes a step for each key and no memory.
+    pub fn rise(keys: &[Key]) -> bool
+        ensures { IsTrue result ↔ IsRising keys.now }
+    {
+        keys.is_sorted_by(|a, b| a.cmp(b).is_lt())
+    }
+
+    /// The keys in their order, given up by the list. It takes no memory.
+    pub fn into_keys(self) -> Vec<Key>
+        ensures items { result.items ≡ self }
+        ensures rising { IsRising self }
+    {
+        self.keys
+    }
+
     /// Whether the list has the key. It is logarithmic and takes no memory.
     pub fn contains(&self, key: &Key) -> bool
-        ensures { result ≡ list_any (eq_by_cmp key_cmp key.now) self.now }
+        ensures { result ≡ has_key self.now key.now }
     {
-        match self.keys.binary_search(key) {
-            Ok(_) => true,
-            Err(_) => false,
-        }
+        has_key(&self.keys, key)
+    }
+
+    /// Whether the list has one of these keys. It takes a logarithmic step for each of them and no
+    /// memory.
+    pub fn contains_any(&self, keys: &[Key]) -> bool
+        ensures any { result ≡ list_any (has_key self.now) keys.now }
+        ensures rising { IsRising self.now }
+    {
+        let list = self.as_slice();
+        keys.iter().any(|key| has_key(list, key))
+    }
+
+    /// Whether the list has all of these keys. It takes a logarithmic step for each of them and no
+    /// memory.
+    pub fn contains_all(&self, keys: &[Key]) -> bool
+        ensures all { result ≡ list_all (has_key self.now) keys.now }
+        ensures rising { IsRising self.now }
+    {
+        let list = self.as_slice();
+        keys.iter().all(|key| has_key(list, key))
     }
 
     /// Removes the key, if the list has it. It takes no memory. It is logarithmic, but that the keys

@@ -5,6 +5,7 @@
 
 mod key_list;
 mod key_map;
+mod key_sets;
 mod meta_name;
 mod metadata;
 mod named_values;
@@ -20,6 +21,3 @@ pub use named_values::NamedValues;
 pub use transactions::Transactions;
 pub use tree_maps::Copied;
 pub use tx_name::TxName;
-
-#[cfg(test)]
-mod tests;

@@ -79,10 +79,12 @@ impl Metadata {
     }
 
     /// Puts the value at the key and the name, over the one that stands there if there is one. The
-    /// only error is want of memory, which leaves the metadata unchanged.
+    /// only error is want of memory, which comes only where nothing stands there, and leaves the
+    /// metadata unchanged.
     pub fn put(&mut self, key: Key, name: Text, value: Scalar) -> Result<(), AllocError>
         ensures ok { OnOk result (self.new ≡ with_value self.old key name value) }
         ensures err { OnErr result (self.new ≡ self.old) }
+        ensures absent { OnErr result (value_at self.old key name ≡ None) }
     {
         if self.map.contains_key(&key) {
             self.put_in(&key, name, value)

@@ -88,10 +88,12 @@ impl Transactions {
     }
 
     /// Puts what is pending in the transaction for the key, over what stands there if there is
-    /// something. The only error is want of memory, which leaves the map unchanged.
+    /// something. The only error is want of memory, which comes only where nothing stands there, and
+    /// leaves the map unchanged.
     pub fn put(&mut self, tx: TxName, key: Key, value: Pending) -> Result<(), AllocError>
         ensures ok { OnOk result (self.new ≡ with_value self.old tx key value) }
         ensures err { OnErr result (self.new ≡ self.old) }
+        ensures absent { OnErr result (value_at self.old tx key ≡ None) }
     {
         if self.map.contains_key(&tx) {
             self.put_in(&tx, key, value)

@@ -1,12 +1,10 @@
 //! Names of transactions.
-ghost use Rattle.std.specs.Prelude.{◌≡◌, ◌↔◌, IfOk, IsTrue, IfSome, IfNone, false};
-ghost use Rattle.std.specs.List.{list_all};
+ghost use Rattle.std.specs.Prelude.{◌≡◌, ◌↔◌, IfOk, IsTrue, IfSome, IfNone, Ok, None, false};
 ghost use Rattle.std.specs.Ordering.{eq_by_cmp};
 ghost use Rattle.key_names.specs.Order.{bytes_cmp};
-ghost use Rattle.key_names.specs.Segment.{is_bare};
 ghost use Rattle.settings_maps.specs.TxName.{is_tx_name};
 
-use key_names::Text;
+use key_names::{Text, are_bare};
 use std::alloc::{AllocError, Global};
 use std::cmp::Ordering;
 use std::marker::Model;
@@ -31,11 +29,12 @@ impl Model for TxName {
 
 #[tactic(auto, using(crate::proofs::BareNames::bare_names))]
 impl TxName {
-    /// The name with these bytes; None exactly where they aren't 1 to 64 bare characters. The only
-    /// error is want of memory.
+    /// The name with these bytes; None exactly where they aren't 1 to 64 bare characters, which is
+    /// found before any memory is asked for. The only error is want of memory.
     pub fn read(alloc: Global, text: &[u8]) -> Result<Option<TxName>, AllocError>
         ensures some { IfOk result (λ o. IfSome o (λ name. name ≡ text.now × IsTrue (is_tx_name text.now))) }
         ensures none { IfOk result (λ o. IfNone o (is_tx_name text.now ≡ false)) }
+        ensures refused { is_tx_name text.now ≡ false → result ≡ Ok None }
     {
         let Ok(text) = str::from_utf8(text) else {
             return Ok(None);
@@ -68,18 +67,6 @@ fn is_tx_name(bytes: &[u8]) -> bool
     ensures { result ≡ is_tx_name bytes.now }
 {
     !bytes.is_empty() && bytes.len() <= 64 && are_bare(bytes)
-}
-
-pub(crate) fn are_bare(bytes: &[u8]) -> bool
-    ensures { result ≡ list_all is_bare bytes.now }
-{
-    bytes.iter().all(|b| is_bare(*b))
-}
-
-fn is_bare(b: u8) -> bool
-    ensures { result ≡ is_bare b }
-{
-    b.is_ascii_alphanumeric() || b == b'_' || b == b'-'
 }
 
 impl PartialEq for TxName {

@@ -1,0 +1,9 @@
+use Rattle.std.proofs.Common.{sym, ◌∙◌, ap, subst}
+use Rattle.settings_maps.specs.KeyList.{IsRising, joined}
+use Rattle.settings_maps.proofs.Merged.{merged_rises}
+use Rattle.settings_maps.proofs.key_list.KeyList.joined.Goals as goal
+
+pub of-requires : goal.of-requires
+of-requires c =
+    subst IsRising (sym (c.in_ok-all.ensures ∙ ap (λ l. joined l c.as_slice-2.result.now) c.as_slice.ensures.items ∙ ap (joined c.args.self.now) c.as_slice-2.ensures.items))
+    (merged_rises c.args.self.now c.args.others.now c.as_slice.ensures.rising c.as_slice-2.ensures.rising)
