@@ -1,5 +1,5 @@
 -- Prefixes and the order of keys.
-use Rattle.std.proofs.Common.{arith, ◌≡◌, List, [], ◌∷◌, Bool, true, false, ◌&&◌, refl, sym, ◌∙◌, ap, IsTrue, ◌⊎◌, inl, inr, subst, ℕ}
+use Rattle.std.proofs.Common.{arith, ◌≡◌, List, [], ◌∷◌, ◌++◌, Bool, true, false, ◌&&◌, refl, sym, ◌∙◌, ap, IsTrue, ◌⊎◌, inl, inr, subst, ℕ}
 use Rattle.std.specs.declared.cmp.Ordering.{Ordering}
 use Rattle.std.specs.declared.cmp.Ordering.TheVariants.{Less, Equal, Greater}
 use Rattle.std.specs.Ordering.{eq_by_cmp, is_eq, is_gt, ordering_then, ordering_reverse}
@@ -56,3 +56,12 @@ prefix_order [] [] is = inl refl
 prefix_order [] (k ∷ ks) is = inr refl
 prefix_order (p ∷ ps) [] is = absurd (no_more p ps is)
 prefix_order (p ∷ ps) (k ∷ ks) is = both_heads p k ps ks is (prefix_order ps ks ((heads p k ps ks is).1))
+
+-- What begins with a key is that key and more.
+pub prefix_splits : (p k : List (List ℕ)) → IsTrue (is_prefix p k) → (rest : List (List ℕ)) × (k ≡ p ++ rest)
+prefix_splits [] k is = (k, refl)
+prefix_splits (p ∷ ps) [] is = absurd (no_more p ps is)
+prefix_splits (p ∷ ps) (k ∷ ks) is =
+    let parts = heads p k ps ks is in
+    let r = prefix_splits ps ks parts.1 in
+    (r.0, ap (λ (h : List ℕ). h ∷ ks) (sym parts.0) ∙ ap (λ (t : List (List ℕ)). p ∷ t) r.1)

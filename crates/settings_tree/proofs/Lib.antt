@@ -1,3 +1,4 @@
+pub mod ApartKeys
 pub mod Below
 pub mod Contents
 pub mod HeldRules
@@ -6,6 +7,7 @@ pub mod LaidAt
 pub mod Laying
 pub mod PendingMaps
 pub mod PrefixRule
+pub mod Rising
 pub mod RoomsLaid
 pub mod RoomsUndone
 pub mod SettingKeys

@@ -1,7 +1,10 @@
 //! Contents.
-ghost use Rattle.std.specs.Prelude.{◌≡◌, IfOk, OnOk, OnErr, IsTrue, IfSome, IfNone, All, Some, None, false};
+ghost use Rattle.std.specs.Prelude.{◌≡◌, ◌↔◌, ◌<◌, ℕ, take, length, IfOk, OnOk, OnErr, IsTrue, IfSome, IfNone, All, Some, None, false};
 ghost use Rattle.std.specs.BTreeMap.Range.{IsLeBy};
+ghost use Rattle.std.specs.Map.{keys_of};
 ghost use Rattle.key_names.specs.Order.{key_cmp};
+ghost use Rattle.json_trees.specs.Apart.{AreApart};
+ghost use Rattle.json_trees.specs.Nested.{ShareFirst};
 ghost use Rattle.settings_tree.specs.Walks.{IsLeastBelow, HasNoneBelow, entries_below};
 ghost use Rattle.std.specs.Option.{option_copied};
 ghost use Rattle.std.specs.FinMap as map;
@@ -12,6 +15,7 @@ ghost use Rattle.settings_tree.specs.Rule.{Fits, Clashes};
 ghost use Rattle.settings_maps.specs.TxName.{is_meta_name};
 
 use crate::rule::fits;
+use crate::setting::may_be_weak;
 use json_trees::Scalar;
 use key_names::{Key, Text};
 use settings_maps::{Copied, KeyList, KeyMap, Metadata};
@@ -81,11 +85,13 @@ impl Content {
 
     /// Puts the value at the key, over the one that stands there if there is one. The key is strong
     /// from then on. It is logarithmic, but that the weak keys after one that it makes strong move
-    /// up. The only error is want of memory, which leaves the content unchanged.
+    /// up. The only error is want of memory, which comes only at a key without a value, and leaves the
+    /// content unchanged.
     pub fn put(&mut self, key: Key, value: Scalar) -> Result<(), AllocError>
         requires { Fits self.old.values key }
         ensures ok { OnOk result (self.new ≡ record self.old { values = map.insert self.old.values key value; weak = without_key self.old.weak key }) }
         ensures err { OnErr result (self.new ≡ self.old) }
+        ensures absent { OnErr result (map.get self.old.values key ≡ None) }
     {
         if self.values.get(&key).is_some() {
             self.weak.remove(&key);
@@ -109,11 +115,13 @@ impl Content {
 
     /// Puts metadata at the key and the name, over what stands there if there is something. It is
     /// logarithmic in the keys with metadata, and moves the later names of the key up at a new name.
-    /// The only error is want of memory, which leaves the content unchanged.
+    /// The only error is want of memory, which comes only at a new name, and leaves the content
+    /// unchanged.
     pub fn put_meta(&mut self, key: Key, name: Text, value: Scalar) -> Result<(), AllocError>
         requires { IsTrue (is_meta_name name) }
         ensures ok { OnOk result (self.new ≡ record self.old { metadata = with_value self.old.metadata key name value }) }
         ensures err { OnErr result (self.new ≡ self.old) }
+        ensures absent { OnErr result (value_at self.old.metadata key name ≡ None) }
     {
         self.metadata.put(key, name, value)
     }
@@ -125,6 +133,14 @@ impl Content {
         ensures gone { self.new ≡ record self.old { metadata = without_value self.old.metadata key.now name.now } }
     {
         self.metadata.take(key, name)
+    }
+
+    /// Whether each of the keys has a value and begins with `settings`, so that it may be weak. It
+    /// takes a logarithmic step for each and no memory.
+    pub fn may_be_weak(&self, keys: &[Key]) -> bool
+        ensures { IsTrue result ↔ All (MayBeWeak self.now.values) keys.now }
+    {
+        may_be_weak(&self.values, keys)
     }
 
     /// The weak keys, rising. It takes no memory.
@@ -148,6 +164,7 @@ impl Content {
     pub fn next_value(&self, after: Option<&Key>) -> Option<(&Key, &Scalar)>
         ensures least { IfSome result (λ e. IsLeastAfter self.now.values (option_copied after.entry) e.0.now e.1.now) }
         ensures none { IfNone result (HasNoneAfter self.now.values (option_copied after.entry)) }
+        ensures valid { IsContent self.now }
     {
         self.values.next_after(after)
     }
@@ -157,6 +174,7 @@ impl Content {
     pub fn next_meta_key(&self, after: Option<&Key>) -> Option<&Key>
         ensures least { IfSome result (λ k. IsLeastKeyAfter self.now.metadata (option_copied after.entry) k.now) }
         ensures none { IfNone result (HasNoneAfter self.now.metadata (option_copied after.entry)) }
+        ensures valid { IsContent self.now }
     {
         self.metadata.next_key(after)
     }
@@ -228,14 +246,23 @@ impl Content {
         }
     }
 
-    fn allocator(&self) -> Global {
+    fn allocator(&self) -> Global
+        ensures { IsContent self.now }
+    {
         self.weak.allocator()
     }
 
     /// Copies of the values whose key begins with the prefix, as the prefix itself does, rising by
     /// key. It takes a logarithmic step for each. The only error is want of memory.
     pub fn below(&self, prefix: &Key) -> Result<Vec<(Key, Scalar)>, AllocError>
-        ensures { IfOk result (λ pairs. pairs.items ≡ entries_below self.now.values prefix.now) }
+        ensures values { IfOk result (λ pairs. pairs.items ≡ entries_below self.now.values prefix.now) }
+
+        // So they may be nested, without any number of first segments that is below the prefix's, and
+        // without all of the prefix's where the prefix has no value itself.
+        ensures apart { IfOk result (λ pairs. AreApart (keys_of pairs.items)) }
+        ensures begin { IfOk result (λ pairs. All (λ key. take (length prefix.now) key ≡ prefix.now) (keys_of pairs.items)) }
+        ensures fewer { (n : ℕ) → n < length prefix.now → IfOk result (λ pairs. ShareFirst n (keys_of pairs.items)) }
+        ensures shared { map.get self.now.values prefix.now ≡ None → IfOk result (λ pairs. ShareFirst (length prefix.now) (keys_of pairs.items)) }
     {
         let mut pairs = Vec::new(self.allocator());
         let mut after = None;

@@ -7,7 +7,7 @@ ghost use Rattle.settings_tree.specs.Rooms.{held_of, IsFullHeld};
 
 use crate::change::Change;
 use crate::content::Content;
-use crate::entry::Owed;
+use crate::entry::{Entry, Owed};
 use crate::parts::Parts;
 use crate::pend_maps::PendMaps;
 use key_names::Bytes;
@@ -96,6 +96,19 @@ impl Held {
         let laid: Result<_, _> = parts.lay(entries);
         self.put_parts(parts);
         laid
+    }
+
+    /// What is owed once the change is laid. It takes a step for each entry and no memory.
+    pub fn owed_after<'a>(&'a self, change: &'a Change) -> &'a Owed
+        ensures { result.now ≡ (laid self.now change.now).owed }
+    {
+        let mut owed = &self.owed;
+        for entry in change.as_slice() {
+            if let Entry::OwedSet { owed: new } = entry {
+                owed = new;
+            }
+        }
+        owed
     }
 
     /// A copy. The only error is want of memory.

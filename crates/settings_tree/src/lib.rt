@@ -24,8 +24,5 @@ pub use json_trees::{
 pub use os::{Os, OsName};
 pub use pend_maps::PendMaps;
 pub use rule::fits;
-pub use setting::is_setting;
+pub use setting::{is_setting, may_be_weak};
 pub use settings_maps::{KeyList, TxName};
-
-#[cfg(test)]
-mod tests;

@@ -1,5 +1,5 @@
 //! The pending maps.
-ghost use Rattle.std.specs.Prelude.{◌≡◌, IfSome, IfNone, IfOk, OnOk, OnErr, IsTrue, false};
+ghost use Rattle.std.specs.Prelude.{◌≡◌, IfSome, IfNone, IfOk, OnOk, OnErr, IsTrue, None, false};
 ghost use Rattle.std.specs.Option.{option_copied};
 ghost use Rattle.std.specs.FinMap as map;
 ghost use Rattle.settings_maps.specs.Maps.{IsLeastAfter, IsLeastKeyAfter, HasNoneAfter, inner, value_at, with_value, without_value};
@@ -71,11 +71,13 @@ impl PendMaps {
     }
 
     /// Puts what is pending in the transaction for the key, over what stands there if there is
-    /// something. It is logarithmic. The only error is want of memory, which leaves the maps unchanged.
+    /// something. It is logarithmic. The only error is want of memory, which comes only where nothing
+    /// stands there, and leaves the maps unchanged.
     pub fn put(&mut self, tx: TxName, key: Key, value: Pending) -> Result<(), AllocError>
         requires { Fits (inner self.old tx) key }
         ensures ok { OnOk result (self.new ≡ with_value self.old tx key value) }
         ensures err { OnErr result (self.new ≡ self.old) }
+        ensures absent { OnErr result (value_at self.old tx key ≡ None) }
     {
         self.transactions.put(tx, key, value)
     }
