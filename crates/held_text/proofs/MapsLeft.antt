@@ -12,7 +12,7 @@ use Rattle.std.proofs.lemmas.Cmp.{tied_itself}
 use Rattle.serde_json.specs.Data.{Data}
 
 -- What is less is `Less`.
-pub less : (r : Ordering) → is_lt r ≡ true → r ≡ Less
+less : (r : Ordering) → is_lt r ≡ true → r ≡ Less
 less Less lt = refl
 less Equal lt = absurd (grind arith)
 less Greater lt = absurd (grind arith)

@@ -111,7 +111,9 @@ pub record IsMetadata (m : FinMap key_cmp (FinMap bytes_cmp Scalar)) : Type 0 wh
 
 -- Where the JSON value is that of some metadata, this was put into a content without any.
 pub record PutsRows (d : Data) (old new : Contents) (result : Result (Unit {0}) HeldError) : Type 0 where
-  pub puts : (m : FinMap key_cmp (FinMap bytes_cmp Scalar)) → IsMetadata m → old.metadata ≡ empty → d ≡ metadata_data m → MatchResult result (λ _. new ≡ record old { metadata = m }) (λ e. e ≡ Memory)
+  pub puts :
+      (m : FinMap key_cmp (FinMap bytes_cmp Scalar)) → IsMetadata m → old.metadata ≡ empty → d ≡ metadata_data m
+      → MatchResult result (λ _. new ≡ record old { metadata = m }) (λ e. e ≡ Memory)
 
 -- Where the JSON values are those of a content, the answer is this content.
 pub record ReadsContent (values metadata weak : Data) (result : Result Contents HeldError) : Type 0 where
@@ -136,7 +138,9 @@ pub record WroteMembers (ms : Members) (old new : Written) : Type 0 where
 
 -- The first three members of what is held, and others.
 abbrev pub first_members : Held → Members → Members
-first_members h ms = member (codes "image") (image_data h.image) (member (codes "live") (map_data scalar_data h.live.values) (member (codes "meta") (metadata_data h.live.metadata) ms))
+first_members h ms =
+    member (codes "image") (image_data h.image)
+    (member (codes "live") (map_data scalar_data h.live.values) (member (codes "meta") (metadata_data h.live.metadata) ms))
 
 -- The last three members, and others.
 abbrev pub last_members : Held → Members → Members

@@ -1,2 +1,3 @@
 pub mod HeldRules
 pub mod HeldText
+pub mod Refusals

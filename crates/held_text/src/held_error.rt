@@ -37,10 +37,9 @@ impl<T: Drop> From<AllocFailed<T>> for HeldError {
 
 impl From<KeyError> for HeldError {
     ghost use Rattle.std.specs.Prelude.{◌≡◌};
-    ghost use Rattle.key_names.specs.declared.key_error.KeyFault.TheVariants as key_fault;
-    ghost use Rattle.held_text.specs.declared.held_error.HeldError.TheVariants.{Memory};
+    ghost use Rattle.held_text.specs.Refusals.{of_key_fault};
 
-    ghost from_gives = { λ fault e. fault.kind ≡ key_fault.Memory → e ≡ Memory };
+    ghost from_gives = { λ fault e. e ≡ of_key_fault fault.kind };
 
     fn from(fault: KeyError) -> Self {
         match fault.kind {
@@ -52,10 +51,9 @@ impl From<KeyError> for HeldError {
 
 impl From<TreeError> for HeldError {
     ghost use Rattle.std.specs.Prelude.{◌≡◌};
-    ghost use Rattle.json_trees.specs.declared.tree_error.TreeError.TheVariants as tree_error;
-    ghost use Rattle.held_text.specs.declared.held_error.HeldError.TheVariants.{Memory};
+    ghost use Rattle.held_text.specs.Refusals.{of_tree_error};
 
-    ghost from_gives = { λ fault e. fault ≡ tree_error.Memory → e ≡ Memory };
+    ghost from_gives = { λ fault e. e ≡ of_tree_error fault };
 
     fn from(fault: TreeError) -> Self {
         match fault {

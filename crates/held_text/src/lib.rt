@@ -9,6 +9,3 @@ mod writing;
 
 pub use held_error::HeldError;
 pub use text::HeldText;
-
-#[cfg(test)]
-mod tests;

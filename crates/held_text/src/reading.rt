@@ -1,6 +1,6 @@
 //! The parts of a held text, read from JSON values. They are read leniently: the caller prints what was
 //! read and compares the two texts, which refuses every other spelling and order.
-ghost use Rattle.std.specs.Prelude.{◌≡◌, ◌≢◌, ◌↔◌, ◌<◌, [], ◌∷◌, IsTrue, IfOk, IfErr, OnOk, OnErr, All, Some, None, false, length, map, string_bytes};
+ghost use Rattle.std.specs.Prelude.{◌≡◌, ◌≢◌, ◌<◌, [], ◌∷◌, IsTrue, IfOk, IfErr, OnOk, OnErr, Some, None, false, length, map, string_bytes};
 ghost use Rattle.std.specs.FinMap.{insert};
 ghost use Rattle.base64.specs.GeneralPurpose.{IsBytes};
 ghost use Rattle.serde_json.specs.Data.{string};
@@ -9,10 +9,9 @@ ghost use Rattle.serde_json.specs.Find.{as_array, as_object, as_str};
 ghost use Rattle.serde_json.specs.View.{view, items_view, members_view};
 ghost use Rattle.key_names.specs.Key.{is_key};
 ghost use Rattle.json_trees.specs.Nested.{IsSound};
-ghost use Rattle.settings_maps.specs.KeyList.{IsRising};
 ghost use Rattle.settings_maps.specs.Maps.{is_empty};
 ghost use Rattle.settings_maps.specs.TxName.{is_tx_name};
-ghost use Rattle.settings_tree.specs.Content.{MayBeWeak, no_content};
+ghost use Rattle.settings_tree.specs.Content.{no_content};
 ghost use Rattle.held_text.specs.HeldText.{key_data, keys_data, pair_data, map_data, row_data, transaction_data, pending_maps_data, owed_data, image_data, held_data};
 ghost use Rattle.held_text.specs.HeldRules.{IsKeyList, IsOwed, IsRow, IsMap, IsWholeTransaction, ArePending, IsHeld, Reads, HasValues, ReadsContent, PutsRows, member_values};
 ghost use Rattle.settings_tree.specs.Rule.{IsPrefixFree};
@@ -25,7 +24,7 @@ use json_trees::{Leaf, Pending, Scalar};
 use key_names::{Bytes, Key, Text};
 use serde_json::{Map, Value};
 use settings_maps::{KeyList, KeyMap, Metadata, Transactions, TxName, is_meta_name};
-use settings_tree::{Content, Held, Owed, PendMaps, fits, is_setting};
+use settings_tree::{Content, Held, Owed, PendMaps, fits};
 use std::alloc::{AllocError, Global};
 use std::vec::IntoIter;
 
@@ -136,13 +135,6 @@ fn put_rows(alloc: Global, content: &mut Content, list: Value) -> Result<(), Hel
     Ok(())
 }
 
-fn rises(keys: &[Key]) -> bool
-    ensures yes { IsTrue result → IsRising keys.now }
-    ensures no { result ≡ false → ¬ IsRising keys.now }
-{
-    keys.is_sorted_by(|a, b| a.cmp(b).is_lt())
-}
-
 fn key_list_of(alloc: Global, list: Value) -> Result<KeyList, HeldError>
     ensures { Reads IsKeyList keys_data (view list) result }
 {
@@ -150,18 +142,10 @@ fn key_list_of(alloc: Global, list: Value) -> Result<KeyList, HeldError>
     for value in list_of(list)? {
         keys.push(key_of(alloc, value)?)?;
     }
-    if !rises(&keys) {
+    if !KeyList::rise(&keys) {
         return Err(HeldError::BadHeld);
     }
     Ok(KeyList::of(keys))
-}
-
-// Whether each key has a value in the content and begins with `settings`.
-fn may_be_weak(content: &Content, keys: &[Key]) -> bool
-    ensures { IsTrue result ↔ All (MayBeWeak content.now.values) keys.now }
-{
-    keys.iter()
-        .all(|key| is_setting(key) && content.value(key).is_some())
 }
 
 // The content with these values, without metadata and weak keys. It takes no memory.
@@ -184,7 +168,7 @@ pub(crate) fn content_of(
     let mut content = values_alone(alloc, map_of(alloc, values)?);
     put_rows(alloc, &mut content, metadata)?;
     let weak = key_list_of(alloc, weak)?;
-    if !may_be_weak(&content, weak.as_slice()) {
+    if !content.may_be_weak(weak.as_slice()) {
         return Err(HeldError::BadHeld);
     }
     content.set_weak(weak);

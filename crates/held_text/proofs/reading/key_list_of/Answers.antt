@@ -22,8 +22,8 @@ returns-in_err-key_of c =
     let next : into_iter_items l.value-iterator ≡ c.in-Some.value ∷ into_iter_items c.next.new.self = search rules in
     err_reads _ _ _ _ c.from_residual-in_err-key_of.result c.from_residual-in_err-key_of.ensures.1 (λ keys valid is e gives. gives ∙ keys_refused _ _ _ _ _ next l.invariant.2 _ c.in_err-key_of.ensures keys valid is)
 
-pub returns-then-not-rises : goal.returns-then-not-rises
-returns-then-not-rises c =
+pub returns-then-not-rise : goal.returns-then-not-rise
+returns-then-not-rise c =
     let none : into_iter_len c.loop-value.value-iterator ≡ 0 = search rules in
     let falls : ¬ IsRising c.loop-value.keys.items = search rules in
     keys_fall _ _ _ (no_length _ (sym c.loop-value.value-iterator.rest.ok.0 ∙ none)) c.loop-value.invariant.2 falls

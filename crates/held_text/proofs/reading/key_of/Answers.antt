@@ -1,9 +1,10 @@
-use Rattle.std.proofs.Common.{List, ℕ, sym, ◌∙◌, subst}
+use Rattle.std.proofs.Common.{List, ℕ, sym, ◌∙◌, subst, ap}
 use Rattle.key_names.specs.Spelling.{SpellsKey}
 use Rattle.serde_json.specs.View.{view}
 use Rattle.held_text.specs.HeldText.{key_data}
 use Rattle.held_text.proofs.HeldBack.{printed_key}
 use Rattle.held_text.proofs.Readings.{texted, err_reads}
+use Rattle.held_text.specs.Refusals.{of_key_fault}
 use Rattle.held_text.proofs.reading.key_of.Goals as goal
 
 pub returns : goal.returns
@@ -15,5 +16,5 @@ returns c = record {
 pub returns-in_err-read : goal.returns-in_err-read
 returns-in_err-read c =
     err_reads _ key_data (view c.args.value) _ c.from_residual-in_err-read.result c.from_residual-in_err-read.ensures.1
-    (λ key valid is e gives. gives (c.in_err-read.ensures.exact_key key
+    (λ key valid is e gives. gives ∙ ap of_key_fault (c.in_err-read.ensures.exact_key key
     (subst (λ (t : List ℕ). SpellsKey t key) (sym (c.as_bytes.ensures.value ∙ texted _ _ _ c.in_ok-text.ensures.ok is)) (printed_key key valid))))

@@ -1,4 +1,4 @@
-use Rattle.std.proofs.Common.{[], ◌∷◌, refl, sym, ◌∙◌}
+use Rattle.std.proofs.Common.{[], ◌∷◌, refl, sym, ◌∙◌, ap}
 use Rattle.serde_json.specs.Data.{string}
 use Rattle.json_trees.specs.Scalar.{scalar_data}
 use Rattle.json_trees.specs.Tree.{scalar_leaf}
@@ -6,6 +6,7 @@ use Rattle.held_text.specs.HeldText.{key_data}
 use Rattle.held_text.proofs.Fillings.{too_few}
 use Rattle.held_text.proofs.PartReadings.{leaf_memory, leaf_same, row_is}
 use Rattle.held_text.proofs.Readings.{err_reads, listed, three_values, no_text, texted}
+use Rattle.held_text.specs.Refusals.{of_tree_error}
 use Rattle.held_text.proofs.reading.row_of.Goals as goal
 
 pub returns-in_err-key : goal.returns-in_err-key
@@ -32,7 +33,7 @@ returns-in_err-value c =
     err_reads _ _ _ _ c.from_residual-in_err-value.result c.from_residual-in_err-value.ensures.1
     (λ x valid is e gives.
     let all = three_values _ _ _ _ _ (key_data x.0) (string x.1) (scalar_data x.2) (sym c.into_iter-values.ensures.rest ∙ c.in_ok-key.ensures.next) (listed _ _ _ c.in_ok-list_of.ensures.ok is) in
-    gives (leaf_memory scalar_leaf scalar_data _ x.2 _ valid.value all.2 c.in_err-value.ensures.err))
+    gives ∙ ap of_tree_error (leaf_memory scalar_leaf scalar_data _ x.2 _ valid.value all.2 c.in_err-value.ensures.err))
 
 pub returns : goal.returns
 returns c = record {
