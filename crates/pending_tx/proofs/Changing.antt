@@ -9,7 +9,8 @@ use Rattle.std.proofs.lemmas.Bool.{both_ways}
 use Rattle.std.proofs.lemmas.List.Elements.{All-nil, All-cons, All-map}
 use Rattle.std.proofs.lemmas.List.Folds.{list_any_at}
 use Rattle.key_names.specs.Order.{bytes_total, key_cmp, key_total}
-use Rattle.json_trees.specs.Equal.{scalar_eq, scalar_eq-Decides, pending_eq, pending_eq-Decides}
+use Rattle.json_trees.specs.Equal.{scalar_eq, pending_eq}
+use Rattle.json_trees.specs.EqualLaws.{scalar_eq-Decides, pending_eq-Decides}
 use Rattle.json_trees.specs.declared.pending.Pending.{Pending}
 use Rattle.json_trees.specs.declared.pending.Pending.TheVariants.{Put, Gone}
 use Rattle.settings_maps.specs.Maps.{inner, value_at}
@@ -21,7 +22,7 @@ use Rattle.settings_tree.specs.declared.entry.Owed.{Owed}
 use Rattle.settings_tree.specs.declared.held.Held.{Held}
 use Rattle.pending_tx.specs.Changes.{Tells}
 use Rattle.pending_tx.specs.Entries.{live_entry, is_pending, is_new}
-use Rattle.pending_tx.specs.KeyLists.{has_key}
+use Rattle.settings_maps.specs.KeyList.{has_key}
 use Rattle.pending_tx.specs.Transactions.{differs, keys_of}
 
 abbrev Changes : Held → Entry → Type 0

@@ -29,14 +29,14 @@ use Rattle.settings_tree.specs.declared.held.Held.{Held}
 use Rattle.settings_tree.proofs.LaidAt.{laid-append, weak_set}
 use Rattle.pending_tx.specs.Changes.{Tells, NamesOnlyChanges}
 use Rattle.pending_tx.specs.Entries.{live_entry}
-use Rattle.pending_tx.specs.KeyLists.{has_key, without_keys}
+use Rattle.settings_maps.specs.KeyList.{has_key, without_keys}
 use Rattle.pending_tx.specs.Transactions.{committed, changes_of, changed_keys, keys_of, differs, with_pending, owing, FitLive}
 use Rattle.pending_tx.proofs.Changing.{all_live_change, all_gone_change, owed_changes, weak_changes}
 use Rattle.pending_tx.proofs.Effects.{live_laid, gone_laid, owed_laid, weak_laid, changes_suffice}
 use Rattle.pending_tx.proofs.Ended.{all_taken, removed_free}
-use Rattle.pending_tx.proofs.Listed.{has_key-without}
+use Rattle.settings_maps.proofs.KeySets.{has_key-without}
 use Rattle.pending_tx.proofs.Named.{are_apart, unnamed-append, once-append, live_once, live_bare, live_other, gone_once, gone_bare, gone_no_live, gone_no_weak, live_apart, gone_apart, live_no_weak}
-use Rattle.pending_tx.proofs.Walked.{entries_rise, keys_rise, sorted_some}
+use Rattle.settings_tree.proofs.Rising.{entries_rise, keys_rise, sorted_some}
 use Rattle.pending_tx.proofs.Found.{not_found}
 
 abbrev Key : Type 0

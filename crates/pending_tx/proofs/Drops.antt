@@ -21,7 +21,7 @@ use Rattle.pending_tx.proofs.Changing.{all_gone_change}
 use Rattle.pending_tx.proofs.Effects.{gone_laid}
 use Rattle.pending_tx.proofs.Ended.{all_taken, removed_free}
 use Rattle.pending_tx.proofs.Named.{gone_once, gone_bare, gone_no_live, gone_no_weak}
-use Rattle.pending_tx.proofs.Walked.{keys_rise}
+use Rattle.settings_tree.proofs.Rising.{keys_rise}
 
 -- A change that names no weak keys need not say which may be.
 pub names_none : (h : Held) (es : List Entry) → is_unnamed TheWeak es ≡ true → NamesWeak h es

@@ -10,7 +10,8 @@ use Rattle.std.specs.FinMap.{FinMap, empty, get, insert, is_sorted, get-empty}
 use Rattle.std.specs.FinMap.Entries.{below_all}
 use Rattle.std.proofs.lemmas.Bool.{and_parts}
 use Rattle.key_names.specs.Order.{bytes_cmp, bytes_total, bytes_cmp-IsAntisymmetric, key_cmp, key_total, key_cmp-IsAntisymmetric}
-use Rattle.json_trees.specs.Equal.{scalar_eq, scalar_eq-Decides, pending_eq, pending_eq-Decides}
+use Rattle.json_trees.specs.Equal.{scalar_eq, pending_eq}
+use Rattle.json_trees.specs.EqualLaws.{scalar_eq-Decides, pending_eq-Decides}
 use Rattle.json_trees.specs.declared.scalar.Scalar.{Scalar}
 use Rattle.json_trees.specs.declared.pending.Pending.{Pending}
 use Rattle.json_trees.specs.declared.pending.Pending.TheVariants.{Put, Gone}

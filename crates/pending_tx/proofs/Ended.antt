@@ -9,7 +9,7 @@ use Rattle.settings_maps.specs.Maps.{inner, value_at, without_value, is_empty, I
 use Rattle.settings_maps.proofs.NestedMaps.{tied_by, value_at-without, full_without, same_nested}
 use Rattle.settings_tree.specs.Rule.{IsPrefixFree}
 use Rattle.settings_tree.proofs.PrefixRule.{empty_free}
-use Rattle.pending_tx.specs.KeyLists.{has_key}
+use Rattle.settings_maps.specs.KeyList.{has_key}
 
 abbrev Pendings : Type 0
 Pendings = FinMap bytes_cmp (FinMap key_cmp Pending)

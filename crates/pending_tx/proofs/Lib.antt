@@ -4,8 +4,6 @@ pub mod Drops
 pub mod Effects
 pub mod Ended
 pub mod Found
-pub mod Listed
-pub mod Merged
 pub mod Named
 pub mod Patches
 pub mod Present

@@ -18,7 +18,7 @@ use Rattle.settings_tree.specs.Change.{Live, Pend, TheWeak}
 use Rattle.settings_tree.specs.declared.entry.Entry.{Entry}
 use Rattle.settings_tree.specs.declared.entry.Entry.TheVariants.{PendSet, PendGone}
 use Rattle.pending_tx.specs.Entries.{live_entry}
-use Rattle.pending_tx.specs.KeyLists.{has_key}
+use Rattle.settings_maps.specs.KeyList.{has_key}
 
 Key : Type 0
 Key = List (List ℕ)

@@ -28,7 +28,7 @@ use Rattle.pending_tx.proofs.Named.{set_once, set_bare, set_no_live, set_no_weak
 use Rattle.settings_maps.specs.Maps.{IsLeastAfter}
 use Rattle.settings_tree.specs.Walks.{entries_past}
 use Rattle.settings_tree.proofs.Walks.{walk_next}
-use Rattle.pending_tx.proofs.Walked.{entries_rise, sorted_some}
+use Rattle.settings_tree.proofs.Rising.{entries_rise, sorted_some}
 use Rattle.pending_tx.proofs.Found.{not_found}
 
 abbrev Key : Type 0

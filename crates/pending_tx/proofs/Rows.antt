@@ -4,7 +4,7 @@ use Rattle.std.specs.Prelude.{codes}
 use Rattle.json_trees.specs.declared.scalar.Scalar.TheVariants.{Bool as Truth}
 use Rattle.json_trees.specs.declared.pending.Pending.TheVariants.{Put, Gone}
 use Rattle.settings_tree.specs.declared.entry.Owed.TheVariants as owed
-use Rattle.pending_tx.specs.KeyLists.{joined, without_keys}
+use Rattle.settings_maps.specs.KeyList.{joined, without_keys}
 use Rattle.pending_tx.specs.Transactions.{differs, owing}
 
 abbrev motd : List (List ℕ)

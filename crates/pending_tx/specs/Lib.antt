@@ -1,4 +1,3 @@
 pub mod Changes
 pub mod Entries
-pub mod KeyLists
 pub mod Transactions

@@ -12,7 +12,7 @@ use Rattle.settings_tree.specs.Rule.{Fits}
 use Rattle.settings_tree.specs.declared.entry.Owed.{Owed}
 use Rattle.settings_tree.specs.declared.entry.Owed.TheVariants as owed
 use Rattle.settings_tree.specs.declared.held.Held.{Held}
-use Rattle.pending_tx.specs.KeyLists.{joined, without_keys}
+use Rattle.settings_maps.specs.KeyList.{joined, without_keys}
 
 -- What the transaction has pending, by key; nothing where there is no such transaction.
 abbrev pub pending_of : Held → List ℕ → FinMap key_cmp Pending

@@ -6,7 +6,7 @@ ghost use Rattle.std.specs.FinMap.{get};
 ghost use Rattle.settings_tree.specs.Change.{TheWeak, is_unnamed};
 ghost use Rattle.settings_tree.specs.Laid.{laid, KeepsPrefixRule, NamesWeak, TellsWeak};
 ghost use Rattle.pending_tx.specs.Changes.{NamesOnlyChanges};
-ghost use Rattle.pending_tx.specs.KeyLists.{has_key};
+ghost use Rattle.settings_maps.specs.KeyList.{has_key};
 ghost use Rattle.pending_tx.specs.Transactions.{changed_keys, committed, keys_of, FitLive};
 ghost use Rattle.pending_tx.specs.declared.answers.CommitError.TheVariants.{NoPending};
 
@@ -43,8 +43,8 @@ fn commit_pending(alloc: Global, held: &Held, tx: &TxName) -> Result<Commit, All
     let mut entries = Vec::new(alloc);
     set_live(&mut entries, changes)?;
     end(&mut entries, tx, &keys)?;
-    push_some(&mut entries, owed_entry(alloc, &held.owed, &changed)?)?;
-    push_some(&mut entries, weak_entry(alloc, held.live.weak(), &keys)?)?;
+    push_some(&mut entries, owed_entry(&held.owed, &changed)?)?;
+    push_some(&mut entries, weak_entry(held.live.weak(), &keys)?)?;
     let change = Change::of(entries);
     Ok(Commit {
         keys,

@@ -6,7 +6,6 @@ mod answers;
 mod committing;
 mod dropping;
 mod ending;
-mod key_lists;
 mod live_changes;
 mod owing;
 mod patching;
@@ -17,6 +16,3 @@ pub use committing::commit;
 pub use dropping::drop_tx;
 pub use patching::patch;
 pub use reading::{list, pending};
-
-#[cfg(test)]
-mod tests;

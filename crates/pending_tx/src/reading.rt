@@ -2,7 +2,9 @@
 ghost use Rattle.std.specs.Prelude.{◌≡◌, IfOk, is_some};
 ghost use Rattle.std.specs.FinMap.{entries, get, keys};
 ghost use Rattle.std.specs.List.Sorted.{IsStrictlySortedBy};
+ghost use Rattle.std.specs.Map as map;
 ghost use Rattle.key_names.specs.Order.{bytes_cmp};
+ghost use Rattle.json_trees.specs.Apart.{AreApart};
 ghost use Rattle.settings_tree.specs.Pending.{IsPending};
 ghost use Rattle.pending_tx.specs.Transactions.{keys_of, pending_of};
 
@@ -29,7 +31,10 @@ pub fn list(alloc: Global, held: &Held) -> Result<Vec<TxName>, AllocError>
 /// there is no such transaction. It takes a logarithmic step for each. The only error is want of
 /// memory.
 pub fn pending(alloc: Global, held: &Held, tx: &TxName) -> Result<Vec<(Key, Pending)>, AllocError>
-    ensures { IfOk result (λ pairs. pairs.items ≡ entries (pending_of held.now tx.now)) }
+    ensures pairs { IfOk result (λ pairs. pairs.items ≡ entries (pending_of held.now tx.now)) }
+
+    // So they may be nested.
+    ensures apart { IfOk result (λ pairs. AreApart (map.keys_of pairs.items)) }
 {
     let mut pairs = Vec::new(alloc);
     let mut after = None;

@@ -2,10 +2,10 @@ use Rattle.std.proofs.Common.{ℕ, List, sym, ◌∙◌, ap, subst, map, not}
 use Rattle.std.specs.List.{list_any}
 use Rattle.std.specs.FinMap.{get}
 use Rattle.settings_maps.specs.Maps.{inner}
-use Rattle.pending_tx.specs.KeyLists.{has_key}
+use Rattle.settings_maps.specs.KeyList.{has_key}
 use Rattle.pending_tx.specs.Transactions.{differs}
 use Rattle.pending_tx.proofs.Commits.{CommitsTo, commit_made}
-use Rattle.pending_tx.proofs.Walked.{some_rise}
+use Rattle.settings_tree.proofs.Rising.{some_rise}
 use Rattle.pending_tx.proofs.committing.commit_pending.Goals as goal
 
 pub changed_keys-requires : goal.changed_keys-requires

@@ -3,7 +3,8 @@ use Rattle.std.specs.Option.{option_copied}
 use Rattle.key_names.specs.Order.{key_total, key_cmp-IsAntisymmetric}
 use Rattle.settings_maps.specs.Maps.{inner}
 use Rattle.settings_tree.proofs.Walks.{walk_start, walk_next, walk_end, walk_falls, listed_more, listed_all}
-use Rattle.pending_tx.proofs.Walked.{begun, keys_rise}
+use Rattle.settings_tree.proofs.Rising.{keys_rise}
+use Rattle.pending_tx.proofs.Walked.{begun}
 use Rattle.pending_tx.proofs.reading.keys_of.Goals as goal
 
 pub loop-key-init : goal.loop-key-init

@@ -1,7 +1,9 @@
-use Rattle.std.proofs.Common.{rules}
+use Rattle.std.proofs.Common.{rules, ◌≡◌}
+use Rattle.std.specs.FinMap.{entries}
 use Rattle.std.specs.Option.{option_copied}
 use Rattle.key_names.specs.Order.{key_total, key_cmp-IsAntisymmetric}
 use Rattle.settings_maps.specs.Maps.{inner}
+use Rattle.settings_tree.proofs.ApartKeys.{all_apart}
 use Rattle.settings_tree.proofs.Walks.{walk_start, walk_next, walk_end, walk_falls, listed_more, listed_all}
 use Rattle.pending_tx.proofs.Walked.{begun}
 use Rattle.pending_tx.proofs.reading.pending.Goals as goal
@@ -15,5 +17,11 @@ loop-key-smaller c = walk_falls key_total key_cmp-IsAntisymmetric (inner c.args.
 pub loop-key-preserved : goal.loop-key-preserved
 loop-key-preserved c = listed_more _ c.loop-key.pairs.items _ _ _ _ c.loop-key.invariant (walk_next key_total key_cmp-IsAntisymmetric (inner c.args.held.now.pending c.args.tx.now) (option_copied c.loop-key.after) c.in-Some.key.now c.in-Some.value.now c.in-Some.ensures.least) (search rules)
 
-pub returns : goal.returns
-returns c = listed_all _ c.loop-key.pairs.items _ c.loop-key.invariant (walk_end key_total key_cmp-IsAntisymmetric (inner c.args.held.now.pending c.args.tx.now) (option_copied c.loop-key.after) c.in_default.ensures.none)
+all : (c : goal.In_default) → c.loop-key.pairs.items ≡ entries (inner c.args.held.now.pending c.args.tx.now)
+all c = listed_all _ c.loop-key.pairs.items _ c.loop-key.invariant (walk_end key_total key_cmp-IsAntisymmetric (inner c.args.held.now.pending c.args.tx.now) (option_copied c.loop-key.after) c.in_default.ensures.none)
+
+pub returns-clause-pairs : goal.returns-clause-pairs
+returns-clause-pairs c = all c
+
+pub returns-clause-apart : goal.returns-clause-apart
+returns-clause-apart c = all_apart (inner c.args.held.now.pending c.args.tx.now) (c.in_default.ensures.valid.rule c.args.tx.now) c.loop-key.pairs.items (all c)
