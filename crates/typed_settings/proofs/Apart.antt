@@ -13,7 +13,7 @@ use Rattle.std.proofs.lemmas.List.Edits.{Swapped, swapped_from_swap, length-swap
 use Rattle.std.proofs.lemmas.List.Sorted.{IsPermutation-keeps}
 use Rattle.typed_settings.specs.declared.item_word.ItemWord.TheVariants.{Identifier, Text}
 use Rattle.typed_settings.specs.declared.word.Word.TheVariants as word
-use Rattle.typed_settings.specs.Row.{AreApart, IsOfSettings, built_in, row_with, HasRow, IsKnown, IsTyped, HasOneRow, IsPrefixFree}
+use Rattle.typed_settings.specs.Row.{AreApart, IsOfSettings, built_in, row_with, HasRow, IsTyped, HasOneRow, IsPrefixFree}
 use Rattle.typed_settings.specs.declared.type_error.TypeError.{TypeError}
 use Rattle.typed_settings.specs.declared.type_error.TypeError.TheVariants as error
 use Rattle.typed_settings.specs.declared.place.Place.{Place}

@@ -1,6 +1,6 @@
 -- How long a printed pattern is.
-use Rattle.std.proofs.Common.{◌≡◌, ℕ, ◌+◌, ◌<◌, ◌≤◌, List, [], ◌∷◌, length, get_or, take, map, length-append, sym, ◌∙◌, ap, arith}
-use Rattle.std.specs.List.{sum_by, join_with_byte}
+use Rattle.std.proofs.Common.{◌≡◌, ℕ, ◌+◌, ◌<◌, ◌≤◌, List, [], ◌∷◌, length, get_or, take, length-append, ap, arith}
+use Rattle.std.specs.List.{sum_by}
 use Rattle.std.proofs.lemmas.List.Sums.{sum_by-cons, sum_by_more, sum_by-take-le}
 use Rattle.typed_settings.specs.Pattern.{printed_place, printed_pattern}
 use Rattle.typed_settings.specs.declared.place.Place.{Place}

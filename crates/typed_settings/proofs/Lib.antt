@@ -10,3 +10,4 @@ pub mod Orders
 pub mod Searches
 pub mod Plainly
 pub mod Rows
+pub mod OneOrder

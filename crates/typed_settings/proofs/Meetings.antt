@@ -1,9 +1,9 @@
 -- Rows that meet, one row after another.
-use Rattle.std.proofs.Common.{◌≡◌, ℕ, ◌+◌, ◌<◌, ◌≤◌, List, [], ◌∷◌, ◌++◌, length, get_or, take, sym, ◌∙◌, ap, subst, arith}
-use Rattle.std.proofs.lemmas.List.{take_all, take_more, length-take-le, get_or-take, get_or_default}
+use Rattle.std.proofs.Common.{◌≡◌, ℕ, ◌+◌, ◌<◌, ◌≤◌, List, [], ◌∷◌, ◌++◌, length, get_or, take, sym, ◌∙◌, ap, subst}
+use Rattle.std.proofs.lemmas.List.{take_all, take_more}
 use Rattle.std.proofs.lemmas.List.Quantifiers.{all_pairs_push}
 use Rattle.typed_settings.specs.Pattern.{Meet}
-use Rattle.typed_settings.specs.Row.{AreApart, IsFirstMeeting, IsLeastPair}
+use Rattle.typed_settings.specs.Row.{AreApart}
 use Rattle.typed_settings.specs.declared.row.Row.{Row}
 
 -- A row that none before it meets is apart from them too.

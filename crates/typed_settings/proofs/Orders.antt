@@ -1,11 +1,10 @@
 -- The order of patterns, and how it finds the pattern that matches a key.
-use Rattle.std.proofs.Common.{◌≡◌, ℕ, zero, suc, ◌+◌, ◌<◌, ◌≤◌, min, Bool, true, false, true≢false, List, [], ◌∷◌, length, map, get_or, take, drop, Less, Equal, Greater, refl, sym, ◌∙◌, ap, subst, arith, ◌⊎◌, inl, inr}
+use Rattle.std.proofs.Common.{◌≡◌, ℕ, zero, suc, ◌<◌, ◌≤◌, min, true, false, true≢false, List, [], ◌∷◌, length, get_or, drop, Less, Equal, Greater, refl, sym, ◌∙◌, ap, subst, arith}
 use Rattle.std.specs.declared.cmp.Ordering.{Ordering}
 use Rattle.std.specs.Ordering.{is_eq, is_lt, ordering_then, ordering_reverse}
-use Rattle.std.specs.Cmp.{IsTotalOrder}
-use Rattle.key_names.specs.Order.{bytes_cmp, key_cmp, bytes_total, key_total, bytes_cmp-IsAntisymmetric, key_cmp-IsAntisymmetric}
-use Rattle.typed_settings.specs.Order.{rank, shape, cell, cells, signature, pattern_cmp, is_like, place_to, order_to}
-use Rattle.typed_settings.specs.Pattern.{Fits, Reaches, Matches}
+use Rattle.key_names.specs.Order.{bytes_cmp, key_cmp, bytes_total, bytes_cmp-IsAntisymmetric}
+use Rattle.typed_settings.specs.Order.{shape, cells, pattern_cmp, is_like, order_to}
+use Rattle.typed_settings.specs.Pattern.{Fits}
 use Rattle.typed_settings.specs.declared.place.Place.{Place}
 use Rattle.typed_settings.specs.declared.place.Place.TheVariants.{Any, Plain}
 

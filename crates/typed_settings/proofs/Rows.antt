@@ -4,7 +4,7 @@ use Rattle.std.specs.Prelude.{codes}
 use lib.IntN.{pos, negsuc}
 use Rattle.json_trees.specs.declared.item.Item.TheVariants as value
 use Rattle.json_trees.specs.declared.scalar.Scalar.TheVariants as scalar
-use Rattle.typed_settings.specs.Takes.{takes, takes_int, takes_bool, is_line}
+use Rattle.typed_settings.specs.Takes.{takes, is_line}
 use Rattle.typed_settings.specs.Word.{is_identifier, item_text}
 use Rattle.typed_settings.specs.declared.item_word.ItemWord.TheVariants as item
 use Rattle.typed_settings.specs.declared.word.Word.TheVariants as word

@@ -1,8 +1,8 @@
 -- A text determines the bounds and the names that it spells.
-use Rattle.std.proofs.Common.{◌≡◌, ◌≢◌, ℕ, ℤ, zero, suc, ◌+◌, ◌^◌, ◌<◌, ◌≤◌, Bool, true, false, true≢false, eqb, subst, List, [], ◌∷◌, ◌++◌, length, get_or, take, sym, ◌∙◌, ap, refl, arith, lit<}
-use Rattle.std.specs.Prelude.{IsTrue, FitsSigned, Option, MatchOption, nat_eq}
+use Rattle.std.proofs.Common.{◌≡◌, ◌≢◌, ℕ, ℤ, zero, suc, ◌+◌, ◌^◌, ◌<◌, true, false, true≢false, eqb, List, [], ◌∷◌, ◌++◌, length, get_or, take, sym, ◌∙◌, ap, refl, arith, lit<}
+use Rattle.std.specs.Prelude.{FitsSigned, Option, MatchOption}
 use Rattle.std.specs.Int.{w64}
-use Rattle.std.specs.List.{All, AllPairs, list_all, list_any, slice_split, join_with_byte}
+use Rattle.std.specs.List.{All, AllPairs, list_all, slice_split, join_with_byte}
 use Rattle.std.specs.Fmt.{signed_decimal, decimal}
 use Rattle.std.specs.Str.Parse.{AllDigits}
 use Rattle.std.proofs.lemmas.Bool.{and_parts, ne_eqb}
@@ -15,13 +15,12 @@ use Rattle.std.proofs.lemmas.List.Splits.{slice_split_at, slice_split_none, leng
 use Rattle.std.proofs.lemmas.Str.Parse.{digit_at, numerals_by_value, tells_digits}
 use Rattle.std.proofs.lemmas.Slice.Eq.{bytes_eq-Decides}
 use Rattle.std.proofs.lemmas.Str.Pattern.{IsSplitOnceResult, split_after}
-use Rattle.std.specs.Cmp.Lexicographic.{pointwise, same_text}
+use Rattle.std.specs.Cmp.Lexicographic.{same_text}
 use denote.Ref.{Bor}
 use lib.IntN.{pos, negsuc}
-use lib.Signed.{mag}
 use Rattle.key_names.specs.Segment.{is_bare}
 use Rattle.typed_settings.specs.Takes.{is_offered}
-use Rattle.typed_settings.specs.Word.{is_identifier, bounds_text, AreBounds, AreChoices, SpellsBounds, SpellsChoices}
+use Rattle.typed_settings.specs.Word.{is_identifier, bounds_text, AreBounds, SpellsBounds, SpellsChoices}
 
 -- ---- bounds
 

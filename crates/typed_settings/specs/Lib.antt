@@ -4,3 +4,4 @@ pub mod Pattern
 pub mod Row
 pub mod Faults
 pub mod Order
+pub mod Laws

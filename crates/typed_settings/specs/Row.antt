@@ -1,5 +1,6 @@
 -- The rows of a type table, and what they say of keys.
-use Rattle.std.specs.Prelude.{◌≡◌, ◌<◌, ◌≤◌, ℕ, IsTrue, false, List, [], ◌∷◌, ◌++◌, length, map, take, codes, slice_index_or, slice_get, Some, Contains, IsPermutation, AllPairs}
+use Rattle.std.specs.Prelude.{◌≡◌, ◌<◌, ◌≤◌, ℕ, IsTrue, false, List, [], ◌∷◌, ◌++◌}
+use Rattle.std.specs.Prelude.{length, take, codes, slice_index_or, slice_get, Some, Contains, IsPermutation, AllPairs}
 use Rattle.std.specs.List.{AllZip}
 use Rattle.json_trees.specs.declared.scalar.Scalar.{Scalar}
 use Rattle.typed_settings.specs.Word.{SpellsWord}
@@ -114,7 +115,8 @@ pub record IsReached (table : List Row) (path : List (List ℕ)) : Type 0 where
 
 -- One row at most matches the key.
 pub record HasOneRow (table : List Row) (key : List (List ℕ)) : Type 0 where
-  pub one : (i j : ℕ) (d : Row) → i < length table → j < length table → Matches (slice_index_or table i d).pattern key → Matches (slice_index_or table j d).pattern key → i ≡ j
+  pub one : (i j : ℕ) (d : Row) → i < length table → j < length table → Matches (slice_index_or table i d).pattern key
+      → Matches (slice_index_or table j d).pattern key → i ≡ j
 
 -- No known key is a proper prefix of another.
 pub record IsPrefixFree (table : List Row) : Type 0 where

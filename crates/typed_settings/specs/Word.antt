@@ -1,19 +1,19 @@
 -- Type words and their texts. The byte 32 is a space, 124 a bar.
-use Rattle.std.specs.Prelude.{◌≡◌, ◌≤ℤ◌, ℕ, ℤ, Bool, ◌&&◌, IsTrue, nat_lt, nat_le, List, ◌∷◌, ◌++◌, length, codes, ⊤}
+use Rattle.std.specs.Prelude.{◌≡◌, ◌≤ℤ◌, ℕ, ℤ, Bool, IsTrue, List, ◌∷◌, ◌++◌, length, codes, ⊤}
 use Rattle.std.specs.Prelude.{◌≢◌, ◌<◌, AllPairs, true, false}
 use Rattle.std.specs.Prelude.{FitsSigned}
 use Rattle.std.specs.Int.{w64}
 use Rattle.std.specs.List.{list_all, join_with_byte}
 use Rattle.std.specs.Fmt.{signed_decimal}
-use Rattle.key_names.specs.Segment.{is_bare}
+use Rattle.settings_maps.specs.TxName.{is_meta_name}
 use Rattle.typed_settings.specs.declared.item_word.ItemWord.{ItemWord}
 use Rattle.typed_settings.specs.declared.item_word.ItemWord.TheVariants as item
 use Rattle.typed_settings.specs.declared.word.Word.{Word}
 use Rattle.typed_settings.specs.declared.word.Word.TheVariants as word
 
--- An identifier is 1 to 127 bare characters.
+-- An identifier is of the form of a metadata name: 1 to 127 bare characters.
 abbrev pub is_identifier : List ℕ → Bool
-is_identifier text = (nat_lt 0 (length text) && nat_le (length text) 127) && list_all is_bare text
+is_identifier text = is_meta_name text
 
 -- Two bounds, each as it is printed, with a space between them.
 abbrev pub bounds_text : ℤ → ℤ → List ℕ

@@ -1,5 +1,5 @@
 //! The names that a word offers.
-ghost use Rattle.std.specs.Prelude.{◌≡◌, ◌++◌, [], ◌∷◌, OnOk};
+ghost use Rattle.std.specs.Prelude.{◌≡◌, ◌++◌, [], ◌∷◌, OnOk, OnErr};
 ghost use Rattle.typed_settings.specs.Takes.{is_offered};
 
 use key_names::Text;
@@ -22,7 +22,7 @@ impl Model for Choices {
 
 impl Choices {
     /// No names. It takes no memory.
-    pub fn new(alloc: Global) -> Choices
+    pub(crate) fn new(alloc: Global) -> Choices
         ensures { result ≡ [] }
     {
         Choices {
@@ -31,15 +31,16 @@ impl Choices {
     }
 
     /// Whether this is one of the names. It takes time linear in their number, and no memory.
-    pub fn contains(&self, text: &str) -> bool
+    pub(crate) fn contains(&self, text: &str) -> bool
         ensures { result ≡ is_offered self.now text.now }
     {
         self.names.iter().any(|name| name.as_str() == text)
     }
 
-    /// Appends a copy of the name. The only error is want of memory.
-    pub fn push(&mut self, name: &str) -> Result<(), AllocError>
-        ensures { OnOk result (self.new ≡ self.old ++ name.now ∷ []) }
+    /// Appends a copy of the name. The only error is want of memory, and the names are then as before.
+    pub(crate) fn push(&mut self, name: &str) -> Result<(), AllocError>
+        ensures ok { OnOk result (self.new ≡ self.old ++ name.now ∷ []) }
+        ensures err { OnErr result (self.new ≡ self.old) }
     {
         let name = String::from_str(*self.names.allocator(), name)?;
         self.names.push(Text::of(name))?;

@@ -17,7 +17,7 @@ pub enum ItemWord {
     Text,
     /// `line`: a text without line feed and carriage return.
     Line,
-    /// `identifier`: 1 to 127 bare characters.
+    /// `identifier`: a text of the form of a metadata name, which is 1 to 127 bare characters.
     Identifier,
     /// `base64`: padded standard base64 of RFC 4648.
     Base64,
@@ -29,7 +29,7 @@ pub enum ItemWord {
 
 impl ItemWord {
     /// Whether the word takes truth values. It takes no memory.
-    pub fn takes_bool(&self) -> bool
+    pub(crate) fn takes_bool(&self) -> bool
         ensures { result ≡ takes_bool self.now }
     {
         match self {
@@ -39,7 +39,7 @@ impl ItemWord {
     }
 
     /// Whether the word takes this number. It takes no memory.
-    pub fn takes_int(&self, n: i64) -> bool
+    pub(crate) fn takes_int(&self, n: i64) -> bool
         ensures { result ≡ takes_int self.now n }
     {
         match self {
@@ -50,7 +50,7 @@ impl ItemWord {
 
     /// Whether the word takes this text. The only error is want of memory, at `base64` alone. It takes
     /// time linear in the text, and at `choice` in the number of names.
-    pub fn takes_text(&self, alloc: Global, text: &str) -> Result<bool, AllocError>
+    pub(crate) fn takes_text(&self, alloc: Global, text: &str) -> Result<bool, AllocError>
         ensures { IfOk result (λ answer. answer ≡ takes_text self.now text.now) }
     {
         match self {

@@ -6,6 +6,7 @@ mod built_in;
 mod choices;
 mod given;
 mod item_word;
+mod law;
 mod look_up;
 mod meeting;
 mod pattern;
@@ -22,6 +23,7 @@ mod word_texts;
 
 pub use choices::Choices;
 pub use item_word::ItemWord;
+pub use law::laws;
 pub use pattern::Pattern;
 pub use place::Place;
 pub use row::Row;
@@ -29,6 +31,3 @@ pub use rows_error::RowsError;
 pub use type_error::TypeError;
 pub use types::Types;
 pub use word::Word;
-
-#[cfg(test)]
-mod tests;

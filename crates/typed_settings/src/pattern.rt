@@ -26,14 +26,14 @@ impl Model for Pattern {
 
 impl Pattern {
     /// The pattern of these places. It takes no memory.
-    pub fn of(places: Vec<Place>) -> Pattern
+    pub(crate) fn of(places: Vec<Place>) -> Pattern
         ensures { result ≡ places.items }
     {
         Pattern { places }
     }
 
     /// Its places, borrowed.
-    pub fn as_slice(&self) -> &[Place]
+    pub(crate) fn as_slice(&self) -> &[Place]
         ensures { result.now ≡ self.now }
     {
         &self.places
@@ -41,7 +41,7 @@ impl Pattern {
 
     /// Whether the pattern is at least as long as the path and fits its segments from the first. It
     /// takes no memory.
-    pub fn reaches(&self, path: &Key) -> bool
+    pub(crate) fn reaches(&self, path: &Key) -> bool
         ensures { IsTrue result ↔ Reaches self.now path.now }
     {
         if self.places.len() < path.len() {
@@ -56,7 +56,7 @@ impl Pattern {
     }
 
     /// Whether the pattern is as long as the key and fits each of its segments. It takes no memory.
-    pub fn matches(&self, key: &Key) -> bool
+    pub(crate) fn matches(&self, key: &Key) -> bool
         ensures { IsTrue result ↔ Matches self.now key.now }
     {
         self.places.len() == key.len() && self.reaches(key)
@@ -64,7 +64,7 @@ impl Pattern {
 
     /// Whether no place exists at which both patterns have plain segments that differ. It takes no
     /// memory.
-    pub fn meets(&self, other: &Pattern) -> bool
+    pub(crate) fn meets(&self, other: &Pattern) -> bool
         ensures { IsTrue result ↔ Meet self.now other.now }
     {
         let len = self.places.len().min(other.places.len());
@@ -85,7 +85,7 @@ impl Pattern {
     }
 
     /// Compares the segments, place by place; a `*` comes before each. It takes no memory.
-    pub fn cells_cmp(&self, other: &Pattern) -> Ordering
+    pub(crate) fn cells_cmp(&self, other: &Pattern) -> Ordering
         ensures { result ≡ key_cmp (cells self.now) (cells other.now) }
     {
         let cells = self.places.iter().map(|place| place.cell());
@@ -94,14 +94,14 @@ impl Pattern {
 
     /// Compares by the places of the stars, and where these are the same by the segments. It takes no
     /// memory.
-    pub fn order(&self, other: &Pattern) -> Ordering
+    pub(crate) fn order(&self, other: &Pattern) -> Ordering
         ensures { result ≡ pattern_cmp self.now other.now }
     {
         self.shape_cmp(other).then(self.cells_cmp(other))
     }
 
     /// Whether both have their stars at the same places. It takes no memory.
-    pub fn is_like(&self, other: &Pattern) -> bool
+    pub(crate) fn is_like(&self, other: &Pattern) -> bool
         ensures { result ≡ is_like self.now other.now }
     {
         self.shape_cmp(other).is_eq()
@@ -109,7 +109,7 @@ impl Pattern {
 
     /// How the pattern stands to the key: the first place that doesn't fit its segment decides, by the
     /// bytes. It takes no memory.
-    pub fn order_to(&self, key: &Key) -> Ordering
+    pub(crate) fn order_to(&self, key: &Key) -> Ordering
         ensures { result ≡ order_to self.now key.now }
     {
         for i in 0..self.places.len().min(key.len()) {
@@ -123,7 +123,7 @@ impl Pattern {
 
     /// Whether the first place at which the patterns differ has two segments, of which this one's comes
     /// first. It takes no memory.
-    pub fn is_plainly_before(&self, other: &Pattern) -> bool
+    pub(crate) fn is_plainly_before(&self, other: &Pattern) -> bool
         ensures { result ≡ is_plainly_before self.now other.now }
     {
         for i in 0..self.places.len().min(other.places.len()) {

@@ -3,8 +3,7 @@ ghost use Rattle.std.specs.Prelude.{◌≡◌, ◌↔◌, IsTrue, length};
 ghost use Rattle.typed_settings.specs.Order.{rank, cell, place_to, plain_cmp};
 ghost use Rattle.typed_settings.specs.Pattern.{Fits, Agree, printed_place};
 
-use crate::texts::are_bare;
-use key_names::Bytes;
+use key_names::{Bytes, are_bare};
 use std::cmp::Ordering;
 
 /// A place of a pattern.
@@ -18,7 +17,7 @@ pub enum Place {
 
 impl Place {
     /// Whether the segment may stand here. It takes no memory.
-    pub fn fits(&self, segment: &[u8]) -> bool
+    pub(crate) fn fits(&self, segment: &[u8]) -> bool
         ensures { IsTrue result ↔ Fits self.now segment.now }
     {
         match self {
@@ -28,7 +27,7 @@ impl Place {
     }
 
     /// Whether some segment may stand at both places. It takes no memory.
-    pub fn agrees(&self, other: &Place) -> bool
+    pub(crate) fn agrees(&self, other: &Place) -> bool
         ensures { IsTrue result ↔ Agree self.now other.now }
     {
         match (self, other) {
@@ -38,7 +37,7 @@ impl Place {
     }
 
     /// The length of the place as it is printed. It takes no memory.
-    pub fn printed_len(&self) -> usize
+    pub(crate) fn printed_len(&self) -> usize
         ensures { result ≡ length (printed_place self.now) }
     {
         match self {
@@ -49,7 +48,7 @@ impl Place {
     }
 
     /// 0 for a `*` and 1 for a segment. It takes no memory.
-    pub fn rank(&self) -> u8
+    pub(crate) fn rank(&self) -> u8
         ensures { result ≡ rank self.now }
     {
         match self {
@@ -59,7 +58,7 @@ impl Place {
     }
 
     /// The bytes of a segment, and none of a `*`. It takes no memory.
-    pub fn cell(&self) -> &[u8]
+    pub(crate) fn cell(&self) -> &[u8]
         ensures { result.now ≡ cell self.now }
     {
         match self {
@@ -69,7 +68,7 @@ impl Place {
     }
 
     /// How the place stands to the segment by its bytes: a `*` fits it. It takes no memory.
-    pub fn order_to(&self, segment: &[u8]) -> Ordering
+    pub(crate) fn order_to(&self, segment: &[u8]) -> Ordering
         ensures { result ≡ place_to self.now segment.now }
     {
         match self {
@@ -80,7 +79,7 @@ impl Place {
 
     /// Compares two segments, or two `*`s, which are the same; `None` where one is a `*` alone. It takes
     /// no memory.
-    pub fn plain_cmp(&self, other: &Place) -> Option<Ordering>
+    pub(crate) fn plain_cmp(&self, other: &Place) -> Option<Ordering>
         ensures { result ≡ plain_cmp self.now other.now }
     {
         match (self, other) {

@@ -1,34 +1,19 @@
 //! Tests of texts.
-ghost use Rattle.std.specs.Prelude.{◌≡◌, IfOk, IsTrue};
-ghost use Rattle.key_names.specs.Segment.{is_bare};
+ghost use Rattle.std.specs.Prelude.{◌≡◌, IfOk};
 ghost use Rattle.typed_settings.specs.Word.{is_identifier};
-ghost use Rattle.std.specs.List.{list_all};
 ghost use Rattle.typed_settings.specs.Takes.{is_line, is_base64, is_version};
 
 use base64::DecodeAllocError;
 use base64::engine::general_purpose::STANDARD;
 use semver::Version;
+use settings_maps::is_meta_name;
 use std::alloc::{AllocError, Global};
 
-// ASCII letters and digits, `_` and `-`.
-fn is_bare(b: u8) -> bool
-    ensures { result ≡ is_bare b }
-{
-    b.is_ascii_alphanumeric() || b == b'_' || b == b'-'
-}
-
-/// Whether the text has bare characters alone.
-pub fn are_bare(text: &[u8]) -> bool
-    ensures { result ≡ list_all is_bare text.now }
-{
-    text.iter().all(|b| is_bare(*b))
-}
-
-/// Whether the text is an identifier: 1 to 127 bare characters.
+/// Whether the text is an identifier.
 pub fn is_identifier(text: &[u8]) -> bool
     ensures { result ≡ is_identifier text.now }
 {
-    !text.is_empty() && text.len() <= 127 && are_bare(text)
+    is_meta_name(text)
 }
 
 /// Whether the text has neither a line feed nor a carriage return.

@@ -1,5 +1,6 @@
 //! The type table.
-ghost use Rattle.std.specs.Prelude.{◌≡◌, ◌≢◌, ◌↔◌, ◌++◌, List, All, IfOk, OnOk, IsTrue, Err, IsPermutation};
+ghost use Rattle.std.specs.Prelude.{◌≡◌, ◌≢◌, ◌↔◌, ◌++◌, List, length, All, IfOk, OnOk, IsTrue, Err, IsPermutation};
+ghost use Rattle.typed_settings.specs.Order.{IsTable};
 ghost use Rattle.typed_settings.specs.Faults.{HasFault, IsIllTyped, IsFault, IsNoFault};
 ghost use Rattle.typed_settings.specs.Row.{IsTableOf, IsOfSettings, AreApart, built_in, IsKnown, IsTyped, IsReached, HasOneRow, IsPrefixFree};
 ghost use Rattle.typed_settings.specs.declared.row.Row.{Row};
@@ -62,6 +63,17 @@ impl Types {
         Ok(table_of(alloc, given)?)
     }
 
+    /// How many rows the table has, the four that are built in among them. It takes no memory.
+    pub fn len(&self) -> usize
+        ensures len { result ≡ length self.now }
+
+        // What holds of each table: no two rows meet, and no known key is a proper prefix of another.
+        ensures table { IsTable self.now }
+        ensures prefix_free { IsPrefixFree self.now }
+    {
+        self.rows.len()
+    }
+
     /// Checks that the value may stand at the key: `Unknown` is answered exactly where no row matches
     /// the key, `Wrong` exactly where the word of the row that does refuses the value. `Memory` alone
     /// may come at any place. The row is found as by `matches`; the rest takes time linear in the value.
@@ -92,15 +104,18 @@ impl Types {
 
         // As no two rows meet, the row is the only one, and no known key is a proper prefix of another.
         ensures one_row { HasOneRow self.now key.now }
+        ensures table { IsTable self.now }
         ensures prefix_free { IsPrefixFree self.now }
     {
         row_for(&self.rows, key).is_some()
     }
 
     /// Whether some row is at least as long as the path and matches its segments from the first. It
-    /// takes no memory, and time linear in the number of rows.
+    /// takes no memory. It looks at the rows one by one, and at each compares the path's segments up to
+    /// the first that doesn't fit: its time is linear in the number of rows and in the path.
     pub fn reaches(&self, path: &Key) -> bool
-        ensures { IsTrue result ↔ IsReached self.now path.now }
+        ensures reached { IsTrue result ↔ IsReached self.now path.now }
+        ensures prefix_free { IsPrefixFree self.now }
     {
         self.rows.iter().any(|row| row.pattern.reaches(path))
     }

@@ -1,8 +1,3 @@
-use Rattle.std.proofs.Common.{◌≡◌, drop, take, sym, subst, rules}
-use Rattle.std.specs.Prelude.{Contains}
-use Rattle.typed_settings.specs.Order.{AreOrdered}
-use Rattle.typed_settings.specs.Row.{HasRow, IsKnown}
-use Rattle.typed_settings.specs.declared.row.Row.{Row}
 use Rattle.typed_settings.proofs.Searches.{back_ordered, back_among, back_has}
 use Rattle.typed_settings.proofs.look_up.row_for.Goals as goal
 

@@ -1,4 +1,4 @@
-use Rattle.std.proofs.Common.{◌<◌, ℕ, length, get_or, subst, sym}
+use Rattle.std.proofs.Common.{◌<◌, ℕ, length, get_or, subst}
 use Rattle.typed_settings.specs.Pattern.{Meet}
 use Rattle.typed_settings.specs.declared.row.Row.{Row}
 use Rattle.typed_settings.proofs.Meetings.{more_apart, all_apart}

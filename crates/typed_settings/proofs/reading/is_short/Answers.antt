@@ -1,4 +1,4 @@
-use Rattle.std.proofs.Common.{◌≡◌, ◌<◌, ◌≤◌, length, true≢false, sym, ◌∙◌, ap, subst, arith, rules}
+use Rattle.std.proofs.Common.{◌<◌, ◌≤◌, length, true≢false, sym, ap, arith}
 use Rattle.std.specs.List.{sum_by}
 use Rattle.std.proofs.lemmas.List.{take_all}
 use Rattle.typed_settings.specs.Pattern.{printed_pattern}

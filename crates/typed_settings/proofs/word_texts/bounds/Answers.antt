@@ -1,7 +1,6 @@
-use Rattle.std.proofs.Common.{◌≡◌, ◌++◌, ◌∷◌, true≢false, Ok, ap, sym, ◌∙◌, subst, arith, rules, FitsSigned, to_z, of_z}
+use Rattle.std.proofs.Common.{◌≡◌, true≢false, Ok, ap, sym, ◌∙◌, subst, arith, FitsSigned, to_z, of_z}
 use Rattle.std.proofs.lemmas.Int.{ints, to_z-of_z}
 use Rattle.std.specs.Int.{w64}
-use Rattle.std.specs.Fmt.{signed_decimal}
 use Rattle.std.proofs.lemmas.Fmt.{parse-signed_decimal}
 use Rattle.typed_settings.specs.Word.{bounds_text}
 use Rattle.typed_settings.proofs.WordParts.{cut_bounds}

@@ -1,4 +1,4 @@
-use Rattle.std.proofs.Common.{◌≡◌, ◌<◌, ℕ, lit<, length, get_or, sym, ap, ◌∙◌, arith, rules}
+use Rattle.std.proofs.Common.{lit<, length, rules}
 use Rattle.std.proofs.lemmas.Iterator.Consumers.{YieldsList-turn, YieldsList-end}
 use Rattle.std.proofs.lemmas.Iterator.Splits.{YieldsList-from_str_split}
 use Rattle.std.proofs.lemmas.List.{length_push}
@@ -18,7 +18,7 @@ returns-then-contains-clause-none c =
 pub loop-name-preserved : goal.loop-name-preserved
 loop-name-preserved c =
     let turn = YieldsList-turn (YieldsList-from_str_split 124 c.args.text.now (lit< tt) (cc) (cc) (cc)) c.loop-name.yielded _ c.loop-name.yielded_by _ _ c.in-Some.name c.in-Some.is c.next.ensures.steps in
-    let grown = c.in_ok-push.ensures in
+    let grown = c.in_ok-push.ensures.ok in
     rw grown (record {
       same = more_pieces c.args.text.now c.loop-name.names (length c.loop-name.yielded) _ c.in-Some.name.now c.loop-name.invariant.same turn (length_push c.loop-name.yielded c.in-Some.name);
       valid = valid_more c.loop-name.names c.in-Some.name.now c.loop-name.invariant.valid (search rules);

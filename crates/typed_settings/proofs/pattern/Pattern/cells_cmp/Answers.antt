@@ -1,4 +1,4 @@
-use Rattle.std.proofs.Common.{◌≡◌, ℕ, List, Bor, subst, refl, rules}
+use Rattle.std.proofs.Common.{◌≡◌, ℕ, List, Bor, refl, rules}
 use Rattle.std.proofs.lemmas.Iterator.{YieldsList-from_slice, YieldsList-from_map_by}
 use Rattle.std.proofs.lemmas.Iterator.Search.{cmp_from_yields_List}
 use Rattle.key_names.specs.Order.{bytes_cmp}

@@ -1,5 +1,5 @@
-use Rattle.std.proofs.Common.{◌≡◌, subst, rules}
-use Rattle.typed_settings.specs.Row.{AreApart, IsTyped, IsRefusedFor}
+use Rattle.std.proofs.Common.{subst, rules}
+use Rattle.typed_settings.specs.Row.{AreApart, IsTyped}
 use Rattle.typed_settings.specs.Faults.{IsIllTyped}
 use Rattle.typed_settings.specs.declared.type_error.TypeError.TheVariants.{Wrong}
 use Rattle.typed_settings.proofs.Apart.{one_cause, no_cause}

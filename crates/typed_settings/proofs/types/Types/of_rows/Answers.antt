@@ -1,5 +1,4 @@
-use Rattle.std.proofs.Common.{◌≡◌, ◌≢◌, Err, subst, rules}
-use Rattle.std.proofs.lemmas.Grind.{common_steps}
+use Rattle.std.proofs.Common.{◌≡◌, ◌≢◌, Err, rules}
 use Rattle.typed_settings.specs.Faults.{HasFault}
 use Rattle.typed_settings.specs.Row.{AreSpelled, IsTableOf}
 use Rattle.typed_settings.specs.declared.rows_error.RowsError.{RowsError}
