@@ -1,0 +1,14 @@
+-- The table that a text is, and the entries of a table.
+use Rattle.std.specs.Prelude.{ℕ, List, [], ◌∷◌, Option, None, if◌then◌else◌}
+use Rattle.std.specs.Str.{is_utf8}
+use Rattle.toml.specs.Data.{Data, Members, no_members, member}
+use Rattle.toml.specs.Parse.{parse_document}
+
+-- The table that the bytes are, where they are UTF-8 and `toml` reads them.
+abbrev pub table_of : List ℕ → Option Members
+table_of text = if is_utf8 text then parse_document text else None
+
+-- Each name with what stands under it, in the table's order.
+abbrev pub named : Members → List (List ℕ × Data)
+named no_members = []
+named (member name d ms) = (name, d) ∷ named ms
