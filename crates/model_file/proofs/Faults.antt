@@ -4,7 +4,7 @@ use Rattle.toml.specs.Data.{Members}
 use Rattle.model_file.specs.Rows.{row_texts}
 use Rattle.model_file.specs.Checks.{checks, kind_of, path_of, Check}
 use Rattle.model_file.specs.Model.{Spells, IsFault, HasFault, printed_path}
-use Rattle.model_file.specs.Document.{table_of}
+use Rattle.toml_values.specs.Document.{table_of}
 use Rattle.model_file.specs.declared.model.Model.{Model}
 use Rattle.model_file.specs.declared.model_error.ModelKind.{ModelKind}
 use Rattle.model_file.proofs.Checking.{one_fails, none_fails}

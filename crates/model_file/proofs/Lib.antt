@@ -1,12 +1,10 @@
 pub mod Checking
 pub mod LongerPaths
 pub mod PrintedPaths
-pub mod Items
 pub mod Names
 pub mod Sections
 pub mod OsNames
 pub mod LeftChecks
-pub mod Documents
 pub mod Faults
 pub mod EntryChecks
 pub mod Puts
@@ -15,3 +13,4 @@ pub mod RowChecks
 pub mod MetaChecks
 pub mod ValueChecks
 pub mod Parts
+pub mod OneModel

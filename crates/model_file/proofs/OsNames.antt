@@ -14,9 +14,10 @@ use Rattle.toml.specs.View.{members_view}
 use Rattle.toml.specs.declared.value.Value.{Value}
 use Rattle.model_file.specs.Checks.{os_check, os_checks, table_check}
 use Rattle.model_file.specs.Contents.{with_found, os_texts}
-use Rattle.model_file.specs.Document.{named, section_members}
+use Rattle.toml_values.specs.Document.{named}
+use Rattle.model_file.specs.Document.{section_members}
 use Rattle.model_file.specs.Refused.{Passes, Refuses, IsAt}
-use Rattle.model_file.specs.Values.{text_of}
+use Rattle.toml_values.specs.Values.{text_of}
 use Rattle.model_file.specs.declared.model_error.ModelKind.TheVariants.{BadOs}
 use Rattle.model_file.specs.declared.refusal.Refusal.{Refusal}
 use Rattle.model_file.proofs.Checking.{refuses_first, refuses_after}

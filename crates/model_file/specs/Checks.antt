@@ -1,5 +1,6 @@
 -- What a document must meet to be a model, check by check in the order in which they are made.
-use Rattle.std.specs.Prelude.{◌≡◌, ℕ, Bool, ◌&&◌, ◌||◌, nat_lt, if◌then◌else◌, List, [], ◌∷◌, ◌++◌, length, map, flat_map, codes, IsTrue, is_some, Option, Some, None, ⊤}
+use Rattle.std.specs.Prelude.{◌≡◌, ℕ, Bool, ◌&&◌, ◌||◌, nat_lt, if◌then◌else◌, List, [], ◌∷◌}
+use Rattle.std.specs.Prelude.{◌++◌, length, map, flat_map, codes, IsTrue, is_some, Option, Some, None, ⊤}
 use Rattle.std.specs.List.{AllByRecursion, list_all, list_any}
 use Rattle.std.specs.Ordering.{eq_by_cmp}
 use Rattle.key_names.specs.Key.{is_key, is_prefix}
@@ -11,8 +12,9 @@ use Rattle.settings_tree.specs.Content.{settings_key}
 use Rattle.typed_settings.specs.Row.{SpellsRow, AreSpelled, AreApart, IsTableOf, IsTyped}
 use Rattle.typed_settings.specs.declared.row.Row.{Row}
 use Rattle.toml.specs.Data.{Data, Members}
-use Rattle.model_file.specs.Document.{sections, section, section_members, is_table, named}
-use Rattle.model_file.specs.Values.{text_of}
+use Rattle.toml_values.specs.Document.{named}
+use Rattle.model_file.specs.Document.{sections, section, section_members, is_table}
+use Rattle.toml_values.specs.Values.{text_of}
 use Rattle.model_file.specs.Entries.{Path, members_entries, scalar_found, is_fit, has_table}
 use Rattle.model_file.specs.Rows.{RowTexts, row_texts}
 use Rattle.model_file.specs.declared.found.Found.{Found}
@@ -97,7 +99,8 @@ section_entries name document = members_entries [] (section_members name documen
 
 -- The names down to an entry are a key, what stands there is a table or a scalar, and the types take the scalar.
 abbrev pub value_checks : List ℕ → Path × Found → List Check
-value_checks name entry = test (is_key (name ∷ entry.0)) BadKey (name ∷ entry.0) ∷ test (is_fit entry.1) BadValue (name ∷ entry.0) ∷ typed (name ∷ entry.0) entry.1 ∷ []
+value_checks name entry =
+    test (is_key (name ∷ entry.0)) BadKey (name ∷ entry.0) ∷ test (is_fit entry.1) BadValue (name ∷ entry.0) ∷ typed (name ∷ entry.0) entry.1 ∷ []
 
 -- A section of values is a table, and each of its entries passes.
 abbrev pub section_checks : List ℕ → Members → List Check

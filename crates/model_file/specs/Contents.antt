@@ -6,8 +6,9 @@ use Rattle.json_trees.specs.declared.scalar.Scalar.{Scalar}
 use Rattle.settings_maps.specs.Maps.{with_value}
 use Rattle.settings_tree.specs.Content.{Contents}
 use Rattle.toml.specs.Data.{Data, Members}
-use Rattle.model_file.specs.Document.{section_members, named}
-use Rattle.model_file.specs.Values.{text_of}
+use Rattle.toml_values.specs.Document.{named}
+use Rattle.model_file.specs.Document.{section_members}
+use Rattle.toml_values.specs.Values.{text_of}
 use Rattle.model_file.specs.Entries.{Path, scalar_found}
 use Rattle.model_file.specs.Checks.{section_entries, all_but_last, last_name}
 use Rattle.model_file.specs.declared.found.Found.{Found}

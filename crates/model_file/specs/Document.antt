@@ -1,17 +1,11 @@
--- The TOML table that a text is, and its sections.
-use Rattle.std.specs.Prelude.{ℕ, Bool, true, false, List, [], ◌∷◌, Option, None, unwrap_or, if◌then◌else◌, codes}
-use Rattle.std.specs.Str.{is_utf8}
-use Rattle.toml.specs.Data.{Data, string, integer, float, boolean, datetime, array, table, Members, no_members, member, get_member}
+-- The sections of a document.
+use Rattle.std.specs.Prelude.{ℕ, Bool, true, false, List, [], ◌∷◌, Option, None, unwrap_or, codes}
+use Rattle.toml.specs.Data.{Data, string, integer, float, boolean, datetime, array, table, Members, no_members, get_member}
 use Rattle.std.specs.Prelude.{String, Some}
 use Rattle.std.specs.BTreeMap.{BTreeMap}
 use Rattle.std.specs.declared.alloc.Global.{Global}
 use Rattle.toml.specs.View.{table_view}
 use Rattle.toml.specs.declared.value.Value.{Value}
-use Rattle.toml.specs.Parse.{parse_document}
-
--- The table that the bytes are, where `toml` reads them.
-abbrev pub table_of : List ℕ → Option Members
-table_of text = if is_utf8 text then parse_document text else None
 
 -- The names of the six sections, in the order in which they are read.
 abbrev pub sections : List (List ℕ)
@@ -44,11 +38,6 @@ members_of (table ms) = ms
 -- The members of a section.
 abbrev pub section_members : List ℕ → Members → Members
 section_members name document = members_of (section name document)
-
--- Each name with what stands under it, in the table's order.
-abbrev pub named : Members → List (List ℕ × Data)
-named no_members = []
-named (member name d ms) = (name, d) ∷ named ms
 
 -- For private clauses: the members of a table that may be missing.
 abbrev pub members_in : Option (BTreeMap (String Global) Value) → Members

@@ -2,7 +2,7 @@
 use Rattle.std.specs.Prelude.{ℕ, Bool, true, false, List, [], ◌∷◌, ◌++◌, Option, Some, None}
 use Rattle.toml.specs.Data.{Data, string, integer, float, boolean, datetime, array, table, Members, no_members, member}
 use Rattle.json_trees.specs.declared.scalar.Scalar.{Scalar}
-use Rattle.model_file.specs.Values.{scalar_of}
+use Rattle.toml_values.specs.Values.{scalar_of}
 use Rattle.model_file.specs.declared.found.Found.{Found}
 use Rattle.model_file.specs.declared.found.Found.TheVariants as found
 

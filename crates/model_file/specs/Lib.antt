@@ -1,5 +1,4 @@
 pub mod Document
-pub mod Values
 pub mod Entries
 pub mod Rows
 pub mod Checks

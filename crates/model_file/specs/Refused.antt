@@ -1,12 +1,6 @@
 -- For private clauses: how a part of the checks is met or refused.
 use Rattle.std.specs.Prelude.{◌≡◌, ℕ, List, ⊤}
 use Rattle.std.specs.List.{AllByRecursion}
-use Rattle.typed_settings.specs.Row.{IsKnown}
-use Rattle.typed_settings.specs.declared.row.Row.{Row}
-use Rattle.std.specs.FinMap.{FinMap, get}
-use Rattle.std.specs.Prelude.{IsSome}
-use Rattle.key_names.specs.Order.{key_cmp}
-use Rattle.json_trees.specs.declared.scalar.Scalar.{Scalar}
 use Rattle.model_file.specs.Checks.{Check, Holds, kind_of, path_of, IsFirstFailing}
 use Rattle.model_file.specs.Entries.{Path}
 use Rattle.model_file.specs.Rows.{RowTexts}
@@ -28,10 +22,6 @@ Refuses rows all (Fault kind at) = (check : Check) × IsFirstFailing rows all ch
 abbrev pub IsAt : ModelKind → Path → Refusal → Type 0
 IsAt kind path Memory = ⊤
 IsAt kind path (Fault k at) = (k ≡ kind) × (at ≡ printed_path path)
-
--- Each key that has a value is known to the types.
-abbrev pub AreKnown : List Row → FinMap key_cmp Scalar → Type 0
-AreKnown table values = (key : Path) → IsSome (get values key) → IsKnown table key
 
 -- The refusal is a fault of the text, unless memory was wanting.
 abbrev pub RefusesText : List ℕ → Refusal → Type 0

@@ -1,8 +1,9 @@
 -- The rows of the section `types`.
 use Rattle.std.specs.Prelude.{ℕ, List, [], map, codes, unwrap_or}
 use Rattle.toml.specs.Data.{Data, Members}
-use Rattle.model_file.specs.Document.{section_members, named}
-use Rattle.model_file.specs.Values.{text_of}
+use Rattle.toml_values.specs.Document.{named}
+use Rattle.model_file.specs.Document.{section_members}
+use Rattle.toml_values.specs.Values.{text_of}
 
 -- The texts of rows: of a pattern and of its word, each.
 abbrev pub RowTexts : Type 0

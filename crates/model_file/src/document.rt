@@ -1,35 +1,19 @@
-//! The document that a text is, and its sections.
-ghost use Rattle.std.specs.Prelude.{◌≡◌, ◌∷◌, [], ℕ, List, IfOk, IfErr, OnOk, option_map};
+//! The sections of a document.
+ghost use Rattle.std.specs.Prelude.{◌≡◌, ◌∷◌, [], ℕ, List, IfOk, IfErr, OnOk};
 ghost use Rattle.std.specs.List.{list_any};
 ghost use Rattle.std.specs.Ordering.{eq_by_cmp};
 ghost use Rattle.key_names.specs.Order.{bytes_cmp};
 ghost use Rattle.std.specs.Option.{option_copied};
 ghost use Rattle.toml.specs.View.{table_view};
-ghost use Rattle.model_file.specs.Document.{table_of, sections, section_members, members_in};
+ghost use Rattle.model_file.specs.Document.{sections, section_members, members_in};
 ghost use Rattle.model_file.specs.Checks.{name_checks, table_check};
 ghost use Rattle.model_file.specs.Rows.{RowTexts};
 ghost use Rattle.model_file.specs.Refused.{Passes, Refuses};
 
 use crate::ModelKind;
 use crate::refusal::{Refusal, refused};
-use std::alloc::{AllocError, Global};
+use std::alloc::Global;
 use toml::Table;
-
-/// The table that a text is, None where it is no TOML. The only error is want of memory.
-pub fn document_of(alloc: Global, text: &[u8]) -> Result<Option<Table>, AllocError>
-    ensures { IfOk result (λ document. option_map (λ t. table_view t) document ≡ table_of text.now) }
-{
-    match toml::table_from_slice(alloc, text) {
-        Ok(table) => Ok(Some(table)),
-        Err(error) => {
-            if error.is_memory() {
-                Err(AllocError)
-            } else {
-                Ok(None)
-            }
-        }
-    }
-}
 
 // The name is that of a section.
 fn is_section(name: &str) -> bool

@@ -6,6 +6,7 @@ mod document;
 mod entry;
 mod found;
 mod key_path;
+mod law;
 mod metadata_section;
 mod model;
 mod model_error;
@@ -15,8 +16,6 @@ mod types_section;
 mod value_sections;
 mod walk;
 
+pub use law::laws;
 pub use model::Model;
 pub use model_error::{ModelError, ModelKind};
-
-#[cfg(test)]
-mod tests;

@@ -1,17 +1,17 @@
 //! The model of a text.
 ghost use Rattle.std.specs.Prelude.{◌≡◌, ◌≢◌, ℕ, List, IfOk, IfErr, OnOk, MatchResult};
 ghost use Rattle.toml.specs.View.{table_view};
-ghost use Rattle.model_file.specs.Document.{table_of};
-ghost use Rattle.model_file.specs.Model.{Spells, IsFault, IsModelOf};
+ghost use Rattle.toml_values.specs.Document.{table_of};
+ghost use Rattle.model_file.specs.Model.{Spells, IsFault, IsModelOf, AreKnown, AreTyped};
 ghost use Rattle.model_file.specs.Rows.{row_texts};
 ghost use Rattle.model_file.specs.Checks.{checks, content_checks};
 ghost use Rattle.model_file.specs.Contents.{contents_of};
 ghost use Rattle.model_file.specs.Refused.{Passes, Refuses, RefusesText};
 ghost use Rattle.model_file.specs.declared.model_error.ModelKind.{ModelKind};
 ghost use Rattle.model_file.specs.declared.model_error.ModelKind.TheVariants.{Memory};
-ghost use Rattle.typed_settings.specs.Row.{IsTableOf};
+ghost use Rattle.typed_settings.specs.Row.{IsTableOf, IsPrefixFree};
 
-use crate::document::{check_names, document_of};
+use crate::document::check_names;
 use crate::metadata_section::put_metadata;
 use crate::os_section::os_of;
 use crate::refusal::Refusal;
@@ -22,6 +22,7 @@ use key_names::Text;
 use settings_tree::{Content, Os};
 use std::alloc::{AllocError, Global};
 use toml::Table;
+use toml_values::table_of;
 use typed_settings::Types;
 
 /// What a model file says.
@@ -47,13 +48,19 @@ impl Model {
     /// are together no key are `BadKey`, a value that is no scalar is `BadValue`, and one that the types refuse is
     /// `IllTyped`, in this order for each entry. In `metadata`, a key that doesn't begin with `settings` is `BadMetadata`;
     /// then come `BadKey`, `BadValue`, and `BadMetadata` for a name that is no metadata name. `Memory` may come at any
-    /// place. It takes time linear in the text, but for the rows, which take that of `Types::of_rows`.
+    /// place. It takes time linear in the text, up to a logarithm in the number of its entries, but for the rows, which take
+    /// that of `Types::of_rows`.
     pub fn read(alloc: Global, text: &[u8]) -> Result<Model, ModelError>
         ensures ok { IfOk result (Spells text.now) }
         ensures fault { IfErr result (λ e. e.kind ≢ Memory → IsFault text.now e.kind e.at) }
         ensures exact { (kind : ModelKind) (at : List ℕ) → IsFault text.now kind at
             → MatchResult result (λ _. ⊥) (λ e. e.kind ≢ Memory → (e.kind ≡ kind) × (e.at ≡ at)) }
         ensures no_fault { (model : Model) → Spells text.now model → IfErr result (λ e. e.kind ≡ Memory) }
+
+        // The defaults fit the types: each is taken at its key, so no key with a default begins another.
+        ensures free { IfOk result (λ model. IsPrefixFree model.types) }
+        ensures known { IfOk result (λ model. AreKnown model.types model.content.values) }
+        ensures typed { IfOk result (λ model. AreTyped model.types model.content.values) }
     {
         match model_of(alloc, text) {
             Ok(model) => Ok(model),
@@ -69,8 +76,10 @@ impl Model {
 fn model_of(alloc: Global, text: &[u8]) -> Result<Model, Refusal>
     ensures ok { IfOk result (Spells text.now) }
     ensures fault { IfErr result (RefusesText text.now) }
+    ensures free { IfOk result (λ model. IsPrefixFree model.types) }
+    ensures typed { IfOk result (λ model. AreTyped model.types model.content.values) }
 {
-    let Some(document) = document_of(alloc, text)? else {
+    let Some(document) = table_of(alloc, text)? else {
         let at = Text::of(String::from_str(alloc, "-")?);
         return Err(Refusal::Fault(ModelKind::NotToml, at));
     };
@@ -80,6 +89,8 @@ fn model_of(alloc: Global, text: &[u8]) -> Result<Model, Refusal>
 fn sections_of(alloc: Global, document: &Table) -> Result<Model, Refusal>
     ensures passes { OnOk result (Passes (row_texts (table_view document.now)) (checks (table_view document.now))) }
     ensures model { IfOk result (IsModelOf (table_view document.now)) }
+    ensures free { IfOk result (λ model. IsPrefixFree model.types) }
+    ensures typed { IfOk result (λ model. AreTyped model.types model.content.values) }
     ensures refused { IfErr result (Refuses (row_texts (table_view document.now)) (checks (table_view document.now))) }
 {
     check_names(alloc, document)?;
@@ -93,6 +104,8 @@ fn content_of(alloc: Global, document: &Table, types: &Types) -> Result<Content,
     requires { IsTableOf (row_texts (table_view document.now)) types.now }
     ensures passes { OnOk result (Passes (row_texts (table_view document.now)) (content_checks (table_view document.now))) }
     ensures content { IfOk result (λ content. content ≡ contents_of (table_view document.now)) }
+    ensures free { OnOk result (IsPrefixFree types.now) }
+    ensures typed { IfOk result (λ content. AreTyped types.now content.values) }
     ensures refused { IfErr result (Refuses (row_texts (table_view document.now)) (content_checks (table_view document.now))) }
 {
     let mut content = Content::new(alloc);

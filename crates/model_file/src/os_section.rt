@@ -4,8 +4,8 @@ ghost use Rattle.std.specs.List.{list_all};
 ghost use Rattle.std.specs.Option.{option_copied};
 ghost use Rattle.key_names.specs.Segment.{is_bare};
 ghost use Rattle.toml.specs.View.{view, table_view};
-ghost use Rattle.model_file.specs.Document.{named};
-ghost use Rattle.model_file.specs.Values.{text_of};
+ghost use Rattle.toml_values.specs.Document.{named};
+ghost use Rattle.toml_values.specs.Values.{text_of};
 ghost use Rattle.model_file.specs.Checks.{os_check, os_checks};
 ghost use Rattle.model_file.specs.Contents.{os_names, os_texts};
 ghost use Rattle.model_file.specs.Rows.{RowTexts};
@@ -15,7 +15,7 @@ ghost use Rattle.model_file.specs.declared.model_error.ModelKind.TheVariants.{Ba
 use crate::ModelKind;
 use crate::document::section;
 use crate::refusal::{Refusal, refused};
-use key_names::Text;
+use key_names::{Text, are_bare};
 use settings_tree::{Os, OsName};
 use std::alloc::{AllocError, Global};
 use toml::{Table, Value};
@@ -40,18 +40,6 @@ fn is_os_name(name: &str) -> bool
     ensures { result ≡ (nat_lt 0 (length name.now) && list_all is_bare name.now) }
 {
     !name.is_empty() && are_bare(name.as_bytes())
-}
-
-fn are_bare(bytes: &[u8]) -> bool
-    ensures { result ≡ list_all is_bare bytes.now }
-{
-    bytes.iter().all(|b| is_bare(*b))
-}
-
-fn is_bare(b: u8) -> bool
-    ensures { result ≡ is_bare b }
-{
-    b.is_ascii_alphanumeric() || b == b'_' || b == b'-'
 }
 
 // The entries of the section. They rise by name, as a table's entries do.

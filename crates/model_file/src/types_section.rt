@@ -2,9 +2,9 @@
 ghost use Rattle.std.specs.Prelude.{◌≡◌, ◌<◌, ◌∷◌, [], ℕ, List, IfOk, IfErr, OnOk, map, length, slice_index_or, codes, unwrap_or};
 ghost use Rattle.toml.specs.View.{view, table_view};
 ghost use Rattle.typed_settings.specs.Row.{IsTableOf};
-ghost use Rattle.model_file.specs.Values.{text_of};
+ghost use Rattle.toml_values.specs.Values.{text_of};
 ghost use Rattle.model_file.specs.Rows.{RowTexts, row_of, row_texts};
-ghost use Rattle.model_file.specs.Document.{named};
+ghost use Rattle.toml_values.specs.Document.{named};
 ghost use Rattle.model_file.specs.Checks.{table_check, types_checks, row_path};
 ghost use Rattle.model_file.specs.Refused.{Passes, Refuses, IsAt};
 
@@ -14,6 +14,7 @@ use crate::refusal::{Refusal, refused};
 use key_names::Text;
 use std::alloc::{AllocError, Global};
 use toml::{Table, Value};
+use toml_values::text_of;
 use typed_settings::{RowsError, Types};
 
 /// The table of the rows.
@@ -77,8 +78,8 @@ fn rows_in(alloc: Global, table: &Table) -> Result<Vec<(Text, Text)>, AllocError
 fn word_of(alloc: Global, value: &Value) -> Result<Text, AllocError>
     ensures { IfOk result (λ text. text ≡ unwrap_or (text_of (view value.now)) []) }
 {
-    match value {
-        Value::String(text) => Ok(Text::of(text.clone()?)),
-        _ => Ok(Text::of(String::new(alloc))),
+    match text_of(value)? {
+        Some(text) => Ok(text),
+        None => Ok(Text::of(String::new(alloc))),
     }
 }

@@ -1,13 +1,13 @@
 //! The sections of values: `settings`, `services` and `configuration-files`.
 ghost use Rattle.std.specs.Prelude.{◌≡◌, [], ◌∷◌, ◌≢◌, ℕ, List, IfErr, OnOk, flat_map};
 ghost use Rattle.toml.specs.View.{table_view};
-ghost use Rattle.key_names.specs.Spelling.{SpellsKey};
 ghost use Rattle.typed_settings.specs.Row.{IsTableOf, IsTyped, IsPrefixFree};
 ghost use Rattle.model_file.specs.Checks.{section_checks, value_checks};
 ghost use Rattle.model_file.specs.Contents.{with_section, with_values, scalars};
 ghost use Rattle.model_file.specs.Entries.{members_entries};
 ghost use Rattle.model_file.specs.Rows.{RowTexts};
-ghost use Rattle.model_file.specs.Refused.{Passes, Refuses, IsAt, AreKnown};
+ghost use Rattle.model_file.specs.Model.{AreTyped};
+ghost use Rattle.model_file.specs.Refused.{Passes, Refuses, IsAt};
 ghost use Rattle.model_file.specs.declared.model_error.ModelKind.TheVariants.{IllTyped};
 ghost use Rattle.model_file.specs.declared.refusal.Refusal.TheVariants.{Memory};
 
@@ -25,7 +25,7 @@ use std::alloc::Global;
 use toml::Table;
 use typed_settings::{TypeError, Types};
 
-/// Puts the values of the section of this name into the content, which has values at keys known to the types alone.
+/// Puts the values of the section of this name into the content, whose values the types take.
 pub fn put_section(
     alloc: Global,
     document: &Table,
@@ -33,15 +33,14 @@ pub fn put_section(
     types: &Types,
     content: &mut Content,
 ) -> Result<(), Refusal>
-    requires spelled { SpellsKey name.now (name.now ∷ []) }
     requires free { IsPrefixFree types.now }
-    requires known { AreKnown types.now content.old.values }
+    requires typed { AreTyped types.now content.old.values }
     requires strong { content.old.weak ≡ [] }
     ensures passes { (rows : RowTexts)
         → IsTableOf rows types.now → OnOk result (Passes rows (section_checks name.now (table_view document.now))) }
     ensures put { OnOk result
         (content.new ≡ record content.old { values = with_section name.now (table_view document.now) content.old.values }) }
-    ensures known { OnOk result (AreKnown types.now content.new.values) }
+    ensures typed { OnOk result (AreTyped types.now content.new.values) }
     ensures refused { (rows : RowTexts)
         → IsTableOf rows types.now → IfErr result (Refuses rows (section_checks name.now (table_view document.now))) }
 {
@@ -58,15 +57,14 @@ fn put_table(
     types: &Types,
     content: &mut Content,
 ) -> Result<(), Refusal>
-    requires spelled { SpellsKey name.now (name.now ∷ []) }
     requires free { IsPrefixFree types.now }
-    requires known { AreKnown types.now content.old.values }
+    requires typed { AreTyped types.now content.old.values }
     requires strong { content.old.weak ≡ [] }
     ensures passes { (rows : RowTexts)
         → IsTableOf rows types.now → OnOk result (Passes rows (flat_map (value_checks name.now) (members_entries [] (table_view table.now)))) }
     ensures put { OnOk result
         (content.new ≡ record content.old { values = with_values name.now (scalars (members_entries [] (table_view table.now))) content.old.values }) }
-    ensures known { OnOk result (AreKnown types.now content.new.values) }
+    ensures typed { OnOk result (AreTyped types.now content.new.values) }
     ensures refused { (rows : RowTexts)
         → IsTableOf rows types.now → IfErr result (Refuses rows (flat_map (value_checks name.now) (members_entries [] (table_view table.now)))) }
 {
@@ -81,15 +79,14 @@ fn put_entries(
     types: &Types,
     content: &mut Content,
 ) -> Result<(), Refusal>
-    requires spelled { SpellsKey name.now (name.now ∷ []) }
     requires free { IsPrefixFree types.now }
-    requires known { AreKnown types.now content.old.values }
+    requires typed { AreTyped types.now content.old.values }
     requires strong { content.old.weak ≡ [] }
     ensures passes { (rows : RowTexts)
         → IsTableOf rows types.now → OnOk result (Passes rows (flat_map (value_checks name.now) entries.now)) }
     ensures put { OnOk result
         (content.new ≡ record content.old { values = with_values name.now (scalars entries.now) content.old.values }) }
-    ensures known { OnOk result (AreKnown types.now content.new.values) }
+    ensures typed { OnOk result (AreTyped types.now content.new.values) }
     ensures refused { (rows : RowTexts)
         → IsTableOf rows types.now → IfErr result (Refuses rows (flat_map (value_checks name.now) entries.now)) }
 {
@@ -107,15 +104,14 @@ fn put_entry(
     types: &Types,
     content: &mut Content,
 ) -> Result<(), Refusal>
-    requires spelled { SpellsKey name.now (name.now ∷ []) }
     requires free { IsPrefixFree types.now }
-    requires known { AreKnown types.now content.old.values }
+    requires typed { AreTyped types.now content.old.values }
     requires strong { content.old.weak ≡ [] }
     ensures passes { (rows : RowTexts)
         → IsTableOf rows types.now → OnOk result (Passes rows (value_checks name.now entry.now)) }
     ensures put { OnOk result
         (content.new ≡ record content.old { values = with_values name.now (scalars (entry.now ∷ [])) content.old.values }) }
-    ensures known { OnOk result (AreKnown types.now content.new.values) }
+    ensures typed { OnOk result (AreTyped types.now content.new.values) }
     ensures refused { (rows : RowTexts)
         → IsTableOf rows types.now → IfErr result (Refuses rows (value_checks name.now entry.now)) }
 {

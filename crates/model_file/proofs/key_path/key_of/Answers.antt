@@ -1,8 +1,11 @@
 use Rattle.std.proofs.Common.{[], ◌∷◌, sym, ◌∙◌, arith}
-use Rattle.model_file.proofs.LongerPaths.{ends}
+use Rattle.model_file.proofs.LongerPaths.{ends, ends_at_once}
 use Rattle.model_file.proofs.key_path.key_of.Goals as goal
 
 pub returns-in-None : goal.returns-in-None
 returns-in-None c =
     ends (c.args.first.now ∷ []) c.args.names.now c.loop-name.key c.loop-name.name-index c.as_str.result.now c.name-item.result (omega arith) c.loop-name.invariant.0
     (c.as_str.ensures ∙ c.name-item.is) (sym c.in-None.is ∙ c.in_ok-more.ensures)
+
+pub returns-in_default : goal.returns-in_default
+returns-in_default c = ends_at_once c.args.first.now c.args.names.now (sym c.in_default.is ∙ c.in_ok-key.ensures)

@@ -5,7 +5,6 @@ use Rattle.settings_tree.specs.Content.{settings_key}
 use Rattle.model_file.specs.Entries.{Path}
 use Rattle.model_file.specs.Refused.{IsAt}
 use Rattle.model_file.specs.declared.model_error.ModelKind.TheVariants.{BadMetadata, BadKey}
-use Rattle.model_file.proofs.KnownKeys.{settings_spelled}
 use Rattle.model_file.proofs.MetaChecks.{none_if, other_refuses, key_refuses}
 use Rattle.model_file.proofs.metadata_section.key_at.Goals as goal
 
@@ -15,9 +14,6 @@ returns-in_default-clause-refused c =
     let path : c.deref.result.now ≡ c.args.entry.now.0 = search rules in
     λ rows. other_refuses rows c.args.entry.now c.refused.result (ap (is_prefix settings_key) (sym c.key_names.ensures) ∙ other)
     (subst (λ (p : Path). IsAt BadMetadata (codes "metadata" ∷ p) c.refused.result) path c.refused.ensures)
-
-pub key_of-requires : goal.key_of-requires
-key_of-requires c = settings_spelled
 
 pub returns-in-None-clause-refused : goal.returns-in-None-clause-refused
 returns-in-None-clause-refused c =

@@ -1,7 +1,7 @@
 use Rattle.std.proofs.Common.{◌≡◌, string_bytes, rules, refl, map, ap, ◌∙◌}
 use Rattle.toml.specs.View.{view, members_view, table_view}
 use Rattle.model_file.specs.Checks.{os_check}
-use Rattle.model_file.specs.Document.{named}
+use Rattle.toml_values.specs.Document.{named}
 use Rattle.model_file.specs.Refused.{Refuses}
 use Rattle.model_file.proofs.LeftChecks.{all_left, one_holds, one_refused, none_left}
 use Rattle.model_file.proofs.OsNames.{rising_names, texts_grown, rising_grown, passes_at, refuses_at}

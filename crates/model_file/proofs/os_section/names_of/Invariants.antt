@@ -2,7 +2,7 @@ use Rattle.std.proofs.Common.{◌≡◌, ◌++◌, map}
 use Rattle.std.specs.List.Sorted.{IsStrictlySortedBy}
 use Rattle.toml.specs.View.{members_view, table_view}
 use Rattle.key_names.specs.Order.{bytes_cmp}
-use Rattle.model_file.specs.Document.{named}
+use Rattle.toml_values.specs.Document.{named}
 use Rattle.model_file.specs.Checks.{os_check}
 use Rattle.model_file.specs.Contents.{os_texts}
 use Rattle.model_file.proofs.LeftChecks.{Decides}

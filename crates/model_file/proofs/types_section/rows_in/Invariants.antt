@@ -1,6 +1,6 @@
 use Rattle.std.proofs.Common.{◌≡◌, ◌++◌, map}
 use Rattle.toml.specs.View.{members_view, table_view}
-use Rattle.model_file.specs.Document.{named}
+use Rattle.toml_values.specs.Document.{named}
 use Rattle.model_file.specs.Rows.{row_of}
 use Rattle.model_file.proofs.types_section.rows_in.Given as goal
 

@@ -18,6 +18,6 @@ loop-entry-preserved c =
     record {
       passes = λ rows of_rows. passes_more (value_checks c.args.name.now) rows c.args.entries.now c.loop-entry.entry-index c.entry-item.result within c.entry-item.is (c.loop-entry.invariant.passes rows of_rows) (c.in_ok-put_entry.ensures.passes rows of_rows);
       put = valued_more c.args.name.now c.args.entries.now c.loop-entry.entry-index c.entry-item.result c.args.content.now c.loop-entry.content c.put_entry.new.content within c.entry-item.is c.loop-entry.invariant.put put;
-      known = search rules;
+      typed = search rules;
       strong = cc;
     }

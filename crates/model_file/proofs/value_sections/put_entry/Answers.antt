@@ -3,12 +3,13 @@ use Rattle.std.proofs.lemmas.Result.{err_from_is_err_and}
 use Rattle.key_names.specs.Key.{is_key}
 use Rattle.settings_tree.specs.Content.{Contents}
 use Rattle.settings_tree.specs.Rule.{Fits}
-use Rattle.typed_settings.specs.Row.{IsKnown}
+use Rattle.typed_settings.specs.Row.{IsKnown, IsTyped}
 use Rattle.model_file.specs.Entries.{Path}
-use Rattle.model_file.specs.Refused.{IsAt, AreKnown}
+use Rattle.model_file.specs.Model.{AreTyped}
+use Rattle.model_file.specs.Refused.{IsAt}
 use Rattle.model_file.specs.declared.found.Found.TheVariants as found
 use Rattle.model_file.specs.declared.model_error.ModelKind.TheVariants.{BadValue, IllTyped}
-use Rattle.model_file.proofs.KnownKeys.{known_put, known_fits, typed_known}
+use Rattle.model_file.proofs.KnownKeys.{all_known, known_fits, typed_known, typed_put}
 use Rattle.model_file.proofs.MetaChecks.{some_if}
 use Rattle.model_file.proofs.ValueChecks.{other_refuses, value_refuses}
 use Rattle.model_file.proofs.value_sections.put_entry.Goals as goal
@@ -30,13 +31,16 @@ returns-in_err-check-in-Value-clause-refused c =
 pub put-requires : goal.put-requires
 put-requires c =
     let known : IsKnown c.args.types.now c.in-Some.key = typed_known c.args.types.now c.in-Some.key c.in-Value.value c.in_ok-check-in-Value.ensures.taken in
-    subst (λ (k : Path). Fits c.args.content.now.values k) (sym c.key.view_is) (known_fits c.args.types.now c.args.content.now.values c.in-Some.key c.requires.free c.requires.known known)
+    subst (λ (k : Path). Fits c.args.content.now.values k) (sym c.key.view_is) (known_fits c.args.types.now c.args.content.now.values c.in-Some.key c.requires.free (all_known c.args.types.now c.args.content.now.values c.requires.typed) known)
 
-pub returns-in_ok-put-in-Value-clause-known : goal.returns-in_ok-put-in-Value-clause-known
-returns-in_ok-put-in-Value-clause-known c =
-    let known : IsKnown c.args.types.now c.in-Some.key = typed_known c.args.types.now c.in-Some.key c.in-Value.value c.in_ok-check-in-Value.ensures.taken in
-    subst (AreKnown c.args.types.now) (sym (ap (λ (k : Contents). k.values) c.in_ok-put-in-Value.ensures.ok))
-    (known_put c.args.types.now c.args.content.now.values c.key.inside.segments.items c.in_ok-copy-in-Value.field-0 c.requires.known (subst (IsKnown c.args.types.now) (sym c.key.view_is) known))
+pub returns-in_ok-put-in-Value-clause-typed : goal.returns-in_ok-put-in-Value-clause-typed
+returns-in_ok-put-in-Value-clause-typed c =
+    let types = c.args.types.now in
+    let copied : c.in_ok-copy-in-Value.field-0 ≡ c.in-Value.value = search rules in
+    let taken : IsTyped types c.key.inside.segments.items c.in_ok-copy-in-Value.field-0 =
+    subst (λ (k : Path). IsTyped types k c.in_ok-copy-in-Value.field-0) (sym c.key.view_is) (subst (IsTyped types c.in-Some.key) (sym copied) c.in_ok-check-in-Value.ensures.taken) in
+    subst (AreTyped types) (sym (ap (λ (k : Contents). k.values) c.in_ok-put-in-Value.ensures.ok))
+    (typed_put types c.args.content.now.values c.key.inside.segments.items c.in_ok-copy-in-Value.field-0 c.requires.typed taken)
 
 pub returns-in-Other-clause-refused : goal.returns-in-Other-clause-refused
 returns-in-Other-clause-refused c =
