@@ -1,4 +1,6 @@
+pub mod Borrowed
 pub mod EditSteps
+pub mod Moved
 pub mod Names
 pub mod RoundTrips
 pub mod Rows

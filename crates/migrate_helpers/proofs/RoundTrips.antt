@@ -18,7 +18,7 @@ use Rattle.json_trees.specs.declared.pending.Pending.TheVariants as pending
 use Rattle.json_trees.specs.declared.scalar.Scalar.{Scalar}
 use Rattle.json_trees.specs.declared.scalar.Scalar.TheVariants as scalar
 use Rattle.settings_maps.specs.KeyList.{IsRising}
-use Rattle.settings_maps.specs.Maps.{inner, value_at, with_inner}
+use Rattle.settings_maps.specs.Maps.{inner, with_inner}
 use Rattle.settings_maps.proofs.NestedMaps.{get-insert_same, inner-with_inner, insert-insert, insert-present, remove-absent, remove-insert, same_nested, tied_by}
 use Rattle.settings_tree.specs.Content.{Contents, IsContent, settings_key}
 use Rattle.settings_tree.specs.Pending.{IsPending}

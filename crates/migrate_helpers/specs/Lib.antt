@@ -5,4 +5,5 @@ pub mod Laws
 pub mod Mapped
 pub mod RoundTrips
 pub mod Settings
+pub mod Borrowed
 pub mod Step

@@ -44,8 +44,10 @@ pub record IsLawful (h : Held) : Type 0 where
 
 -- A rename to such keys that is not refused is taken back whole by the way back.
 abbrev pub RenamesBack : Type 0
-RenamesBack = (pairs : Vec (List (List ℕ) × List (List ℕ)) Global) (h g : Held) → IsLawful h → AreNew pairs.items h → forward_of (RenameSettings pairs) h ≡ Ok g → backward_of (RenameSettings pairs) g ≡ Ok h
+RenamesBack = (pairs : Vec (List (List ℕ) × List (List ℕ)) Global) (h g : Held) → IsLawful h → AreNew pairs.items h
+    → forward_of (RenameSettings pairs) h ≡ Ok g → backward_of (RenameSettings pairs) g ≡ Ok h
 
 -- A replaced string, where no map held the new one at the key, is taken back whole by the way back.
 abbrev pub ReplacesBack : Type 0
-ReplacesBack = (k : List (List ℕ)) (old new : List ℕ) (h g : Held) → IsLawful h → HasNoText k new h → forward_of (ReplaceString k old new) h ≡ Ok g → backward_of (ReplaceString k old new) g ≡ Ok h
+ReplacesBack = (k : List (List ℕ)) (old new : List ℕ) (h g : Held) → IsLawful h → HasNoText k new h → forward_of (ReplaceString k old new) h ≡ Ok g
+    → backward_of (ReplaceString k old new) g ≡ Ok h

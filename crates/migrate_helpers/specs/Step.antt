@@ -1,8 +1,9 @@
 -- The table of the migrations: what each does on the way forward, and what on the way back.
-use Rattle.std.specs.Prelude.{ℕ, Bool, true, false, List, map, reverse}
+use Rattle.std.specs.Prelude.{ℕ, List, map, reverse}
 use Rattle.json_trees.specs.declared.scalar.Scalar.{Scalar}
 use Rattle.migrate_helpers.specs.declared.migration.Migration.{Migration}
-use Rattle.migrate_helpers.specs.declared.migration.Migration.TheVariants.{AddSettings, AddPrefixes, RemoveSettings, ReplaceString, RenameSettings, AddMetadata, RemoveMetadata, ReplaceMetadata, RemoveWeak, NoOp}
+use Rattle.migrate_helpers.specs.declared.migration.Migration.TheVariants.{AddSettings, AddPrefixes, RemoveSettings, ReplaceString, RenameSettings}
+use Rattle.migrate_helpers.specs.declared.migration.Migration.TheVariants.{AddMetadata, RemoveMetadata, ReplaceMetadata, RemoveWeak, NoOp}
 
 -- What a migration does on one of its ways.
 pub data Step : Type 0 where
@@ -56,8 +57,3 @@ backward_step (RemoveMetadata key names) = Stays
 backward_step (ReplaceMetadata key name old new) = ReplacesName key name new old
 backward_step RemoveWeak = Stays
 backward_step NoOp = Stays
-
--- What a migration does on the way back, or on the way forward.
-abbrev pub step_of : Bool → Migration → Step
-step_of true migration = backward_step migration
-step_of false migration = forward_step migration

@@ -1,4 +1,4 @@
-//! What a migration does to the entries of a map.
+//! What an edit does to the entries of a map.
 ghost use Rattle.std.specs.Prelude.{◌≡◌, ◌≢◌, OnOk, IfOk, IfErr, IfSome, IfNone, IsSome, IsTrue, Ok, Err, None};
 ghost use Rattle.std.specs.FinMap.{get};
 ghost use Rattle.key_names.specs.Key.{is_prefix};
@@ -6,13 +6,14 @@ ghost use Rattle.settings_tree.specs.Walks.{HasNoneBelow};
 ghost use Rattle.migrate_helpers.specs.Conflict.{conflict};
 ghost use Rattle.migrate_helpers.specs.Entries.{removed, without_prefix, removed_below, changed, moved, renamed, edited};
 ghost use Rattle.migrate_helpers.specs.Mapped.{unless_conflict};
-ghost use Rattle.migrate_helpers.specs.Step.{step_of, swapped_back};
+ghost use Rattle.migrate_helpers.specs.Borrowed.{step_of};
+ghost use Rattle.migrate_helpers.specs.Step.{swapped_back};
 ghost use Rattle.migrate_helpers.specs.declared.map_error.MapError.TheVariants.{Memory};
 
 use crate::conflict::conflict;
 use crate::entry::Entry;
 use crate::map_error::MapError;
-use crate::migration::Migration;
+use crate::step::Edit;
 use key_names::{Key, Text};
 use settings_maps::KeyMap;
 use std::alloc::AllocError;
@@ -106,48 +107,30 @@ fn rename_back<V: Entry>(map: &mut KeyMap<V>, pairs: &[(Key, Key)]) -> Result<()
     Ok(())
 }
 
-// A migration that does nothing to entries leaves them.
-fn edit<V: Entry>(migration: &Migration, back: bool, map: &mut KeyMap<V>) -> Result<(), AllocError>
-    ensures { OnOk result (map.new ≡ edited V.landed V.replaced (step_of back migration.now) map.old) }
+fn apply<V: Entry>(edit: &Edit, map: &mut KeyMap<V>) -> Result<(), AllocError>
+    ensures { OnOk result (map.new ≡ edited V.landed V.replaced (step_of edit.now) map.old) }
 {
-    match migration {
-        Migration::AddSettings { settings } if back => remove_keys(map, settings),
-        Migration::AddPrefixes { prefixes } if back => remove_prefixes(map, prefixes)?,
-        Migration::RemoveSettings { settings } if !back => remove_keys(map, settings),
-        Migration::ReplaceString { setting, old, new } => {
-            if back {
-                replace(map, setting, new, old)?;
-            } else {
-                replace(map, setting, old, new)?;
-            }
-        }
-        Migration::RenameSettings { pairs } => {
-            if back {
-                rename_back(map, pairs)?;
-            } else {
-                rename(map, pairs)?;
-            }
-        }
-        _ => (),
+    match edit {
+        Edit::Removes(keys) => remove_keys(map, keys),
+        Edit::RemovesBelow(prefixes) => remove_prefixes(map, prefixes)?,
+        Edit::Replaces(key, old, new) => replace(map, key, old, new)?,
+        Edit::Renames(pairs) => rename(map, pairs)?,
+        Edit::RenamesBack(pairs) => rename_back(map, pairs)?,
     }
     Ok(())
 }
 
-/// The entries as the migration leaves them.
+/// The entries as the edit leaves them.
 ///
 /// `Conflict` with the least key that is then a proper prefix of another, exactly where there is one;
 /// `Memory` where memory is wanting.
-pub(crate) fn edited<V: Entry>(
-    migration: &Migration,
-    back: bool,
-    mut map: KeyMap<V>,
-) -> Result<KeyMap<V>, MapError>
-    ensures ok { IfOk result (λ made. let whole = edited V.landed V.replaced (step_of back migration.now) map
+pub(crate) fn edited<V: Entry>(edit: &Edit, mut map: KeyMap<V>) -> Result<KeyMap<V>, MapError>
+    ensures ok { IfOk result (λ made. let whole = edited V.landed V.replaced (step_of edit.now) map
         in unless_conflict (conflict whole) whole ≡ Ok made) }
-    ensures err { IfErr result (λ e. e ≢ Memory → (let whole = edited V.landed V.replaced (step_of back migration.now) map
+    ensures err { IfErr result (λ e. e ≢ Memory → (let whole = edited V.landed V.replaced (step_of edit.now) map
         in unless_conflict (conflict whole) whole ≡ Err e)) }
 {
-    edit(migration, back, &mut map)?;
+    apply(edit, &mut map)?;
     match conflict(&map) {
         Some(key) => Err(MapError::Conflict { key: key.copy()? }),
         None => Ok(map),

@@ -3,6 +3,7 @@
 #![tactic(auto)]
 
 mod conflict;
+mod copies;
 mod edits;
 mod entry;
 mod law;
@@ -13,12 +14,10 @@ mod metadata;
 mod migration;
 mod pending;
 mod setting;
+mod step;
 mod ways;
 
 pub use law::laws;
 pub use map_error::MapError;
 pub use mapping::Mapping;
 pub use migration::Migration;
-
-#[cfg(test)]
-mod tests;

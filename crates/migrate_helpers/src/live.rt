@@ -1,17 +1,19 @@
-//! The live content as a migration leaves it.
-ghost use Rattle.std.specs.Prelude.{◌≡◌, ◌≢◌, [], ◌∷◌, ◌++◌, OnOk, IfOk, IfErr, Ok, Err};
-ghost use Rattle.std.specs.FinMap.{entries};
+//! The live content as a step leaves it.
+ghost use Rattle.std.specs.Prelude.{◌≡◌, ◌≢◌, [], ◌∷◌, ◌++◌, OnOk, IfOk, IfErr, IfSome, IfNone, IsSome, Ok, Err, None};
+ghost use Rattle.std.specs.FinMap.{entries, get, insert, remove};
+ghost use Rattle.std.specs.Option.{option_map_or};
+ghost use Rattle.settings_maps.specs.Maps.{HasNoneAfter};
 ghost use Rattle.settings_tree.specs.Rule.{IsPrefixFree};
 ghost use Rattle.migrate_helpers.specs.Conflict.{conflict};
 ghost use Rattle.migrate_helpers.specs.Mapped.{live_edited, strong, unless_conflict};
 ghost use Rattle.migrate_helpers.specs.Settings.{settings, content_of, values_of, weak_keys, IsWeakRightly};
-ghost use Rattle.migrate_helpers.specs.Step.{step_of};
+ghost use Rattle.migrate_helpers.specs.Borrowed.{step_of};
 ghost use Rattle.migrate_helpers.specs.declared.map_error.MapError.TheVariants.{Memory};
 
 use crate::edits::{edited, remove_keys};
 use crate::map_error::MapError;
-use crate::migration::Migration;
 use crate::setting::Setting;
+use crate::step::Edit;
 use json_trees::Scalar;
 use key_names::Key;
 use settings_maps::{Copied, KeyList, KeyMap};
@@ -37,14 +39,39 @@ fn settings_of(content: &Content) -> Result<KeyMap<Setting>, AllocError>
     Ok(settings)
 }
 
-fn values_of(alloc: Global, settings: &KeyMap<Setting>) -> Result<KeyMap<Scalar>, AllocError>
-    ensures { IfOk result (λ values. values ≡ values_of settings.now) }
+fn first_key(settings: &KeyMap<Setting>) -> Result<Option<Key>, AllocError>
+    ensures stands { IfOk result (λ first. IfSome first (λ key. IsSome (get settings.now key))) }
+    ensures none { IfOk result (λ first. IfNone first (HasNoneAfter settings.now None)) }
+{
+    match settings.next_after(None) {
+        Some((key, _)) => Ok(Some(key.copy()?)),
+        None => Ok(None),
+    }
+}
+
+// Moves what stands at the key, without a copy of its value.
+fn move_value(
+    settings: &mut KeyMap<Setting>,
+    key: Key,
+    values: &mut KeyMap<Scalar>,
+) -> Result<(), AllocError>
+    ensures taken { OnOk result (settings.new ≡ remove settings.old key) }
+    ensures put { OnOk result (values.new
+        ≡ option_map_or (λ s. insert values.old key s.value) (get settings.old key) values.old) }
+{
+    match settings.take(&key) {
+        Some(setting) => values.put(key, setting.value),
+        None => Ok(()),
+    }
+}
+
+// The values of the settings, moved one by one.
+fn values_of(alloc: Global, mut settings: KeyMap<Setting>) -> Result<KeyMap<Scalar>, AllocError>
+    ensures { IfOk result (λ values. values ≡ values_of settings) }
 {
     let mut values = KeyMap::new(alloc);
-    let mut after = None;
-    while let Some((key, setting)) = settings.next_after(after) {
-        values.put(key.copy()?, setting.value.copy()?)?;
-        after = Some(key);
+    while let Some(key) = first_key(&settings)? {
+        move_value(&mut settings, key, &mut values)?;
     }
     Ok(values)
 }
@@ -71,35 +98,31 @@ fn weak_keys(alloc: Global, settings: &KeyMap<Setting>) -> Result<KeyList, Alloc
 }
 
 // The content with these settings in place of its own.
-fn with_settings(content: &Content, settings: &KeyMap<Setting>) -> Result<Content, AllocError>
-    requires rule { IsPrefixFree settings.now }
-    requires weak { IsWeakRightly settings.now }
-    ensures { IfOk result (λ made. made ≡ content_of settings.now content.now.metadata) }
+fn with_settings(content: &Content, settings: KeyMap<Setting>) -> Result<Content, AllocError>
+    requires rule { IsPrefixFree settings }
+    requires weak { IsWeakRightly settings }
+    ensures { IfOk result (λ made. made ≡ content_of settings content.now.metadata) }
 {
     let alloc = content.weak().allocator();
+    let weak = weak_keys(alloc, &settings)?;
     let values = values_of(alloc, settings)?;
     let metadata = content.metadata().copied()?;
-    let weak = weak_keys(alloc, settings)?;
     Ok(Content::of(values, metadata, weak))
 }
 
-/// The live content as the migration of settings leaves it. It takes a logarithmic step or two for
-/// each value and each key that the migration names.
+/// The live content as the edit leaves it. It copies each value once, and takes a few logarithmic steps
+/// for each and for each key that the edit names.
 ///
 /// `Conflict` with the least key that is then a proper prefix of another, exactly where there is one;
 /// `Memory` where memory is wanting.
-pub(crate) fn edited_live(
-    migration: &Migration,
-    back: bool,
-    content: &Content,
-) -> Result<Content, MapError>
-    ensures ok { IfOk result (λ made. let whole = live_edited (step_of back migration.now) content.now
+pub(crate) fn edited_live(edit: &Edit, content: &Content) -> Result<Content, MapError>
+    ensures ok { IfOk result (λ made. let whole = live_edited (step_of edit.now) content.now
         in unless_conflict (conflict whole) (content_of whole content.now.metadata) ≡ Ok made) }
-    ensures err { IfErr result (λ e. e ≢ Memory → (let whole = live_edited (step_of back migration.now) content.now
+    ensures err { IfErr result (λ e. e ≢ Memory → (let whole = live_edited (step_of edit.now) content.now
         in unless_conflict (conflict whole) (content_of whole content.now.metadata) ≡ Err e)) }
 {
-    let settings = edited(migration, back, settings_of(content)?)?;
-    Ok(with_settings(content, &settings)?)
+    let settings = edited(edit, settings_of(content)?)?;
+    Ok(with_settings(content, settings)?)
 }
 
 /// The content without its weak settings. It takes a logarithmic step for each value. The only error

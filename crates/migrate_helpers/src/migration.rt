@@ -1,7 +1,13 @@
 //! The ten kinds of migration.
+ghost use Rattle.std.specs.Prelude.{◌≡◌, IfOk};
+ghost use Rattle.migrate_helpers.specs.Borrowed.{step};
+ghost use Rattle.migrate_helpers.specs.Step.{backward_step, forward_step};
 
+use crate::copies::{copied_keys, copied_pairs, copied_texts};
+use crate::step::{Edit, Step};
 use json_trees::Scalar;
 use key_names::{Key, Text};
+use std::alloc::AllocError;
 
 /// A migration. Migrations of settings act on the live settings and on each pending map, where a
 /// removal is taken away or moved as a value is; migrations of metadata act on the live content
@@ -54,4 +60,103 @@ pub enum Migration {
     RemoveWeak,
     /// Nothing, either way.
     NoOp,
+}
+
+impl Migration {
+    // What the way forward does.
+    pub(crate) fn forward_step(&self) -> Step<'_>
+        ensures { step result ≡ forward_step self.now }
+    {
+        match self {
+            Migration::AddSettings { .. } => Step::Stays,
+            Migration::AddPrefixes { .. } => Step::Stays,
+            Migration::RemoveSettings { settings } => Step::Edits(Edit::Removes(settings)),
+            Migration::ReplaceString { setting, old, new } => Step::Edits(Edit::Replaces(
+                setting, old, new,
+            )),
+            Migration::RenameSettings { pairs } => Step::Edits(Edit::Renames(pairs)),
+            Migration::AddMetadata { .. } => Step::Stays,
+            Migration::RemoveMetadata { key, names } => Step::RemovesNames(key, names),
+            Migration::ReplaceMetadata {
+                key,
+                name,
+                old,
+                new,
+            } => Step::ReplacesName(key, name, old, new),
+            Migration::RemoveWeak => Step::RemovesWeak,
+            Migration::NoOp => Step::Stays,
+        }
+    }
+
+    // What the way back does.
+    pub(crate) fn backward_step(&self) -> Step<'_>
+        ensures { step result ≡ backward_step self.now }
+    {
+        match self {
+            Migration::AddSettings { settings } => Step::Edits(Edit::Removes(settings)),
+            Migration::AddPrefixes { prefixes } => Step::Edits(Edit::RemovesBelow(prefixes)),
+            Migration::RemoveSettings { .. } => Step::Stays,
+            Migration::ReplaceString { setting, old, new } => Step::Edits(Edit::Replaces(
+                setting, new, old,
+            )),
+            Migration::RenameSettings { pairs } => Step::Edits(Edit::RenamesBack(pairs)),
+            Migration::AddMetadata { key, names } => Step::RemovesNames(key, names),
+            Migration::RemoveMetadata { .. } => Step::Stays,
+            Migration::ReplaceMetadata {
+                key,
+                name,
+                old,
+                new,
+            } => Step::ReplacesName(key, name, new, old),
+            Migration::RemoveWeak => Step::Stays,
+            Migration::NoOp => Step::Stays,
+        }
+    }
+
+    /// A copy that does the same on each way. The only error is want of memory.
+    pub fn copy(&self) -> Result<Migration, AllocError>
+        ensures forward { IfOk result (λ copy. forward_step copy ≡ forward_step self.now) }
+        ensures backward { IfOk result (λ copy. backward_step copy ≡ backward_step self.now) }
+    {
+        Ok(match self {
+            Migration::AddSettings { settings } => Migration::AddSettings {
+                settings: copied_keys(*settings.allocator(), settings)?,
+            },
+            Migration::AddPrefixes { prefixes } => Migration::AddPrefixes {
+                prefixes: copied_keys(*prefixes.allocator(), prefixes)?,
+            },
+            Migration::RemoveSettings { settings } => Migration::RemoveSettings {
+                settings: copied_keys(*settings.allocator(), settings)?,
+            },
+            Migration::ReplaceString { setting, old, new } => Migration::ReplaceString {
+                setting: setting.copy()?,
+                old: old.copy()?,
+                new: new.copy()?,
+            },
+            Migration::RenameSettings { pairs } => Migration::RenameSettings {
+                pairs: copied_pairs(*pairs.allocator(), pairs)?,
+            },
+            Migration::AddMetadata { key, names } => Migration::AddMetadata {
+                key: key.copy()?,
+                names: copied_texts(*names.allocator(), names)?,
+            },
+            Migration::RemoveMetadata { key, names } => Migration::RemoveMetadata {
+                key: key.copy()?,
+                names: copied_texts(*names.allocator(), names)?,
+            },
+            Migration::ReplaceMetadata {
+                key,
+                name,
+                old,
+                new,
+            } => Migration::ReplaceMetadata {
+                key: key.copy()?,
+                name: name.copy()?,
+                old: old.copy()?,
+                new: new.copy()?,
+            },
+            Migration::RemoveWeak => Migration::RemoveWeak,
+            Migration::NoOp => Migration::NoOp,
+        })
+    }
 }

@@ -1,7 +1,7 @@
 //! The two ways of a migration.
 ghost use Rattle.std.specs.Prelude.{◌≡◌, ◌≢◌, IfOk, IfErr, Ok, Err};
-ghost use Rattle.migrate_helpers.specs.Mapped.{held_edited, without_names, name_replaced, strong};
-ghost use Rattle.migrate_helpers.specs.Step.{step_of};
+ghost use Rattle.migrate_helpers.specs.Borrowed.{step, step_of};
+ghost use Rattle.migrate_helpers.specs.Mapped.{after_step, held_edited, without_names, name_replaced, strong};
 ghost use Rattle.migrate_helpers.specs.declared.map_error.MapError.TheVariants.{Memory};
 
 use crate::live::{edited_live, without_weak};
@@ -10,6 +10,7 @@ use crate::mapping::Mapping;
 use crate::metadata::{remove_names, replace_name};
 use crate::migration::Migration;
 use crate::pending::edited_pending;
+use crate::step::{Edit, Step};
 use json_trees::Scalar;
 use key_names::{Key, Text};
 use settings_tree::Held;
@@ -17,13 +18,13 @@ use std::alloc::AllocError;
 
 // The live settings come first, so their conflict is the one that is told.
 #[tactic(auto, using(crate::specs::Laws::Refusals::refusals))]
-fn edited_held(migration: &Migration, back: bool, held: &Held) -> Result<Held, MapError>
-    ensures ok { IfOk result (λ made. held_edited (step_of back migration.now) held.now ≡ Ok made) }
-    ensures err { IfErr result (λ e. e ≢ Memory → held_edited (step_of back migration.now) held.now ≡ Err e) }
+fn edited_held(edit: &Edit, held: &Held) -> Result<Held, MapError>
+    ensures ok { IfOk result (λ made. held_edited (step_of edit.now) held.now ≡ Ok made) }
+    ensures err { IfErr result (λ e. e ≢ Memory → held_edited (step_of edit.now) held.now ≡ Err e) }
 {
-    let live = edited_live(migration, back, &held.live)?;
+    let live = edited_live(edit, &held.live)?;
     let alloc = held.live.weak().allocator();
-    let pending = edited_pending(alloc, migration, back, &held.pending)?;
+    let pending = edited_pending(alloc, edit, &held.pending)?;
     Ok(Held {
         live,
         pending,
@@ -65,6 +66,21 @@ fn without_weak_settings(held: &Held) -> Result<Held, AllocError>
     })
 }
 
+// What is held after the step.
+#[tactic(auto, using(crate::proofs::Borrowed::after_edit))]
+fn after_step(taken: &Step, held: &Held) -> Result<Held, MapError>
+    ensures ok { IfOk result (λ made. after_step (step taken.now) held.now ≡ Ok made) }
+    ensures err { IfErr result (λ e. e ≢ Memory → after_step (step taken.now) held.now ≡ Err e) }
+{
+    match taken {
+        Step::Stays => Ok(held.copy()?),
+        Step::Edits(edit) => edited_held(edit, held),
+        Step::RemovesNames(key, names) => Ok(without_names(held, key, names)?),
+        Step::ReplacesName(key, name, old, new) => Ok(with_name(held, key, name, old, new)?),
+        Step::RemovesWeak => Ok(without_weak_settings(held)?),
+    }
+}
+
 impl Mapping for Migration {
     ghost use Rattle.migrate_helpers.specs.Mapped.{forward_of, backward_of};
     ghost use Rattle.migrate_helpers.specs.Laws.{keeps_forward, keeps_backward, refuses_forward, refuses_backward};
@@ -82,36 +98,10 @@ impl Mapping for Migration {
     ghost refuses_backward = { refuses_backward };
 
     fn forward(&self, held: &Held) -> Result<Held, MapError> {
-        match self {
-            Migration::RemoveSettings { .. } => edited_held(self, false, held),
-            Migration::ReplaceString { .. } => edited_held(self, false, held),
-            Migration::RenameSettings { .. } => edited_held(self, false, held),
-            Migration::RemoveMetadata { key, names } => Ok(without_names(held, key, names)?),
-            Migration::ReplaceMetadata {
-                key,
-                name,
-                old,
-                new,
-            } => Ok(with_name(held, key, name, old, new)?),
-            Migration::RemoveWeak => Ok(without_weak_settings(held)?),
-            _ => Ok(held.copy()?),
-        }
+        after_step(&self.forward_step(), held)
     }
 
     fn backward(&self, held: &Held) -> Result<Held, MapError> {
-        match self {
-            Migration::AddSettings { .. } => edited_held(self, true, held),
-            Migration::AddPrefixes { .. } => edited_held(self, true, held),
-            Migration::ReplaceString { .. } => edited_held(self, true, held),
-            Migration::RenameSettings { .. } => edited_held(self, true, held),
-            Migration::AddMetadata { key, names } => Ok(without_names(held, key, names)?),
-            Migration::ReplaceMetadata {
-                key,
-                name,
-                old,
-                new,
-            } => Ok(with_name(held, key, name, new, old)?),
-            _ => Ok(held.copy()?),
-        }
+        after_step(&self.backward_step(), held)
     }
 }

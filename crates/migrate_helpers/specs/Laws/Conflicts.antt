@@ -1,5 +1,6 @@
 -- The key at which a map breaks the prefix rule, and the walk that finds it.
-use Rattle.std.proofs.Common.{◌≡◌, ◌&&◌, ◌||◌, ◌<◌, ℕ, List, [], ◌∷◌, length, Option, Some, None, Bool, true, false, cond, not, map, IsTrue, is_some, refl, sym, ◌∙◌, ap}
+use Rattle.std.proofs.Common.{◌≡◌, ◌&&◌, ◌||◌, ◌<◌, ℕ, List, [], ◌∷◌, length, Option, Some, None}
+use Rattle.std.proofs.Common.{Bool, true, false, cond, not, map, IsTrue, is_some, refl, sym, ◌∙◌, ap}
 use Rattle.std.specs.List.{find, list_any}
 use Rattle.std.specs.Ordering.{eq_by_cmp, is_eq}
 use Rattle.std.specs.Cmp.{eq_by_cmp_equiv}
@@ -34,7 +35,8 @@ module _ {X : Type 0} (m : FinMap key_cmp X) where
 
   -- The next key tells whether a key is a proper prefix of another.
   pub next_longer : (k n : List (List ℕ)) (x : X) (b : Bool) → IsLeastAfter m (Some k) n x → b ≡ is_prefix k n → b ≡ has_longer m k
-  next_longer k n x true next is = sym (stands_any key_total key_cmp-IsAntisymmetric m (is_proper_prefix k) n (ap is_some next.stands) (and_from _ _ (sym is) (ap (λ r. not (is_eq r)) next.past)))
+  next_longer k n x true next is =
+      sym (stands_any key_total key_cmp-IsAntisymmetric m (is_proper_prefix k) n (ap is_some next.stands) (and_from _ _ (sym is) (ap (λ r. not (is_eq r)) next.past)))
   next_longer k n x false next is = sym (none_longer k (longer_some m k n x next (sym is)))
 
   -- The last key is no proper prefix of another.
@@ -48,22 +50,27 @@ module _ {X : Type 0} (m : FinMap key_cmp X) where
   pub conflict_start : conflict_past None ≡ conflict m
   conflict_start = ap (λ (es : List (List (List ℕ) × X)). find (has_longer m) (map (λ e. e.0) es)) (walk_start key_total key_cmp-IsAntisymmetric m)
 
-  at_next : (after : Option (List (List ℕ))) (k : List (List ℕ)) (x : X) → IsLeastAfter m after k x → conflict_past after ≡ cond (has_longer m k) (Some k) (conflict_past (Some k))
+  at_next : (after : Option (List (List ℕ))) (k : List (List ℕ)) (x : X) → IsLeastAfter m after k x
+      → conflict_past after ≡ cond (has_longer m k) (Some k) (conflict_past (Some k))
   at_next after k x next = ap (λ (es : List (List (List ℕ) × X)). find (has_longer m) (map (λ e. e.0) es)) (walk_next key_total key_cmp-IsAntisymmetric m after k x next)
 
   -- A walk that finds a proper prefix has found the conflict.
-  pub conflict_found : (after : Option (List (List ℕ))) (k : List (List ℕ)) (x : X) → IsLeastAfter m after k x → conflict_past after ≡ conflict m → has_longer m k ≡ true → Some k ≡ conflict m
+  pub conflict_found : (after : Option (List (List ℕ))) (k : List (List ℕ)) (x : X) → IsLeastAfter m after k x → conflict_past after ≡ conflict m
+      → has_longer m k ≡ true → Some k ≡ conflict m
   conflict_found after k x next past longer = sym (cond-true _ _ _ longer) ∙ sym (at_next after k x next) ∙ past
 
   -- A walk goes on past a key that is none.
-  pub conflict_later : (after : Option (List (List ℕ))) (k : List (List ℕ)) (x : X) → IsLeastAfter m after k x → conflict_past after ≡ conflict m → has_longer m k ≡ false → conflict_past (Some k) ≡ conflict m
+  pub conflict_later : (after : Option (List (List ℕ))) (k : List (List ℕ)) (x : X) → IsLeastAfter m after k x → conflict_past after ≡ conflict m
+      → has_longer m k ≡ false → conflict_past (Some k) ≡ conflict m
   conflict_later after k x next past longer = sym (cond-false _ _ _ longer) ∙ sym (at_next after k x next) ∙ past
 
   -- A walk that ends has found that there is none.
   pub conflict_end : (after : Option (List (List ℕ))) → HasNoneAfter m after → conflict_past after ≡ conflict m → None ≡ conflict m
-  conflict_end after none past = sym (ap (λ (es : List (List (List ℕ) × X)). find (has_longer m) (map (λ e. e.0) es)) (walk_end key_total key_cmp-IsAntisymmetric m after none)) ∙ past
+  conflict_end after none past =
+      sym (ap (λ (es : List (List (List ℕ) × X)). find (has_longer m) (map (λ e. e.0) es)) (walk_end key_total key_cmp-IsAntisymmetric m after none)) ∙ past
 
-  pub conflict_falls : (after : Option (List (List ℕ))) (k : List (List ℕ)) (x : X) → IsLeastAfter m after k x → length (entries_past m (Some k)) < length (entries_past m after)
+  pub conflict_falls : (after : Option (List (List ℕ))) (k : List (List ℕ)) (x : X) → IsLeastAfter m after k x
+      → length (entries_past m (Some k)) < length (entries_past m after)
   conflict_falls after k x next = walk_falls key_total key_cmp-IsAntisymmetric m after k x next
 
 none_found : (p : List (List ℕ) → Bool) (ks : List (List (List ℕ))) → find p ks ≡ None → list_any p ks ≡ false

@@ -45,36 +45,44 @@ abbrev pub with_mapped : {K X Y : Type 0} {R : K → K → Ordering} → (K → 
 with_mapped f n es = fold (λ n e. insert n e.0 (f e.0 e.1)) n es
 
 -- What is found behind the first entry is found.
-pub found_behind : {K X : Type 0} {R : K → K → Ordering} → IsAntisymmetric R → (e : K × X) (es : List (K × X)) (k : K) (x : X) → below_all R e.0 es ≡ true → find R k es ≡ Some x → find R k (e ∷ es) ≡ Some x
+pub found_behind : {K X : Type 0} {R : K → K → Ordering} → IsAntisymmetric R → (e : K × X) (es : List (K × X)) (k : K) (x : X) → below_all R e.0 es ≡ true
+    → find R k es ≡ Some x → find R k (e ∷ es) ≡ Some x
 found_behind {K = K} {R = R} same e es k x below has = by (eq_by_cmp R k e.0) refl where
   by : (b : Bool) → eq_by_cmp R k e.0 ≡ b → cond b (Some e.1) (find R k es) ≡ Some x
   by true is = absurd (cc (has, ap (λ (q : K). find R q es) (same k e.0 (tied_by _ is)) ∙ none_below R es e.0 below))
   by false is = has
 
 module _ {K X Y : Type 0} {R : K → K → Ordering} (o : IsTotalOrder R) (same : IsAntisymmetric R) (f : K → X → Y) where
-  get-with_mapped : (es : List (K × X)) (n : FinMap R Y) (q : K) → is_sorted R es ≡ true → get (with_mapped f n es) q ≡ option_or (option_map (f q) (find R q es)) (get n q)
+  get-with_mapped : (es : List (K × X)) (n : FinMap R Y) (q : K) → is_sorted R es ≡ true
+      → get (with_mapped f n es) q ≡ option_or (option_map (f q) (find R q es)) (get n q)
   get-with_mapped [] n q rises = refl
-  get-with_mapped (e ∷ es) n q rises = get-with_mapped es (insert n e.0 (f e.0 e.1)) q sorted.1 ∙ ap (option_or (option_map (f q) (find R q es))) (get-insert o n e.0 (f e.0 e.1) q) ∙ by (eq_by_cmp R q e.0) refl where
-    sorted : (below_all R e.0 es ≡ true) × (is_sorted R es ≡ true)
-    sorted = and_parts (below_all R e.0 es) (is_sorted R es) rises
+  get-with_mapped (e ∷ es) n q rises = get-with_mapped es (insert n e.0 (f e.0 e.1)) q sorted.1
+      ∙ ap (option_or (option_map (f q) (find R q es))) (get-insert o n e.0 (f e.0 e.1) q) ∙ by (eq_by_cmp R q e.0) refl where
+        sorted : (below_all R e.0 es ≡ true) × (is_sorted R es ≡ true)
+        sorted = and_parts (below_all R e.0 es) (is_sorted R es) rises
 
-    by : (b : Bool) → eq_by_cmp R q e.0 ≡ b → option_or (option_map (f q) (find R q es)) (cond b (Some (f e.0 e.1)) (get n q)) ≡ option_or (option_map (f q) (cond b (Some e.1) (find R q es))) (get n q)
-    by true is =
-        let one : q ≡ e.0 = same q e.0 (tied_by _ is) in
-        ap (λ z. option_or (option_map (f q) z) (Some (f e.0 e.1))) (ap (λ (k : K). find R k es) one ∙ none_below R es e.0 sorted.0) ∙ ap (λ (k : K). Some (f k e.1)) (sym one)
-    by false is = refl
+        by : (b : Bool) → eq_by_cmp R q e.0 ≡ b
+            → option_or (option_map (f q) (find R q es)) (cond b (Some (f e.0 e.1)) (get n q)) ≡ option_or (option_map (f q) (cond b (Some e.1) (find R q es))) (get n q)
+        by true is =
+            let one : q ≡ e.0 = same q e.0 (tied_by _ is) in
+            ap (λ z. option_or (option_map (f q) z) (Some (f e.0 e.1))) (ap (λ (k : K). find R k es) one ∙ none_below R es e.0 sorted.0)
+            ∙ ap (λ (k : K). Some (f k e.1)) (sym one)
+        by false is = refl
 
   -- What stands at each key.
   pub get-mapped : (m : FinMap R X) (q : K) → get (mapped f m) q ≡ option_map (f q) (get m q)
-  get-mapped m q = get-with_mapped (entries m) empty q (in_order m) ∙ ap (option_or (option_map (f q) (find R q (entries m)))) (get-empty R q) ∙ or_none _ ∙ ap (option_map (f q)) (sym (get-entries m q))
+  get-mapped m q = get-with_mapped (entries m) empty q (in_order m) ∙ ap (option_or (option_map (f q) (find R q (entries m)))) (get-empty R q) ∙ or_none _
+      ∙ ap (option_map (f q)) (sym (get-entries m q))
 
   -- A walk begins with all entries to map.
   pub mapped_start : (m : FinMap R X) (n : FinMap R Y) → n ≡ empty → with_mapped f n (entries_past m None) ≡ mapped f m
   mapped_start m n none = ap (λ (w : FinMap R Y). with_mapped f w (entries_past m None)) none ∙ ap (with_mapped f empty) (walk_start o same m)
 
   -- Each step maps the next entry.
-  pub mapped_next : (m : FinMap R X) (after : Option K) (k : K) (x : X) (y : Y) (n now : FinMap R Y) → IsLeastAfter m after k x → with_mapped f n (entries_past m after) ≡ mapped f m → now ≡ insert n k y → y ≡ f k x → with_mapped f now (entries_past m (Some k)) ≡ mapped f m
-  mapped_next m after k x y n now next left put is = ap (λ (w : FinMap R Y). with_mapped f w (entries_past m (Some k))) (put ∙ ap (insert n k) is) ∙ sym (ap (with_mapped f n) (walk_next o same m after k x next)) ∙ left
+  pub mapped_next : (m : FinMap R X) (after : Option K) (k : K) (x : X) (y : Y) (n now : FinMap R Y) → IsLeastAfter m after k x
+      → with_mapped f n (entries_past m after) ≡ mapped f m → now ≡ insert n k y → y ≡ f k x → with_mapped f now (entries_past m (Some k)) ≡ mapped f m
+  mapped_next m after k x y n now next left put is = ap (λ (w : FinMap R Y). with_mapped f w (entries_past m (Some k))) (put ∙ ap (insert n k) is)
+      ∙ sym (ap (with_mapped f n) (walk_next o same m after k x next)) ∙ left
 
   -- A walk that ends has mapped them all.
   pub mapped_end : (m : FinMap R X) (after : Option K) (n : FinMap R Y) → HasNoneAfter m after → with_mapped f n (entries_past m after) ≡ mapped f m → n ≡ mapped f m

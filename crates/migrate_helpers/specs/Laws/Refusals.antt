@@ -37,7 +37,8 @@ refused_first None b x y e is = absurd (cc is)
 refused_first (Some k) b x y e is = refused (Some k) x y e is
 
 -- And the second where the first is none.
-pub refused_second : {X Y Z : Type 0} (a b : Option (List (List ℕ))) (x z : X) (y : Y) (w : Z) (e : MapError) → unless_conflict a x ≡ Ok z → unless_conflict b y ≡ Err e → unless_conflict (option_or a b) w ≡ Err e
+pub refused_second : {X Y Z : Type 0} (a b : Option (List (List ℕ))) (x z : X) (y : Y) (w : Z) (e : MapError) → unless_conflict a x ≡ Ok z
+    → unless_conflict b y ≡ Err e → unless_conflict (option_or a b) w ≡ Err e
 refused_second None b x z y w e fine is = refused b y w e is
 refused_second (Some k) b x z y w e fine is = absurd (cc fine)
 
@@ -51,18 +52,21 @@ pub free_allowed : {X : Type 0} (whole made : FinMap key_cmp X) → unless_confl
 free_allowed whole made fine = let parts = allowed (conflict whole) whole made fine in free_of_conflict made (ap conflict (sym parts.1) ∙ parts.0)
 
 -- Settings that are allowed are allowed as a content.
-pub live_allowed : (whole s : FinMap key_cmp Setting) (metadata : FinMap key_cmp (FinMap bytes_cmp Scalar)) (live : Contents) → unless_conflict (conflict whole) whole ≡ Ok s → live ≡ content_of s metadata → unless_conflict (conflict whole) (content_of whole metadata) ≡ Ok live
+pub live_allowed : (whole s : FinMap key_cmp Setting) (metadata : FinMap key_cmp (FinMap bytes_cmp Scalar)) (live : Contents)
+    → unless_conflict (conflict whole) whole ≡ Ok s → live ≡ content_of s metadata → unless_conflict (conflict whole) (content_of whole metadata) ≡ Ok live
 live_allowed whole s metadata live fine is =
     let parts = allowed (conflict whole) whole s fine in
     ap (λ c. unless_conflict c (content_of whole metadata)) parts.0 ∙ ap Ok (ap (λ (w : FinMap key_cmp Setting). content_of w metadata) parts.1 ∙ sym is)
 
 -- A live content and pending maps that are allowed are allowed together.
-pub held_allowed : (h : Held) (a b : Option (List (List ℕ))) (x live : Contents) (y pending : FinMap bytes_cmp (FinMap key_cmp Pending)) (made : Held) → unless_conflict a x ≡ Ok live → unless_conflict b y ≡ Ok pending
+pub held_allowed : (h : Held) (a b : Option (List (List ℕ))) (x live : Contents) (y pending : FinMap bytes_cmp (FinMap key_cmp Pending)) (made : Held)
+    → unless_conflict a x ≡ Ok live → unless_conflict b y ≡ Ok pending
     → made ≡ record h { live = live; pending = pending } → unless_conflict (option_or a b) (record h { live = x; pending = y }) ≡ Ok made
 held_allowed h a b x live y pending made first second is =
     let one = allowed a x live first in
     let two = allowed b y pending second in
     ap (λ c. unless_conflict (option_or c b) (record h { live = x; pending = y })) one.0 ∙ ap (λ c. unless_conflict c (record h { live = x; pending = y })) two.0
-    ∙ ap Ok (ap (λ (l : Contents). record h { live = l; pending = y }) one.1 ∙ ap (λ (p : FinMap bytes_cmp (FinMap key_cmp Pending)). record h { live = live; pending = p }) two.1 ∙ sym is)
+    ∙ ap Ok (ap (λ (l : Contents). record h { live = l; pending = y }) one.1
+    ∙ ap (λ (p : FinMap bytes_cmp (FinMap key_cmp Pending)). record h { live = live; pending = p }) two.1 ∙ sym is)
 
 pub ruleset refusals = (refused, refused_first, refused_second, live_allowed, held_allowed)

@@ -13,19 +13,21 @@ module _ {K X : Type 0} {R : K → K → Ordering} (o : IsTotalOrder R) (same : 
   any_of : (es : List (K × X)) (p : K → Bool) (k : K) → IsSome (find R k es) → p k ≡ true → list_any p (map (λ e. e.0) es) ≡ true
   any_of [] p k has passes = absurd (cc has)
   any_of (e ∷ es) p k has passes = by (eq_by_cmp R k e.0) refl has (λ h. any_of es p k h passes) where
-    by : (b : Bool) → eq_by_cmp R k e.0 ≡ b → IsSome (cond b (Some e.1) (find R k es)) → (IsSome (find R k es) → list_any p (map (λ e. e.0) es) ≡ true) → (p e.0 || list_any p (map (λ e. e.0) es)) ≡ true
+    by : (b : Bool) → eq_by_cmp R k e.0 ≡ b → IsSome (cond b (Some e.1) (find R k es)) → (IsSome (find R k es) → list_any p (map (λ e. e.0) es) ≡ true)
+        → (p e.0 || list_any p (map (λ e. e.0) es)) ≡ true
     by true is here rest = or_left _ _ (ap p (sym (same k e.0 (tied_by _ is))) ∙ passes)
     by false is here rest = or_right _ _ (rest here)
 
   none_of : (es : List (K × X)) (p : K → Bool) → ((k : K) → IsSome (find R k es) → p k ≡ false) → list_any p (map (λ e. e.0) es) ≡ false
   none_of [] p none = refl
-  none_of (e ∷ es) p none = ap (λ b. b || list_any p (map (λ e. e.0) es)) (none e.0 here) ∙ none_of es p (λ k has. none k (later (eq_by_cmp R k e.0) (find R k es) has)) where
-    here : IsSome (find R e.0 (e ∷ es))
-    here = subst IsSome (sym (cond-true _ (Some e.1) (find R e.0 es) (ap is_eq (tied_itself o e.0)))) refl
+  none_of (e ∷ es) p none = ap (λ b. b || list_any p (map (λ e. e.0) es)) (none e.0 here)
+      ∙ none_of es p (λ k has. none k (later (eq_by_cmp R k e.0) (find R k es) has)) where
+        here : IsSome (find R e.0 (e ∷ es))
+        here = subst IsSome (sym (cond-true _ (Some e.1) (find R e.0 es) (ap is_eq (tied_itself o e.0)))) refl
 
-    later : (b : Bool) (z : Option X) → IsSome z → IsSome (cond b (Some e.1) z)
-    later true z has = refl
-    later false z has = has
+        later : (b : Bool) (z : Option X) → IsSome z → IsSome (cond b (Some e.1) z)
+        later true z has = refl
+        later false z has = has
 
   -- Some key passes where one that stands in the map does.
   pub stands_any : (m : FinMap R X) (p : K → Bool) (k : K) → IsSome (get m k) → p k ≡ true → list_any p (keys m) ≡ true

@@ -60,11 +60,13 @@ first_none None b is = (refl, is)
 first_none (Some k) b is = absurd (cc is)
 
 -- Without a conflict the edited maps keep the rules.
-pub edited_pending_rules : (step : Step) (es : List (List ℕ × FinMap key_cmp Pending)) (m : Pendings) → IsPending m → first_conflict step es ≡ None → IsPending (with_edited step m es)
+pub edited_pending_rules : (step : Step) (es : List (List ℕ × FinMap key_cmp Pending)) (m : Pendings) → IsPending m → first_conflict step es ≡ None
+    → IsPending (with_edited step m es)
 edited_pending_rules step [] m pending none = pending
 edited_pending_rules step (e ∷ es) m pending none =
     let parts = first_none (conflict (pending_edited step e.1)) (first_conflict step es) none in
-    edited_pending_rules step es (with_inner m e.0 (pending_edited step e.1)) (set_keeps m e.0 (pending_edited step e.1) pending (free_of_conflict (pending_edited step e.1) parts.0)) parts.1
+    edited_pending_rules step es (with_inner m e.0 (pending_edited step e.1))
+    (set_keeps m e.0 (pending_edited step e.1) pending (free_of_conflict (pending_edited step e.1) parts.0)) parts.1
 
 pub transactions_rules : (step : Step) (p : Pendings) → first_conflict step (entries p) ≡ None → IsPending (transactions_edited step p)
 transactions_rules step p none = edited_pending_rules step (entries p) empty none_pending none
@@ -91,21 +93,26 @@ module _ (step : Step) (p : Pendings) where
     conflicts_at = sym (ap (first_conflict step) at) ∙ so_far.conflicts
 
     -- The next transaction is edited and set.
-    pub edited_next : (made : FinMap key_cmp Pending) (now : Pendings) → unless_conflict (conflict (pending_edited step keys)) (pending_edited step keys) ≡ Ok made → now ≡ with_inner m tx made → Edited step p now (Some tx)
+    pub edited_next : (made : FinMap key_cmp Pending) (now : Pendings) → unless_conflict (conflict (pending_edited step keys)) (pending_edited step keys) ≡ Ok made
+        → now ≡ with_inner m tx made → Edited step p now (Some tx)
     edited_next made now fine set =
         let parts = allowed (conflict (pending_edited step keys)) (pending_edited step keys) made fine in
         record {
-          maps = ap (λ (w : Pendings). with_edited step w (entries_past p (Some tx))) (set ∙ ap (with_inner m tx) (sym parts.1)) ∙ sym (ap (with_edited step m) at) ∙ so_far.maps;
+          maps = ap (λ (w : Pendings). with_edited step w (entries_past p (Some tx))) (set ∙ ap (with_inner m tx) (sym parts.1)) ∙ sym (ap (with_edited step m) at)
+              ∙ so_far.maps;
           conflicts = sym (ap (λ c. option_or c (first_conflict step (entries_past p (Some tx)))) parts.0) ∙ conflicts_at;
           pending = subst IsPending (sym set) (set_keeps m tx made so_far.pending (free_allowed (pending_edited step keys) made fine));
         }
 
     -- The next transaction has a conflict.
-    pub edited_refused : (e : MapError) → unless_conflict (conflict (pending_edited step keys)) (pending_edited step keys) ≡ Err e → unless_conflict (first_conflict step (entries p)) (transactions_edited step p) ≡ Err e
-    edited_refused e is = ap (λ c. unless_conflict c (transactions_edited step p)) (sym conflicts_at) ∙ refused_first (conflict (pending_edited step keys)) _ (pending_edited step keys) (transactions_edited step p) e is
+    pub edited_refused : (e : MapError) → unless_conflict (conflict (pending_edited step keys)) (pending_edited step keys) ≡ Err e
+        → unless_conflict (first_conflict step (entries p)) (transactions_edited step p) ≡ Err e
+    edited_refused e is = ap (λ c. unless_conflict c (transactions_edited step p)) (sym conflicts_at)
+        ∙ refused_first (conflict (pending_edited step keys)) _ (pending_edited step keys) (transactions_edited step p) e is
 
   -- All transactions are edited.
-  pub edited_end : (m made : Pendings) (after : Option (List ℕ)) → HasNoneAfter p after → Edited step p m after → made ≡ m → unless_conflict (first_conflict step (entries p)) (transactions_edited step p) ≡ Ok made
+  pub edited_end : (m made : Pendings) (after : Option (List ℕ)) → HasNoneAfter p after → Edited step p m after → made ≡ m
+      → unless_conflict (first_conflict step (entries p)) (transactions_edited step p) ≡ Ok made
   edited_end m made after none so_far is =
       let end : entries_past p after ≡ [] = walk_end bytes_total bytes_cmp-IsAntisymmetric p after none in
       let fine : first_conflict step (entries p) ≡ None = sym so_far.conflicts ∙ ap (first_conflict step) end in

@@ -1,20 +1,15 @@
-use Rattle.std.proofs.Common.{◌∙◌, ap}
-use Rattle.std.specs.FinMap.{insert}
-use Rattle.std.specs.Option.{option_copied}
-use Rattle.key_names.specs.Order.{key_total, key_cmp-IsAntisymmetric}
-use Rattle.settings_tree.proofs.Walks.{walk_falls}
-use Rattle.migrate_helpers.specs.Laws.MappedMaps.{mapped_start, mapped_next, mapped_end}
+use Rattle.migrate_helpers.proofs.EditSteps.{without_falls}
+use Rattle.migrate_helpers.proofs.Moved.{split_start, split_next, split_end}
 use Rattle.migrate_helpers.proofs.live.values_of.Goals as goal
 
-pub loop-key-init : goal.loop-key-init
-loop-key-init c = mapped_start key_total key_cmp-IsAntisymmetric (λ k x. x.value) c.args.settings.now c.new-values.result c.new-values.ensures
+pub loop-values-init : goal.loop-values-init
+loop-values-init c = split_start c.args.settings c.new-values.result c.new-values.ensures
 
-pub loop-key-preserved : goal.loop-key-preserved
-loop-key-preserved c = mapped_next key_total key_cmp-IsAntisymmetric (λ k x. x.value) c.args.settings.now (option_copied c.loop-key.after) c.in-Some.key.now c.in-Some.setting.now c.in_ok-copy-2.field-0 c.loop-key.values c.put.new.self c.in-Some.ensures.least c.loop-key.invariant
-    (c.in_ok-put.ensures.ok ∙ ap (λ k. insert c.loop-key.values k c.in_ok-copy-2.field-0) c.in_ok-copy.ensures) c.in_ok-copy-2.ensures
+pub loop-values-preserved : goal.loop-values-preserved
+loop-values-preserved c = split_next c.in-Some.key c.args.settings c.loop-values.settings c.move_value.new.settings c.loop-values.values c.move_value.new.values (rw c.in-Some.is at c.in_ok-key.ensures.stands) c.in_ok-move_value.ensures.taken c.in_ok-move_value.ensures.put c.loop-values.invariant
 
-pub loop-key-smaller : goal.loop-key-smaller
-loop-key-smaller c = walk_falls key_total key_cmp-IsAntisymmetric c.args.settings.now (option_copied c.loop-key.after) c.in-Some.key.now c.in-Some.setting.now c.in-Some.ensures.least
+pub loop-values-smaller : goal.loop-values-smaller
+loop-values-smaller c = without_falls c.loop-values.settings c.move_value.new.settings c.in-Some.key (rw c.in-Some.is at c.in_ok-key.ensures.stands) c.in_ok-move_value.ensures.taken
 
 pub returns : goal.returns
-returns c = mapped_end key_total key_cmp-IsAntisymmetric (λ k x. x.value) c.args.settings.now (option_copied c.loop-key.after) c.loop-key.values c.in_default.ensures.none c.loop-key.invariant
+returns c = split_end c.args.settings c.loop-values.settings c.loop-values.values (rw c.in_default.is at c.in_ok-key.ensures.none) c.loop-values.invariant

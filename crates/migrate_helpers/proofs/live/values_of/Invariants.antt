@@ -1,12 +1,9 @@
-use Rattle.std.proofs.Common.{◌≡◌, length}
-use Rattle.std.specs.Option.{option_copied}
-use Rattle.settings_tree.specs.Walks.{entries_past}
-use Rattle.migrate_helpers.specs.Settings.{values_of}
-use Rattle.migrate_helpers.specs.Laws.MappedMaps.{with_mapped}
+use Rattle.std.specs.FinMap.{len}
+use Rattle.migrate_helpers.proofs.Moved.{Split}
 use Rattle.migrate_helpers.proofs.live.values_of.Given as goal
 
-abbrev pub invariant-loop-key : goal.invariant-loop-key
-invariant-loop-key l = with_mapped (λ k x. x.value) l.values (entries_past l.settings (option_copied l.after)) ≡ values_of l.settings
+abbrev pub invariant-loop-values : goal.invariant-loop-values
+invariant-loop-values l = Split l.fn.settings l.settings l.values
 
-abbrev pub decreases-loop-key : goal.decreases-loop-key
-decreases-loop-key l = length (entries_past l.settings (option_copied l.after))
+abbrev pub decreases-loop-values : goal.decreases-loop-values
+decreases-loop-values l = len l.settings

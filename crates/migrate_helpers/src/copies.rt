@@ -1,0 +1,38 @@
+//! Copies of the lists that migrations name.
+ghost use Rattle.std.specs.Prelude.{◌≡◌, IfOk};
+
+use key_names::{Key, Text};
+use std::alloc::{AllocError, Global};
+
+pub(crate) fn copied_keys(alloc: Global, keys: &[Key]) -> Result<Vec<Key>, AllocError>
+    ensures { IfOk result (λ copies. copies.items ≡ keys.now) }
+{
+    let mut copies = Vec::new(alloc);
+    for key in keys {
+        copies.push(key.copy()?)?;
+    }
+    Ok(copies)
+}
+
+pub(crate) fn copied_pairs(
+    alloc: Global,
+    pairs: &[(Key, Key)],
+) -> Result<Vec<(Key, Key)>, AllocError>
+    ensures { IfOk result (λ copies. copies.items ≡ pairs.now) }
+{
+    let mut copies = Vec::new(alloc);
+    for (from, to) in pairs {
+        copies.push((from.copy()?, to.copy()?))?;
+    }
+    Ok(copies)
+}
+
+pub(crate) fn copied_texts(alloc: Global, texts: &[Text]) -> Result<Vec<Text>, AllocError>
+    ensures { IfOk result (λ copies. copies.items ≡ texts.now) }
+{
+    let mut copies = Vec::new(alloc);
+    for text in texts {
+        copies.push(text.copy()?)?;
+    }
+    Ok(copies)
+}
