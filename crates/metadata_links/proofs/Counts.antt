@@ -109,7 +109,7 @@ through_at xs ys i m n mis nis past whole low = sym (lens (drop i xs) (drop i ys
 
 -- ---- the services of keys
 
-fold_both : {A B : Type 0} (f : A → B → A) (a : A) (xs ys : List B) → fold f a (xs ++ ys) ≡ fold f (fold f a xs) ys
+pub fold_both : {A B : Type 0} (f : A → B → A) (a : A) (xs ys : List B) → fold f a (xs ++ ys) ≡ fold f (fold f a xs) ys
 fold_both f a [] ys = refl
 fold_both f a (x ∷ xs) ys = fold_both f (f a x) xs ys
 

@@ -3,10 +3,11 @@ pub mod Counts
 pub mod Faultless
 pub mod Filtered
 pub mod Gatherings
+pub mod Linking
 pub mod Listings
 pub mod Named
 pub mod Rests
+pub mod Runs
 pub mod Sets
 pub mod Sorted
 pub mod Spaces
-pub mod Spelled

@@ -4,6 +4,7 @@ pub mod Fields
 pub mod Files
 pub mod Firsts
 pub mod Gathered
+pub mod Linked
 pub mod Links
 pub mod Lists
 pub mod Manifest

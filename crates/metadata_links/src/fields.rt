@@ -3,7 +3,6 @@ ghost use Rattle.std.specs.Prelude.{◌≡◌, ◌≢◌, [], ◌∷◌, fold, I
 ghost use Rattle.std.specs.FinMap as map;
 ghost use Rattle.std.specs.FinMap.{from_entries};
 ghost use Rattle.key_names.specs.Order.{bytes_cmp};
-ghost use Rattle.key_names.specs.Spelling.{SpellsKey};
 ghost use Rattle.settings_tree.specs.Walks.{entries_below};
 ghost use Rattle.metadata_links.specs.Fields.{fields_below};
 ghost use Rattle.metadata_links.specs.Gathered.{fields_of, with_field, with_named, with_value};
@@ -116,7 +115,6 @@ pub(crate) fn fields_below(
     one: &str,
     other: &str,
 ) -> Result<BTreeMap<Text, Fields>, AllocError>
-    requires spelled { SpellsKey first.now (first.now ∷ []) }
     requires apart { one.now ≢ other.now }
     ensures { IfOk result (λ found. map.entries (from_entries {R = bytes_cmp} found.entries)
         ≡ fields_below content.now.values first.now one.now other.now) }

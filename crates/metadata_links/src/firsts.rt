@@ -1,56 +1,65 @@
 //! Lists of names without repetition.
-ghost use Rattle.std.specs.Prelude.{◌≡◌, [], OnOk, fold};
-ghost use Rattle.metadata_links.specs.Firsts.{with_name, IsSeen};
+ghost use Rattle.std.specs.Prelude.{◌≡◌, [], IfOk, OnOk};
+ghost use Rattle.std.specs.Str.{bytes_eq};
+ghost use Rattle.indexmap.specs.IndexSet.{insert_key, insert_all};
 
-use crate::name_set::NameSet;
+use indexmap::IndexSet;
 use key_names::Text;
 use std::alloc::{AllocError, Global};
+use std::marker::Model;
 
-/// A list that takes each name once.
+/// A list that takes each name once. It keeps the allocator that it was made with.
 #[derive(Drop)]
 pub struct Firsts {
-    /// The names in their order.
-    pub names: Vec<Text>,
-    /// The set of these names.
-    pub seen: NameSet,
+    all: IndexSet<String>,
 }
 
-#[tactic(auto, using(crate::proofs::Named::first_names))]
+impl Model for Firsts {
+    ghost use Rattle.std.specs.Prelude.{List, ℕ, map, string_bytes};
+
+    ghost Value = { List (List ℕ) };
+
+    ghost view = { λ f. map (λ name. string_bytes name) f.all.keys };
+}
+
 impl Firsts {
     /// The empty list. It takes no memory.
     pub fn new(alloc: Global) -> Firsts
-        ensures names { result.names.items ≡ [] }
-        ensures seen { IsSeen result.names.items result.seen }
+        ensures { result ≡ [] }
     {
         Firsts {
-            names: Vec::new(alloc),
-            seen: NameSet::new(alloc),
+            all: IndexSet::new(alloc),
         }
     }
 
-    /// Puts a copy of the name at the end, unless the list has it. It is logarithmic. The only error
-    /// is want of memory.
+    /// Puts a copy of the name at the end, unless the list has it. The only error is want of memory.
     pub fn add(&mut self, name: &Text) -> Result<(), AllocError>
-        requires { IsSeen self.old.names.items self.old.seen }
-        ensures names { OnOk result (self.new.names.items ≡ with_name self.old.names.items name.now) }
-        ensures seen { OnOk result (IsSeen self.new.names.items self.new.seen) }
+        ensures { OnOk result (self.new ≡ insert_key bytes_eq self.old name.now) }
     {
-        if self.seen.add(name)? {
-            self.names.push(name.copy()?)?;
-        }
+        let alloc = *self.all.allocator();
+        self.all.insert(String::from_str(alloc, name.as_str())?)?;
         Ok(())
     }
 
     /// Puts copies of those of the names at the end that the list doesn't have yet. The only error is
     /// want of memory.
     pub fn add_all(&mut self, names: &[Text]) -> Result<(), AllocError>
-        requires { IsSeen self.old.names.items self.old.seen }
-        ensures names { OnOk result (self.new.names.items ≡ fold with_name self.old.names.items names.now) }
-        ensures seen { OnOk result (IsSeen self.new.names.items self.new.seen) }
+        ensures { OnOk result (self.new ≡ insert_all bytes_eq self.old names.now) }
     {
         for name in names {
             self.add(name)?;
         }
         Ok(())
+    }
+
+    /// The names. The only error is want of memory.
+    pub fn into_vec(self) -> Result<Vec<Text>, AllocError>
+        ensures { IfOk result (λ names. names.items ≡ self) }
+    {
+        let mut names = Vec::new(*self.all.allocator());
+        for name in self.all {
+            names.push(Text::of(name))?;
+        }
+        Ok(names)
     }
 }

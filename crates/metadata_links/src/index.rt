@@ -1,6 +1,5 @@
-//! The index: lists of services by key, and the look-ups in it.
-ghost use Rattle.std.specs.Prelude.{◌≡◌, ◌≢◌, ◌<◌, ◌≤◌, ◌++◌, [], ◌∷◌, Some, length, take, filter, fold, IsTrue, IfOk, IfErr, OnOk};
-ghost use Rattle.std.specs.List.{flat_map};
+//! The index: lists of services by key, and the one look-up that is counted.
+ghost use Rattle.std.specs.Prelude.{◌≡◌, ◌≢◌, ◌<◌, ◌≤◌, Some, length, take, IsTrue, IfOk, IfErr};
 ghost use Rattle.std.specs.FinMap as map;
 ghost use Rattle.std.specs.FinMap.{is_sorted};
 ghost use Rattle.std.specs.FinMap.Entries.{find};
@@ -8,17 +7,15 @@ ghost use Rattle.std.specs.Option.{option_copied};
 ghost use Rattle.key_names.specs.Order.{key_cmp};
 ghost use Rattle.metadata_links.specs.Faults.{faults_in, first_of};
 ghost use Rattle.metadata_links.specs.Lists.{lists_in, IsIndexOf};
-ghost use Rattle.metadata_links.specs.Rising.{with_member};
 ghost use Rattle.metadata_links.specs.declared.manifest_error.ManifestError.TheVariants.{Memory};
-ghost use Rattle.metadata_links.specs.Nearest.{near, is_past, keys_past, listed_below, aff, steps_to, all_steps, stepped};
+ghost use Rattle.metadata_links.specs.Nearest.{stepped};
 
 use crate::affected_lists::lists_in;
 use crate::manifest_error::ManifestError;
-use crate::name_set::NameSet;
 use crate::texts::Texts;
 use key_names::{Key, Text};
-use settings_tree::{Content, KeyList};
-use std::alloc::{AllocError, Global};
+use settings_tree::Content;
+use std::alloc::Global;
 use std::cmp::Ordering;
 use std::marker::Model;
 
@@ -100,27 +97,6 @@ fn find<'a>(entries: &'a [(Key, Texts)], key: &Key, len: usize) -> Option<&'a Te
     }
 }
 
-// Puts the key at the end, where it is longer than the path and begins with it.
-fn push_past(keys: &mut Vec<Key>, path: &Key, key: &Key) -> Result<(), AllocError>
-    ensures { OnOk result (keys.new.items ≡ keys.old.items ++ filter (is_past path.now) (key.now ∷ [])) }
-{
-    if path.len() < key.len() && path.is_prefix(key) {
-        keys.push(key.copy()?)?;
-    }
-    Ok(())
-}
-
-// The keys that are longer than the path and begin with it.
-fn keys_past(alloc: Global, entries: &[(Key, Texts)], path: &Key) -> Result<Vec<Key>, AllocError>
-    ensures { IfOk result (λ keys. keys.items ≡ keys_past path.now entries.now) }
-{
-    let mut keys = Vec::new(alloc);
-    for (key, _) in entries {
-        push_past(&mut keys, path, key)?;
-    }
-    Ok(keys)
-}
-
 #[tactic(auto, using(crate::proofs::Sorted::sorted_entries))]
 impl Index {
     /// The map of these entries, which rise by key. It takes no memory.
@@ -143,6 +119,14 @@ impl Index {
         lists_in(alloc, content, None)
     }
 
+    /// The entries, rising by key. It takes no memory.
+    pub(crate) fn as_slice(&self) -> &[(Key, Texts)]
+        ensures entries { result.now ≡ map.entries self.now }
+        ensures rises { IsTrue (is_sorted key_cmp result.now) }
+    {
+        &self.entries
+    }
+
     /// The allocator that the index keeps.
     pub(crate) fn allocator(&self) -> Global {
         *self.entries.allocator()
@@ -161,62 +145,5 @@ impl Index {
             Some(list) => Some(list.as_slice()),
             None => None,
         }
-    }
-
-    /// The list of the longest prefix of the key that has one, else the empty list. It takes a step
-    /// for each length from the key's own down to that prefix's, or down to 1, and no memory.
-    pub(crate) fn nearest(&self, key: &Key, probes: &mut Steps) -> &[Text]
-        ensures list { result.now ≡ near self.now key.now }
-        ensures counted { probes.new ≡ stepped probes.old (steps_to self.now key.now) }
-    {
-        let mut len = key.len();
-        while len > 0 {
-            match self.at(key, len, probes) {
-                Some(list) => return list,
-                None => len -= 1,
-            }
-        }
-        &[]
-    }
-
-    /// The keys that have a list, are longer than the path and begin with it, rising. It takes one pass
-    /// over the keys. The only error is want of memory.
-    pub(crate) fn listed_below(&self, path: &Key) -> Result<Vec<Key>, AllocError>
-        ensures { IfOk result (λ keys. keys.items ≡ listed_below self.now path.now) }
-    {
-        keys_past(self.allocator(), &self.entries, path)
-    }
-
-    // Puts the nearest list of each key into the set.
-    fn put_nearest(
-        &self,
-        services: &mut NameSet,
-        keys: &[Key],
-        probes: &mut Steps,
-    ) -> Result<(), AllocError>
-        ensures named { OnOk result (services.new
-            ≡ fold with_member services.old (flat_map (near self.now) keys.now)) }
-        ensures counted { OnOk result (probes.new ≡ stepped probes.old (all_steps self.now keys.now)) }
-        ensures at_most { probes.new ≤ stepped probes.old (all_steps self.now keys.now) }
-        ensures kept { probes.old ≤ probes.new }
-    {
-        for key in keys {
-            services.add_all(self.nearest(key, probes))?;
-        }
-        Ok(())
-    }
-
-    /// The services that the nearest lists of the keys name, rising. For each key it takes a step for
-    /// each length from the key's own down to the greatest that has a list, or down to 1 where none
-    /// has. The only error is want of memory, after at most these steps.
-    pub fn affected(&self, keys: &KeyList, probes: &mut Steps) -> Result<Vec<Text>, AllocError>
-        ensures services { IfOk result (λ services. services.items ≡ aff self.now keys.now) }
-        ensures counted { OnOk result (probes.new ≡ stepped probes.old (all_steps self.now keys.now)) }
-        ensures at_most { probes.new ≤ stepped probes.old (all_steps self.now keys.now) }
-        ensures kept { probes.old ≤ probes.new }
-    {
-        let mut services = NameSet::new(self.allocator());
-        self.put_nearest(&mut services, keys.as_slice(), probes)?;
-        services.into_vec()
     }
 }

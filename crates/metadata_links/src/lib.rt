@@ -10,6 +10,7 @@ mod file_rows;
 mod firsts;
 mod index;
 mod keys;
+mod look_ups;
 mod manifest;
 mod manifest_error;
 mod name_map;

@@ -1,9 +1,12 @@
 //! Manifests.
-ghost use Rattle.std.specs.Prelude.{◌≡◌, ◌≢◌, ◌++◌, [], ◌∷◌, Some, IfOk, IfErr, OnOk, map, fold};
+ghost use Rattle.std.specs.Prelude.{◌≡◌, ◌≢◌, ◌<◌, ◌++◌, [], ◌∷◌, Some, All, IsTrue, IsSome, IfOk, IfErr, OnOk, length, map};
 ghost use Rattle.std.specs.FinMap as finite;
 ghost use Rattle.std.specs.List.{flat_map};
 ghost use Rattle.std.specs.Option.{option_copied};
+ghost use Rattle.std.specs.Str.{bytes_eq};
+ghost use Rattle.indexmap.specs.IndexSet.{insert_all};
 ghost use Rattle.metadata_links.specs.Commands.{seen, commands_from, listing};
+ghost use Rattle.metadata_links.specs.Linked.{have_words, have_rows};
 
 use crate::affected_lists::lists_in;
 use crate::command::{Command, words_in};
@@ -28,6 +31,9 @@ pub struct Manifest {
     services: NameMap<Service>,
     files: NameMap<FileRow>,
     index: Index,
+    // Each command has a word, and each file that a service lists is there.
+    pub ghost worded: { IsTrue (have_words services) },
+    pub ghost filed: { IsTrue (have_rows files services) },
 }
 
 // Puts the commands at the end, split into words.
@@ -79,7 +85,7 @@ fn listing(
 
 impl Manifest {
     ghost use Rattle.metadata_links.specs.Faults.{faults, first_of};
-    ghost use Rattle.metadata_links.specs.Firsts.{firsts, with_name, IsSeen};
+    ghost use Rattle.metadata_links.specs.Firsts.{firsts};
     ghost use Rattle.metadata_links.specs.Links.{affected, all_files, listed, files_of, commands_in, commands_of, service_named, services_of};
     ghost use Rattle.metadata_links.specs.Manifest.{IsManifestOf};
     ghost use Rattle.metadata_links.specs.Nearest.{near, listed_below};
@@ -115,7 +121,8 @@ impl Manifest {
         })
     }
 
-    fn allocator(&self) -> Global {
+    /// The allocator that the manifest keeps.
+    pub fn allocator(&self) -> Global {
         self.index.allocator()
     }
 
@@ -144,10 +151,8 @@ impl Manifest {
 
     // Adds the files that the service lists.
     fn add_listed(&self, files: &mut Firsts, name: &Text) -> Result<(), AllocError>
-        requires { IsSeen files.old.names.items files.old.seen }
-        ensures names { OnOk result (files.new.names.items
-            ≡ fold with_name files.old.names.items (service_named self.now name.now).files) }
-        ensures seen { OnOk result (IsSeen files.new.names.items files.new.seen) }
+        ensures { OnOk result (files.new
+            ≡ insert_all bytes_eq files.old (service_named self.now name.now).files) }
     {
         match self.services.get(name.as_str().as_bytes()) {
             Some(service) => files.add_all(service.files.as_slice()),
@@ -157,8 +162,7 @@ impl Manifest {
 
     // The files that the services list, each once.
     fn listed(&self, names: &[Text]) -> Result<Firsts, AllocError>
-        ensures names { IfOk result (λ files. files.names.items ≡ firsts (listed self.now names.now)) }
-        ensures seen { IfOk result (λ files. IsSeen files.names.items files.seen) }
+        ensures { IfOk result (λ files. files ≡ firsts (listed self.now names.now)) }
     {
         let mut files = Firsts::new(self.allocator());
         for name in names {
@@ -169,9 +173,7 @@ impl Manifest {
 
     // Adds the names of all files, where all is owed.
     fn add_all_files(&self, files: &mut Firsts, owed: &Owed) -> Result<(), AllocError>
-        requires { IsSeen files.old.names.items files.old.seen }
-        ensures { OnOk result (files.new.names.items
-            ≡ fold with_name files.old.names.items (all_files self.now owed.now)) }
+        ensures { OnOk result (files.new ≡ insert_all bytes_eq files.old (all_files self.now owed.now)) }
     {
         match owed {
             Owed::All => files.add_all(&self.files.names()?),
@@ -180,15 +182,16 @@ impl Manifest {
     }
 
     /// The files of the affected services, services by name and files as listed, first occurrences
-    /// alone. Where all is owed, the files that no service lists follow by name. The only error is want
-    /// of memory.
+    /// alone. Where all is owed, the files that no service lists follow by name. Each of them is a file
+    /// of the manifest. The only error is want of memory.
     pub fn files_of(&self, owed: &Owed) -> Result<Vec<Text>, AllocError>
-        ensures { IfOk result (λ files. files.items ≡ files_of self.now owed.now) }
+        ensures files { IfOk result (λ files. files.items ≡ files_of self.now owed.now) }
+        ensures known { IfOk result (λ files. All (λ file. IsSome (finite.get self.now.files file)) files.items) }
     {
         let names = self.affected(owed)?;
         let mut files = self.listed(&names)?;
         self.add_all_files(&mut files, owed)?;
-        Ok(files.names)
+        files.into_vec()
     }
 
     // Puts the commands of the service at the end.
@@ -215,9 +218,10 @@ impl Manifest {
     }
 
     /// The restart commands of the affected services, services by name and commands as listed, each
-    /// split at runs of spaces. The only error is want of memory.
+    /// split at runs of spaces, into a word at least. The only error is want of memory.
     pub fn commands_of(&self, owed: &Owed) -> Result<Vec<Command>, AllocError>
-        ensures { IfOk result (λ commands. map seen commands.items ≡ commands_of self.now owed.now) }
+        ensures commands { IfOk result (λ commands. map seen commands.items ≡ commands_of self.now owed.now) }
+        ensures worded { IfOk result (λ commands. All (λ c. 0 < length c.words.items) commands.items) }
     {
         let names = self.affected(owed)?;
         self.commands_named(&names)

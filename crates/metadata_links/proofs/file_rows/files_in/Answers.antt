@@ -6,11 +6,7 @@ use Rattle.metadata_links.specs.Fields.{fields_below}
 use Rattle.metadata_links.proofs.Filtered.{kept_sorted, walk_begun, fault_of_next, sound, sorted_sound}
 use Rattle.metadata_links.proofs.Gatherings.{fields_rise, tree_entries}
 use Rattle.metadata_links.proofs.Rests.{taken_all, handed}
-use Rattle.metadata_links.proofs.Spelled.{files_spelled}
 use Rattle.metadata_links.proofs.file_rows.files_in.Goals as goal
-
-pub fields_below-requires-clause-spelled : goal.fields_below-requires-clause-spelled
-fields_below-requires-clause-spelled c = files_spelled
 
 pub loop-name-init : goal.loop-name-init
 loop-name-init c = walk_begun files_from (sound c.new-files.result.items) c.into_iter-name-iterator.result c.in_ok-found.found.entries _ (ap sound c.new-files.ensures.items) (search rules) (tree_entries c.in_ok-found.found.entries _ c.iter-name-items.ensures.ordered c.in_ok-found.ensures)

@@ -1,9 +1,7 @@
-use Rattle.std.proofs.Common.{◌≡◌, drop, fold}
-use Rattle.metadata_links.specs.Firsts.{with_name, IsSeen}
+use Rattle.std.proofs.Common.{◌≡◌, drop}
+use Rattle.std.specs.Str.{bytes_eq}
+use Rattle.indexmap.specs.IndexSet.{insert_all}
 use Rattle.metadata_links.proofs.firsts.Firsts.add_all.Given as goal
 
 abbrev pub invariant-loop-name : goal.invariant-loop-name
-invariant-loop-name l = record {
-  names : fold with_name l.self.names.items (drop l.name-index l.names) ≡ fold with_name l.initial.self.names.items l.names;
-  seen : IsSeen l.self.names.items l.self.seen;
-}
+invariant-loop-name l = insert_all bytes_eq l.self (drop l.name-index l.names) ≡ insert_all bytes_eq l.initial.self l.names

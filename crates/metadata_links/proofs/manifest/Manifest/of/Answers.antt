@@ -2,6 +2,8 @@ use Rattle.std.proofs.Common.{◌≡◌, ◌++◌, List, ℕ, Some, map, sym, �
 use Rattle.metadata_links.specs.Faults.{first_of, same_paths, nested_paths}
 use Rattle.metadata_links.specs.declared.file_row.FileRow.{FileRow}
 use Rattle.metadata_links.proofs.Faultless.{fault_of_paths, fault_of_service, fault_of_list, faultless}
+use Rattle.std.specs.FinMap.{entries, keys}
+use Rattle.metadata_links.proofs.Linking.{words_sound, rows_sound}
 use Rattle.metadata_links.proofs.Rests.{handed}
 use Rattle.metadata_links.proofs.manifest.Manifest.of.Goals as goal
 
@@ -36,4 +38,10 @@ returns-clause-ok c = record {
   services = c.in_ok-services.ensures;
   files = c.in_ok-files.ensures.ok;
   index = c.in_ok-index.ensures.ok;
+}
+
+pub invariant_of-result : goal.invariant_of-result
+invariant_of-result c = record {
+  worded = words_sound (keys c.in_ok-files.files) (entries c.in_ok-services.services) c.in_ok-check_services.ensures.ok;
+  filed = rows_sound (keys c.in_ok-files.files) (entries c.in_ok-services.services) c.in_ok-check_services.ensures.ok;
 }
