@@ -16,3 +16,5 @@ pub mod Integers
 pub mod Keeping
 pub mod Total
 pub mod Places
+pub mod Leasts
+pub mod FrontLines

@@ -10,6 +10,7 @@ pub mod Fault
 pub mod Nest
 pub mod Front
 pub mod Parses
+pub mod Places
 pub mod Spans
 pub mod Reading
 pub mod Kept

@@ -21,8 +21,6 @@ mod taken;
 mod template;
 mod template_error;
 mod templates;
-#[cfg(test)]
-mod tests;
 mod walk;
 mod words;
 
