@@ -28,8 +28,8 @@ module _ {X : Type 0} (values : FinMap key_cmp X) (p : Path) where
   children_past after = map (λ e. child p e.0) (entries_past (names_below values p) (name_below p after))
 
   -- The next child is the first of those that are left.
-  pub next_child_is : (after key : Path) → IsNextChild values p after key → children_past after ≡ child p (name_at p key) ∷ children_past key
-  next_child_is after key next =
+  pub next_child_is : (after key : Path) (x : X) → IsNextChild values p after key x → children_past after ≡ child p (name_at p key) ∷ children_past key
+  next_child_is after key x next =
       ap (λ es. map (λ e. child p e.0) es) (walk_next bytes_total bytes_cmp-IsAntisymmetric (names_below values p) (name_below p after) (name_at p key) tt next.next)
       ∙ ap (λ (o : Option (List ℕ)). child p (name_at p key) ∷ map (λ e. child p e.0) (entries_past (names_below values p) o)) (sym (name_there p key next.begins next.longer))
 
@@ -90,13 +90,13 @@ module _ {X : Type 0} (values : FinMap key_cmp X) (p : Path) where
   nonzero n = grind arith
 
   -- Whether there is no child past a key.
-  pub no_children : (after : Path) (o : Option (Bor Path)) (b : Bool) → is_some o ≡ not b → IfSome o (λ key. IsNextChild values p after key.now) → IfNone o (HasNoneAfter (names_below values p) (name_below p after))
+  pub no_children : (after : Path) (o : Option (Bor Path × Bor X)) (b : Bool) → is_some o ≡ not b → IfSome o (λ e. IsNextChild values p after e.0.now e.1.now) → IfNone o (HasNoneAfter (names_below values p) (name_below p after))
       → b ≡ (length (children_past after) == 0)
   no_children after None true is next none = sym (ap (λ (l : List Place). length l == 0) (no_child_is after none))
   no_children after None false is next none = absurd (cc is)
-  no_children after (Some key) true is next none = absurd (cc is)
-  no_children after (Some key) false is next none =
-      sym (ap (λ (l : List Place). length l == 0) (next_child_is after key.now next) ∙ nonzero (length (children_past key.now)))
+  no_children after (Some e) true is next none = absurd (cc is)
+  no_children after (Some e) false is next none =
+      sym (ap (λ (l : List Place). length l == 0) (next_child_is after e.0.now e.1.now next) ∙ nonzero (length (children_past e.0.now)))
 
   -- The first key from a path on, where it has as many names, is the path.
   pub same_key : (k : Path) → is_prefix p k ≡ true → length k ≡ length p → k ≡ p

@@ -6,6 +6,7 @@ use Rattle.std.proofs.lemmas.Bool.{both_ways, cond-false}
 use Rattle.json_trees.proofs.Segments.{is_key-first}
 use Rattle.key_names.specs.Key.{is_key, is_prefix}
 use Rattle.template_eval.specs.Place.{Path}
+use Rattle.template_eval.specs.Node.{os_path}
 use Rattle.template_eval.specs.Steps.{name_at}
 use Rattle.template_eval.proofs.NameOrder.{behind, index-behind}
 
@@ -64,6 +65,11 @@ pub child_is_key : (p k : Path) → is_prefix p k ≡ true → length p < length
 child_is_key p k begins longer key =
     let parts = parted p k begins longer in
     is_key-first (p ++ name_at p k ∷ []) parts.0 (push_some p (name_at p k)) (ap is_key (sym parts.1) ∙ key)
+
+-- A key that begins with another one begins with `os` just where that does.
+pub of_os : (p k : Path) → is_prefix p k ≡ true → is_key p ≡ true → is_prefix os_path k ≡ is_prefix os_path p
+of_os [] k begins key = absurd (cc key)
+of_os (n ∷ p) k begins key = ap (is_prefix os_path) (behind (n ∷ p) k begins).1
 
 no_rest : (rest : Path) → length rest ≡ 0 → rest ≡ []
 no_rest [] e = refl

@@ -30,11 +30,12 @@ module _ {X : Type 0} (values : FinMap key_cmp X) (p after last : Path) (begins 
   past_last k q named past = key_later p last k q longer named (subst (λ (o : Option (List ℕ)). IsPast bytes_cmp o q) (sym same_name) past)
 
   -- The key that is found gives the next child.
-  pub next_is : (k : Path) (x : X) → IsLeastBelow values p (Some last) k x → (slice_get after (length p) ≡ slice_get k (length p) → ⊥) → IsNextChild values p after k
+  pub next_is : (k : Path) (x : X) → IsLeastBelow values p (Some last) k x → (slice_get after (length p) ≡ slice_get k (length p) → ⊥) → IsNextChild values p after k x
   next_is k x next other =
       let later = name_later p last k longer next.begins next.past (λ e. other (same ∙ e)) in
       let named = name_there p k next.begins later.0 in
       record {
+        stands = next.stands;
         begins = next.begins;
         longer = later.0;
         next = record {

@@ -4,6 +4,7 @@ pub mod Node
 pub mod Written
 pub mod Rendered
 pub mod Render
+pub mod Kept
 pub mod Views
 pub mod Steps
 pub mod Lies

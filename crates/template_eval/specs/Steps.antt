@@ -1,6 +1,6 @@
 -- Steps from child to child, and from node to node: for private clauses.
-use Rattle.std.specs.Prelude.{◌≡◌, ◌<◌, ℕ, List, [], ◌++◌, length, slice_index_or, IsTrue, Ok}
-use Rattle.std.specs.FinMap.{FinMap}
+use Rattle.std.specs.Prelude.{◌≡◌, ◌<◌, ℕ, List, [], ◌++◌, length, slice_index_or, IsTrue, Some, Ok}
+use Rattle.std.specs.FinMap.{FinMap, get}
 use Rattle.key_names.specs.Order.{key_cmp}
 use Rattle.key_names.specs.Key.{is_prefix}
 use Rattle.settings_maps.specs.Maps.{IsLeastAfter}
@@ -12,8 +12,9 @@ use Rattle.template_eval.specs.Rendered.{Rendered, onto}
 abbrev pub name_at : Path → Path → List ℕ
 name_at path key = slice_index_or key (length path) []
 
--- The key goes on below the parent, by the least name past that of another key.
-pub record IsNextChild {X : Type 0} (values : FinMap key_cmp X) (parent after key : Path) : Type 0 where
+-- The key has this value, and goes on below the parent, by the least name past that of another key.
+pub record IsNextChild {X : Type 0} (values : FinMap key_cmp X) (parent after key : Path) (value : X) : Type 0 where
+  pub stands : get values key ≡ Some value
   pub begins : IsTrue (is_prefix parent key)
   pub longer : length parent < length key
   pub next : IsLeastAfter (names_below values parent) (name_below parent after) (name_at parent key) tt

@@ -3,6 +3,7 @@ use Rattle.std.specs.Prelude.{ℕ, pos, List, map, Option, Some, None}
 use Rattle.std.specs.Borrow.{Bor}
 use Rattle.std.specs.Fmt.{decimal, signed_decimal}
 use Rattle.json_trees.specs.declared.item.Item.TheVariants as value
+use Rattle.settings_tree.specs.Content.{Contents}
 use Rattle.settings_tree.specs.Walks.{entries_past}
 use Rattle.template_eval.specs.Place.{Place, Here, nowhere, in_tree, system, item, label, index_place}
 use Rattle.template_eval.specs.Children.{child, name_below, names_below}
@@ -20,7 +21,7 @@ use Rattle.template_reader.specs.declared.expr.Expr.{Expr}
 use Rattle.template_reader.specs.declared.walk.Walk.{Walk}
 use Rattle.template_eval.specs.declared.inputs.Inputs.{Inputs}
 use Rattle.template_eval.specs.declared.place.Place.{Place as TheirPlace}
-use Rattle.template_eval.specs.declared.place.Place.TheVariants.{Nowhere, At, Made, System, Item, Index, Name}
+use Rattle.template_eval.specs.declared.place.Place.TheVariants.{Nowhere, At, Made, Leaf, System, Item, Index, Name}
 use Rattle.template_eval.specs.declared.place.Here.{Here as TheirHere}
 use Rattle.template_eval.specs.declared.children.Children.{Children}
 use Rattle.template_eval.specs.declared.places.Places.{Places}
@@ -31,6 +32,7 @@ abbrev pub place_of : TheirPlace → Place
 place_of Nowhere = nowhere
 place_of (At key) = in_tree key.now
 place_of (Made key) = in_tree key
+place_of (Leaf key kept) = in_tree key.now
 place_of (System s) = system s.now
 place_of (Item i) = item i.now
 place_of (Index n) = index_place n
@@ -46,15 +48,15 @@ seen None = None
 seen (Some h) = Some (here_of h.now)
 
 -- The children of a key that are still to come: those whose name is past that of the given key.
-abbrev pub children_of : Children → List Place
-children_of c =
-    map (λ e. child c.parent.now e.0) (entries_past (names_below c.content.now.values c.parent.now) (name_below c.parent.now c.after.now))
+abbrev pub children_of : Contents → Children → List Place
+children_of content c =
+    map (λ e. child c.parent.now e.0) (entries_past (names_below content.values c.parent.now) (name_below c.parent.now c.after.now))
 
 -- The places that are still to come.
-abbrev pub places_of : Places → List Place
-places_of (places.Items is) = map item is.now
-places_of (places.System names) = map system names.now
-places_of (places.Children c) = children_of c
+abbrev pub places_of : Contents → Places → List Place
+places_of content (places.Items is) = map item is.now
+places_of content (places.System names) = map system names.now
+places_of content (places.Children c) = children_of content c
 
 -- A scalar, or what a child or its index is called.
 abbrev pub atom_node : Atom → Node
@@ -65,11 +67,11 @@ atom_node (atoms.Index n) = scalar (value.Int (pos n))
 atom_node (atoms.Name name) = nodes.label name.now
 
 -- What stands at a place.
-abbrev pub node_of : TheirNode → Node
-node_of theirs.Missing = missing
-node_of (theirs.Atom a) = atom_node a
-node_of (theirs.Items is) = items is.now
-node_of (theirs.Children places) = children (places_of places)
+abbrev pub node_of : Contents → TheirNode → Node
+node_of content theirs.Missing = missing
+node_of content (theirs.Atom a) = atom_node a
+node_of content (theirs.Items is) = items is.now
+node_of content (theirs.Children places) = children (places_of content places)
 
 -- The text of a scalar, or of what a child or its index is called.
 abbrev pub atom_text : Atom → List ℕ
@@ -78,6 +80,14 @@ atom_text (atoms.Int z) = signed_decimal z
 atom_text (atoms.Text t) = t.now
 atom_text (atoms.Index n) = decimal n
 atom_text (atoms.Name name) = name.now
+
+-- The places that are still to come, with these inputs.
+abbrev pub places_in : Inputs → Places → List Place
+places_in i places = places_of i.content.now places
+
+-- What stands at a place, with these inputs.
+abbrev pub node_in : Inputs → TheirNode → Node
+node_in i n = node_of i.content.now n
 
 -- What stands where a path leads, with these inputs.
 abbrev pub found : Inputs → Option Here → Walk → Node

@@ -7,7 +7,7 @@ ghost use Rattle.template_eval.specs.Children.{name_below, names_below};
 ghost use Rattle.template_eval.specs.Steps.{IsNextChild};
 
 use key_names::Key;
-use settings_tree::Content;
+use settings_tree::{Content, Scalar};
 
 /// The segment at the index, if the key has so many. It takes no memory.
 pub fn segment_at(key: &Key, index: usize) -> Option<&[u8]>
@@ -28,21 +28,25 @@ fn is_same_name(a: &Key, b: &Key, index: usize) -> bool
 }
 
 /// The first key with a value that begins with the parent, is past `after`, and has another name
-/// than `after` directly below the parent; None exactly where there is none. `after` is the parent
-/// itself or begins with it. It takes a logarithmic step for each value that it passes, and no
-/// memory.
-pub fn next_child<'a>(content: &'a Content, parent: &Key, after: &'a Key) -> Option<&'a Key>
+/// than `after` directly below the parent, and that value; None exactly where there is none. `after`
+/// is the parent itself or begins with it. It takes a logarithmic step for each value that it
+/// passes, and no memory.
+pub fn next_child<'a>(
+    content: &'a Content,
+    parent: &Key,
+    after: &'a Key,
+) -> Option<(&'a Key, &'a Scalar)>
     requires { IsTrue (is_prefix parent.now after.now) }
     ensures next { IfSome result
-        (λ key. IsNextChild content.now.values parent.now after.now key.now) }
+        (λ e. IsNextChild content.now.values parent.now after.now e.0.now e.1.now) }
     ensures none { IfNone result
         (HasNoneAfter (names_below content.now.values parent.now)
         (name_below parent.now after.now)) }
 {
     let mut last = after;
-    while let Some((key, _)) = content.next_below(parent, Some(last)) {
+    while let Some((key, scalar)) = content.next_below(parent, Some(last)) {
         if !is_same_name(after, key, parent.len()) {
-            return Some(key);
+            return Some((key, scalar));
         }
         last = key;
     }

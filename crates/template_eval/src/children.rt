@@ -1,16 +1,16 @@
 //! The children of a key that are still to come.
-ghost use Rattle.std.specs.Prelude.{IsTrue};
+ghost use Rattle.std.specs.Prelude.{◌≡◌, IsTrue, false};
 ghost use Rattle.key_names.specs.Key.{is_prefix};
+ghost use Rattle.template_eval.specs.Node.{os_path};
 
 use key_names::Key;
-use settings_tree::Content;
 
-/// The children of a key that the values past another give: the other is the parent itself, or
-/// begins with it.
+/// The children of a key of the values that those past another key give: the other is the parent
+/// itself, or begins with it. The parent doesn't begin with `os`.
 #[derive(Clone, Copy, Drop)]
 pub struct Children<'a> {
-    pub content: &'a Content,
     pub parent: &'a Key,
     pub after: &'a Key,
     ghost begins: { IsTrue (is_prefix parent.now after.now) },
+    ghost outside: { is_prefix os_path parent.now ≡ false },
 }

@@ -4,8 +4,9 @@ ghost use Rattle.base64.specs.Engines.{standard};
 ghost use Rattle.base64.specs.GeneralPurpose.{decode_of};
 ghost use Rattle.template_eval.specs.Written.{path_text, literal_text};
 ghost use Rattle.template_eval.specs.Render.{node_text, default_text, decoded, decode_text, join_array_text, join_map_text, path_of};
+ghost use Rattle.template_eval.specs.Kept.{KeepsHere};
 ghost use Rattle.template_eval.specs.Steps.{Adds};
-ghost use Rattle.template_eval.specs.Views.{atom_node, node_of, seen, pair_of, printing, expression};
+ghost use Rattle.template_eval.specs.Views.{atom_node, node_in, seen, pair_of, printing, expression};
 
 use crate::RenderError;
 use crate::inputs::Inputs;
@@ -23,40 +24,40 @@ use template_reader::{Expr, Literal, Walk};
 
 // Adds the text of a node, which has to be a scalar.
 fn push_node(
-    alloc: Global,
+    inputs: &Inputs<'_>,
     node: Node<'_>,
     path: &Walk,
     out: &mut Vec<u8>,
 ) -> Result<(), RenderError>
     ensures ok { OnOk result
-        (Adds (node_text (path_text path.now) (node_of node.entry)) out.old.items out.new.items) }
+        (Adds (node_text (path_text path.now) (node_in inputs.now node.entry)) out.old.items out.new.items) }
     ensures err { IfErr result (λ e. e ≢ RenderError.Memory
-        → node_text (path_text path.now) (node_of node.entry) ≡ Err e) }
+        → node_text (path_text path.now) (node_in inputs.now node.entry) ≡ Err e) }
 {
     match node {
-        Node::Missing => Err(missing(alloc, path)),
+        Node::Missing => Err(missing(inputs.alloc, path)),
         Node::Atom(atom) => {
             push_atom(out, atom)?;
             Ok(())
         }
-        Node::Items(_) => Err(not_scalar(alloc, path)),
-        Node::Children(_) => Err(not_scalar(alloc, path)),
+        Node::Items(_) => Err(not_scalar(inputs.alloc, path)),
+        Node::Children(_) => Err(not_scalar(inputs.alloc, path)),
     }
 }
 
 // Adds the text of a node, or of the literal where nothing stands.
 fn push_default(
-    alloc: Global,
+    inputs: &Inputs<'_>,
     node: Node<'_>,
     literal: &Literal,
     path: &Walk,
     out: &mut Vec<u8>,
 ) -> Result<(), RenderError>
     ensures ok { OnOk result
-        (Adds (default_text (literal_text literal.now) (path_text path.now) (node_of node.entry))
+        (Adds (default_text (literal_text literal.now) (path_text path.now) (node_in inputs.now node.entry))
         out.old.items out.new.items) }
     ensures err { IfErr result (λ e. e ≢ RenderError.Memory
-        → default_text (literal_text literal.now) (path_text path.now) (node_of node.entry)
+        → default_text (literal_text literal.now) (path_text path.now) (node_in inputs.now node.entry)
         ≡ Err e) }
 {
     match node {
@@ -64,7 +65,7 @@ fn push_default(
             push_literal(out, literal)?;
             Ok(())
         }
-        _ => push_node(alloc, node, path, out),
+        _ => push_node(inputs, node, path, out),
     }
 }
 
@@ -111,46 +112,46 @@ fn push_decoded_atom(
 
 // Adds the bytes of which the text of a node is the base64.
 fn push_decoded_node(
-    alloc: Global,
+    inputs: &Inputs<'_>,
     node: Node<'_>,
     path: &Walk,
     out: &mut Vec<u8>,
 ) -> Result<(), RenderError>
     ensures ok { OnOk result
-        (Adds (decode_text (path_text path.now) (node_of node.entry)) out.old.items out.new.items) }
+        (Adds (decode_text (path_text path.now) (node_in inputs.now node.entry)) out.old.items out.new.items) }
     ensures err { IfErr result (λ e. e ≢ RenderError.Memory
-        → decode_text (path_text path.now) (node_of node.entry) ≡ Err e) }
+        → decode_text (path_text path.now) (node_in inputs.now node.entry) ≡ Err e) }
 {
     match node {
-        Node::Missing => Err(missing(alloc, path)),
-        Node::Atom(atom) => push_decoded_atom(alloc, atom, path, out),
-        Node::Items(_) => Err(not_scalar(alloc, path)),
-        Node::Children(_) => Err(not_scalar(alloc, path)),
+        Node::Missing => Err(missing(inputs.alloc, path)),
+        Node::Atom(atom) => push_decoded_atom(inputs.alloc, atom, path, out),
+        Node::Items(_) => Err(not_scalar(inputs.alloc, path)),
+        Node::Children(_) => Err(not_scalar(inputs.alloc, path)),
     }
 }
 
 // Adds the texts of the items of a list, joined.
 fn push_array(
-    alloc: Global,
+    inputs: &Inputs<'_>,
     node: Node<'_>,
     joiner: &Text,
     path: &Walk,
     out: &mut Vec<u8>,
 ) -> Result<(), RenderError>
     ensures ok { OnOk result
-        (Adds (join_array_text joiner.now (path_text path.now) (node_of node.entry))
+        (Adds (join_array_text joiner.now (path_text path.now) (node_in inputs.now node.entry))
         out.old.items out.new.items) }
     ensures err { IfErr result (λ e. e ≢ RenderError.Memory
-        → join_array_text joiner.now (path_text path.now) (node_of node.entry) ≡ Err e) }
+        → join_array_text joiner.now (path_text path.now) (node_in inputs.now node.entry) ≡ Err e) }
 {
     match node {
-        Node::Missing => Err(missing(alloc, path)),
+        Node::Missing => Err(missing(inputs.alloc, path)),
         Node::Items(items) => {
             push_items(items, joiner.as_str().as_bytes(), out)?;
             Ok(())
         }
-        Node::Atom(_) => Err(not_list(alloc, path)),
-        Node::Children(_) => Err(not_list(alloc, path)),
+        Node::Atom(_) => Err(not_list(inputs.alloc, path)),
+        Node::Children(_) => Err(not_list(inputs.alloc, path)),
     }
 }
 
@@ -173,11 +174,11 @@ fn push_map(
     ensures ok { OnOk result
         (Adds (join_map_text (pair_of inputs.now form.entry.joiner.now path.now)
         form.entry.separator.now
-        form.entry.fail (path_text path.now) (node_of node.entry)) out.old.items out.new.items) }
+        form.entry.fail (path_text path.now) (node_in inputs.now node.entry)) out.old.items out.new.items) }
     ensures err { IfErr result (λ e. e ≢ RenderError.Memory
         → join_map_text (pair_of inputs.now form.entry.joiner.now path.now)
         form.entry.separator.now
-        form.entry.fail (path_text path.now) (node_of node.entry) ≡ Err e) }
+        form.entry.fail (path_text path.now) (node_in inputs.now node.entry) ≡ Err e) }
 {
     match node {
         Node::Missing => {
@@ -220,16 +221,15 @@ fn push_print(
     out: &mut Vec<u8>,
 ) -> Result<(), RenderError>
     ensures ok { OnOk result
-        (Adds (printing inputs.now expr.now (node_of node.entry)) out.old.items out.new.items) }
+        (Adds (printing inputs.now expr.now (node_in inputs.now node.entry)) out.old.items out.new.items) }
     ensures err { IfErr result (λ e. e ≢ RenderError.Memory
-        → printing inputs.now expr.now (node_of node.entry) ≡ Err e) }
+        → printing inputs.now expr.now (node_in inputs.now node.entry) ≡ Err e) }
 {
-    let alloc = inputs.alloc;
     match expr {
-        Expr::Plain { path } => push_node(alloc, node, path, out),
-        Expr::Default { literal, path } => push_default(alloc, node, literal, path, out),
-        Expr::Decode { path } => push_decoded_node(alloc, node, path, out),
-        Expr::JoinArray { joiner, path } => push_array(alloc, node, joiner, path, out),
+        Expr::Plain { path } => push_node(inputs, node, path, out),
+        Expr::Default { literal, path } => push_default(inputs, node, literal, path, out),
+        Expr::Decode { path } => push_decoded_node(inputs, node, path, out),
+        Expr::JoinArray { joiner, path } => push_array(inputs, node, joiner, path, out),
         Expr::JoinMap {
             joiner,
             separator,
@@ -253,6 +253,7 @@ pub fn push_expr(
     here: Option<&Here<'_>>,
     out: &mut Vec<u8>,
 ) -> Result<(), RenderError>
+    requires { KeepsHere inputs.now.content.now here }
     ensures ok { OnOk result
         (Adds (expression inputs.now (seen here.entry) expr.now) out.old.items out.new.items) }
     ensures err { IfErr result (λ e. e ≢ RenderError.Memory

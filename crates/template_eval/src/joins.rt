@@ -5,8 +5,9 @@ ghost use Rattle.template_eval.specs.Place.{last_name};
 ghost use Rattle.template_eval.specs.Written.{item_text};
 ghost use Rattle.template_eval.specs.Rendered.{led, joined};
 ghost use Rattle.template_eval.specs.Render.{name_of};
+ghost use Rattle.template_eval.specs.Kept.{Keeps};
 ghost use Rattle.template_eval.specs.Steps.{Adds};
-ghost use Rattle.template_eval.specs.Views.{place_of, places_of, pair_of};
+ghost use Rattle.template_eval.specs.Views.{place_of, places_in, pair_of};
 
 use crate::RenderError;
 use crate::inputs::Inputs;
@@ -52,6 +53,7 @@ fn name_of<'a>(place: &'a Place<'a>) -> &'a str
     match place {
         Place::At(key) => last_text(key),
         Place::Made(key) => last_text(key),
+        Place::Leaf { key, .. } => last_text(key),
         Place::System(name) => name.name.as_str(),
         _ => "",
     }
@@ -65,6 +67,7 @@ fn push_child(
     path: &Walk,
     out: &mut Vec<u8>,
 ) -> Result<(), RenderError>
+    requires { Keeps inputs.now.content.now place.now }
     ensures ok { OnOk result
         (Adds (pair_of inputs.now joiner.now path.now (place_of place.now))
         out.old.items out.new.items) }
@@ -96,14 +99,14 @@ fn push_led(
 ) -> Result<(), RenderError>
     ensures ok { OnOk result
         (Adds (led separator.now
-        (map (pair_of inputs.now joiner.now path.now) (places_of places.entry)))
+        (map (pair_of inputs.now joiner.now path.now) (places_in inputs.now places.entry)))
         out.old.items out.new.items) }
     ensures err { IfErr result (λ e. e ≢ RenderError.Memory
         → led separator.now
-        (map (pair_of inputs.now joiner.now path.now) (places_of places.entry)) ≡ Err e) }
+        (map (pair_of inputs.now joiner.now path.now) (places_in inputs.now places.entry)) ≡ Err e) }
 {
     let mut rest = places;
-    while let Some(split) = rest.split_first()? {
+    while let Some(split) = rest.split_first(inputs.content)? {
         out.extend_from_slice(separator)?;
         push_child(inputs, &split.first, joiner, path, out)?;
         rest = split.rest;
@@ -122,13 +125,13 @@ pub fn push_children(
 ) -> Result<(), RenderError>
     ensures ok { OnOk result
         (Adds (joined separator.now
-        (map (pair_of inputs.now joiner.now path.now) (places_of places.entry)))
+        (map (pair_of inputs.now joiner.now path.now) (places_in inputs.now places.entry)))
         out.old.items out.new.items) }
     ensures err { IfErr result (λ e. e ≢ RenderError.Memory
         → joined separator.now
-        (map (pair_of inputs.now joiner.now path.now) (places_of places.entry)) ≡ Err e) }
+        (map (pair_of inputs.now joiner.now path.now) (places_in inputs.now places.entry)) ≡ Err e) }
 {
-    match places.split_first()? {
+    match places.split_first(inputs.content)? {
         Some(split) => {
             push_child(inputs, &split.first, joiner, path, out)?;
             push_led(inputs, split.rest, joiner, separator, path, out)

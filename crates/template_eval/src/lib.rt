@@ -16,8 +16,6 @@ mod refusals;
 mod render_error;
 mod rendering;
 mod scalars;
-#[cfg(test)]
-mod tests;
 mod written;
 
 pub use render_error::RenderError;

@@ -1,5 +1,5 @@
 //! The tree of the live values and of the operating system, seen place by place: none is built.
-ghost use Rattle.std.specs.Prelude.{◌≡◌, ◌∷◌, [], drop, find};
+ghost use Rattle.std.specs.Prelude.{◌≡◌, ◌∷◌, [], drop, find, false};
 ghost use Rattle.key_names.specs.Key.{is_prefix};
 ghost use Rattle.template_eval.specs.Node as nodes;
 ghost use Rattle.template_eval.specs.Node.{scalar_node, os_node, os_path, tree_node, value_node};
@@ -7,6 +7,8 @@ ghost use Rattle.std.specs.FinMap.{get};
 ghost use Rattle.std.specs.Option.{option_copied};
 ghost use Rattle.std.specs.Str.{bytes_eq};
 ghost use Rattle.template_eval.specs.Children.{children_below};
+ghost use Rattle.settings_tree.specs.Content.{Contents};
+ghost use Rattle.template_eval.specs.Kept.{Keeps};
 ghost use Rattle.template_eval.specs.Views.{place_of, node_of};
 
 use crate::below::segment_at;
@@ -18,7 +20,7 @@ use key_names::Key;
 use settings_tree::{Content, Item, Os, OsName, Scalar};
 
 fn item_node(item: &Item) -> Node<'_>
-    ensures { node_of result ≡ nodes.scalar item.now }
+    ensures { (content : Contents) → node_of content result ≡ nodes.scalar item.now }
 {
     match item {
         Item::Bool(b) => Node::Atom(Atom::Bool(*b)),
@@ -28,7 +30,7 @@ fn item_node(item: &Item) -> Node<'_>
 }
 
 fn scalar_node(scalar: &Scalar) -> Node<'_>
-    ensures { node_of result ≡ scalar_node scalar.now }
+    ensures { (content : Contents) → node_of content result ≡ scalar_node scalar.now }
 {
     match scalar {
         Scalar::Bool(b) => Node::Atom(Atom::Bool(*b)),
@@ -40,7 +42,8 @@ fn scalar_node(scalar: &Scalar) -> Node<'_>
 
 // What stands at a key of the values, by one look-up.
 fn value_node<'a>(content: &'a Content, key: &'a Key) -> Node<'a>
-    ensures { node_of result
+    requires { is_prefix os_path key.now ≡ false }
+    ensures { node_of content.now result
         ≡ value_node (get content.now.values key.now) (children_below content.now.values key.now) }
 {
     match content.next_below(key, None) {
@@ -50,7 +53,6 @@ fn value_node<'a>(content: &'a Content, key: &'a Key) -> Node<'a>
                 scalar_node(scalar)
             } else {
                 Node::Children(Places::Children(Children {
-                    content,
                     parent: key,
                     after: key,
                 }))
@@ -68,7 +70,7 @@ fn find_name<'a>(os: &'a Os, name: &[u8]) -> Option<&'a OsName>
 
 // The text of a name of the operating system.
 fn named<'a>(os: &'a Os, name: &[u8]) -> Node<'a>
-    ensures { node_of result ≡ os_node os.now (name.now ∷ []) }
+    ensures { (content : Contents) → node_of content result ≡ os_node os.now (name.now ∷ []) }
 {
     match find_name(os, name) {
         Some(found) => Node::Atom(Atom::Text(&found.text)),
@@ -78,7 +80,7 @@ fn named<'a>(os: &'a Os, name: &[u8]) -> Node<'a>
 
 // What stands at a key that begins with `os`.
 fn os_node<'a>(os: &'a Os, key: &Key) -> Node<'a>
-    ensures { node_of result ≡ os_node os.now (drop 1 key.now) }
+    ensures { (content : Contents) → node_of content result ≡ os_node os.now (drop 1 key.now) }
 {
     match key.len() {
         1 => Node::Children(Places::System(&os.names)),
@@ -97,7 +99,7 @@ fn begins_with_os(key: &Key) -> bool
 }
 
 fn tree_node<'a>(content: &'a Content, os: &'a Os, key: &'a Key) -> Node<'a>
-    ensures { node_of result ≡ tree_node content.now os.now key.now }
+    ensures { node_of content.now result ≡ tree_node content.now os.now key.now }
 {
     if begins_with_os(key) {
         os_node(os, key)
@@ -106,14 +108,17 @@ fn tree_node<'a>(content: &'a Content, os: &'a Os, key: &'a Key) -> Node<'a>
     }
 }
 
-/// What stands at the place. It is logarithmic in the values, and takes no memory.
+/// What stands at the place. It is logarithmic in the values, but constant where the place keeps a
+/// value, and takes no memory.
 pub fn node<'a>(content: &'a Content, os: &'a Os, place: &'a Place<'a>) -> Node<'a>
-    ensures { node_of result ≡ nodes.node content.now os.now (place_of place.now) }
+    requires { Keeps content.now place.now }
+    ensures { node_of content.now result ≡ nodes.node content.now os.now (place_of place.now) }
 {
     match place {
         Place::Nowhere => Node::Missing,
         Place::At(key) => tree_node(content, os, key),
         Place::Made(key) => tree_node(content, os, key),
+        Place::Leaf { scalar, .. } => scalar_node(scalar),
         Place::System(name) => Node::Atom(Atom::Text(&name.text)),
         Place::Item(item) => item_node(item),
         Place::Index(index) => Node::Atom(Atom::Index(*index)),

@@ -1,7 +1,11 @@
 //! The items of a list, or the children of a map, one after another.
-ghost use Rattle.std.specs.Prelude.{◌≡◌, ◌==◌, ◌<◌, [], ◌∷◌, length, slice_index_or, IfOk, MatchOption, IsTrue};
+ghost use Rattle.std.specs.Prelude.{◌≡◌, ◌==◌, ◌<◌, [], ◌∷◌, length, slice_index_or, Some, false, IfOk, IfSome, MatchOption, IsTrue};
 ghost use Rattle.key_names.specs.Key.{is_prefix};
+ghost use Rattle.std.specs.FinMap.{get};
+ghost use Rattle.settings_tree.specs.Content.{Contents};
 ghost use Rattle.template_eval.specs.Children.{child};
+ghost use Rattle.template_eval.specs.Node.{os_path};
+ghost use Rattle.template_eval.specs.Kept.{Keeps};
 ghost use Rattle.template_eval.specs.Views.{place_of, places_of, children_of};
 
 use crate::below::next_child;
@@ -9,7 +13,7 @@ use crate::children::Children;
 use crate::keys::child_key;
 use crate::place::Place;
 use key_names::Key;
-use settings_tree::{Item, OsName};
+use settings_tree::{Content, Item, OsName, Scalar};
 use std::alloc::AllocError;
 
 /// The places of items or children that are still to come.
@@ -27,30 +31,37 @@ pub struct Split<'a> {
     pub rest: Places<'a>,
 }
 
-// The child of the parent that the key is, or that it is below.
-fn child_at<'a>(parent: &Key, key: &'a Key) -> Result<Place<'a>, AllocError>
+// The child of the parent that the key is, with its value, or that the key is below.
+fn child_at<'a>(parent: &Key, key: &'a Key, scalar: &'a Scalar) -> Result<Place<'a>, AllocError>
     requires begins { IsTrue (is_prefix parent.now key.now) }
     requires longer { length parent.now < length key.now }
-    ensures { IfOk result
+    requires outside { is_prefix os_path parent.now ≡ false }
+    ensures leads { IfOk result
         (λ p. place_of p ≡ child parent.now (slice_index_or key.now (length parent.now) [])) }
+    ensures kept { (content : Contents) → get content.values key.now ≡ Some scalar.now
+        → IfOk result (Keeps content) }
 {
     if key.len() == parent.len() + 1 {
-        return Ok(Place::At(key));
+        return Ok(Place::Leaf { key, scalar });
     }
     let child = child_key(parent, key.segment(parent.len()))?;
     Ok(Place::Made(child))
 }
 
-fn split_children<'a>(children: Children<'a>) -> Result<Option<Split<'a>>, AllocError>
-    ensures { IfOk result (λ o. MatchOption o (children_of children.entry ≡ [])
-        (λ s. children_of children.entry ≡ place_of s.first ∷ places_of s.rest)) }
+fn split_children<'a>(
+    content: &'a Content,
+    children: Children<'a>,
+) -> Result<Option<Split<'a>>, AllocError>
+    ensures parts { IfOk result (λ o. MatchOption o (children_of content.now children.entry ≡ [])
+        (λ s. children_of content.now children.entry
+        ≡ place_of s.first ∷ places_of content.now s.rest)) }
+    ensures kept { IfOk result (λ o. IfSome o (λ s. Keeps content.now s.first)) }
 {
-    let Some(key) = next_child(children.content, children.parent, children.after) else {
+    let Some((key, scalar)) = next_child(content, children.parent, children.after) else {
         return Ok(None);
     };
-    let first = child_at(children.parent, key)?;
+    let first = child_at(children.parent, key, scalar)?;
     let rest = Children {
-        content: children.content,
         parent: children.parent,
         after: key,
     };
@@ -61,8 +72,11 @@ fn split_children<'a>(children: Children<'a>) -> Result<Option<Split<'a>>, Alloc
 }
 
 fn split_items<'a>(items: &'a [Item]) -> Option<Split<'a>>
-    ensures { MatchOption result (length items.now ≡ 0)
-        (λ s. places_of (Places.Items items.entry) ≡ place_of s.first ∷ places_of s.rest) }
+    ensures parts { (content : Contents) → MatchOption result
+        (places_of content (Places.Items items.entry) ≡ [])
+        (λ s. places_of content (Places.Items items.entry)
+        ≡ place_of s.first ∷ places_of content s.rest) }
+    ensures kept { (content : Contents) → IfSome result (λ s. Keeps content s.first) }
 {
     let (first, rest) = items.split_first()?;
     Some(Split {
@@ -72,8 +86,11 @@ fn split_items<'a>(items: &'a [Item]) -> Option<Split<'a>>
 }
 
 fn split_names<'a>(names: &'a [OsName]) -> Option<Split<'a>>
-    ensures { MatchOption result (length names.now ≡ 0)
-        (λ s. places_of (Places.System names.entry) ≡ place_of s.first ∷ places_of s.rest) }
+    ensures parts { (content : Contents) → MatchOption result
+        (places_of content (Places.System names.entry) ≡ [])
+        (λ s. places_of content (Places.System names.entry)
+        ≡ place_of s.first ∷ places_of content s.rest) }
+    ensures kept { (content : Contents) → IfSome result (λ s. Keeps content s.first) }
 {
     let (first, rest) = names.split_first()?;
     Some(Split {
@@ -86,26 +103,28 @@ impl<'a> Places<'a> {
     /// The first place and those behind it, None exactly where there is none. It is constant for
     /// items and names, and takes a logarithmic step for each value that it passes. The only error
     /// is want of memory.
-    pub fn split_first(self) -> Result<Option<Split<'a>>, AllocError>
-        ensures { IfOk result (λ o. MatchOption o (places_of self.entry ≡ [])
-            (λ s. places_of self.entry ≡ place_of s.first ∷ places_of s.rest)) }
+    pub fn split_first(self, content: &'a Content) -> Result<Option<Split<'a>>, AllocError>
+        ensures parts { IfOk result (λ o. MatchOption o (places_of content.now self.entry ≡ [])
+            (λ s. places_of content.now self.entry
+            ≡ place_of s.first ∷ places_of content.now s.rest)) }
+        ensures kept { IfOk result (λ o. IfSome o (λ s. Keeps content.now s.first)) }
     {
         match self {
             Places::Items(items) => Ok(split_items(items)),
             Places::System(names) => Ok(split_names(names)),
-            Places::Children(children) => split_children(children),
+            Places::Children(children) => split_children(content, children),
         }
     }
 
     /// Whether there is none. It takes no memory.
-    pub fn is_empty(self) -> bool
-        ensures { result ≡ (length (places_of self.entry) == 0) }
+    pub fn is_empty(self, content: &Content) -> bool
+        ensures { result ≡ (length (places_of content.now self.entry) == 0) }
     {
         match self {
             Places::Items(items) => items.is_empty(),
             Places::System(names) => names.is_empty(),
             Places::Children(children) => {
-                next_child(children.content, children.parent, children.after).is_none()
+                next_child(content, children.parent, children.after).is_none()
             }
         }
     }

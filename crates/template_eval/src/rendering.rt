@@ -5,8 +5,9 @@ ghost use Rattle.template_reader.specs.Spans.{RiseWithin, spans_of};
 ghost use Rattle.template_eval.specs.Render.{render, is_first};
 ghost use Rattle.template_eval.specs.Node.{is_true};
 ghost use Rattle.template_eval.specs.Lies.{Lies, LiesOne};
+ghost use Rattle.template_eval.specs.Kept.{KeepsHere};
 ghost use Rattle.template_eval.specs.Steps.{Adds};
-ghost use Rattle.template_eval.specs.Views.{places_of, seen, found, rendering, rendering_one, each_rendering, places_rendering, firsts_rendering};
+ghost use Rattle.template_eval.specs.Views.{places_in, seen, found, rendering, rendering_one, each_rendering, places_rendering, firsts_rendering};
 
 use crate::RenderError;
 use crate::expressions::push_expr;
@@ -28,11 +29,12 @@ fn is_first(
     path: &Walk,
     here: Option<&Here<'_>>,
 ) -> Result<bool, AllocError>
+    requires { KeepsHere inputs.now.content.now here }
     ensures { IfOk result
         (λ b. b ≡ is_first unless (is_true (found inputs.now (seen here.entry) path.now))) }
 {
     let place = place_at(here, path)?;
-    let truth = is_true(node(inputs.content, inputs.os, &place));
+    let truth = is_true(inputs.content, node(inputs.content, inputs.os, &place));
     Ok(if unless { !truth } else { truth })
 }
 
@@ -44,7 +46,8 @@ fn push_nodes(
     here: Option<&Here<'_>>,
     out: &mut Vec<u8>,
 ) -> Result<(), RenderError>
-    requires { Lies (length inputs.now.source.now) (tree_of nodes.now) }
+    requires lies { Lies (length inputs.now.source.now) (tree_of nodes.now) }
+    requires here { KeepsHere inputs.now.content.now here }
     ensures ok { OnOk result
         (Adds (rendering inputs.now (tree_of nodes.now) (seen here.entry))
         out.old.items out.new.items) }
@@ -64,7 +67,8 @@ fn push_node(
     here: Option<&Here<'_>>,
     out: &mut Vec<u8>,
 ) -> Result<(), RenderError>
-    requires { LiesOne (length inputs.now.source.now) (branch_of node.now) }
+    requires lies { LiesOne (length inputs.now.source.now) (branch_of node.now) }
+    requires here { KeepsHere inputs.now.content.now here }
     ensures ok { OnOk result
         (Adds (rendering_one inputs.now (branch_of node.now) (seen here.entry))
         out.old.items out.new.items) }
@@ -105,6 +109,7 @@ fn push_each(
 ) -> Result<(), RenderError>
     requires first { Lies (length inputs.now.source.now) (tree_in first.now) }
     requires other { Lies (length inputs.now.source.now) (tree_in other.now) }
+    requires here { KeepsHere inputs.now.content.now here }
     ensures ok { OnOk result
         (Adds (each_rendering inputs.now path.now (tree_in first.now) (tree_in other.now)
         (seen here.entry)) out.old.items out.new.items) }
@@ -132,14 +137,15 @@ fn push_places(
 ) -> Result<(), RenderError>
     requires first { Lies (length inputs.now.source.now) (tree_in first.now) }
     requires other { Lies (length inputs.now.source.now) (tree_in other.now) }
+    requires here { KeepsHere inputs.now.content.now here }
     ensures ok { OnOk result
-        (Adds (places_rendering inputs.now (places_of places.entry) (tree_in first.now)
+        (Adds (places_rendering inputs.now (places_in inputs.now places.entry) (tree_in first.now)
         (tree_in other.now) (seen here.entry)) out.old.items out.new.items) }
     ensures err { IfErr result (λ e. e ≢ RenderError.Memory
-        → places_rendering inputs.now (places_of places.entry) (tree_in first.now)
+        → places_rendering inputs.now (places_in inputs.now places.entry) (tree_in first.now)
         (tree_in other.now) (seen here.entry) ≡ Err e) }
 {
-    if places.is_empty() {
+    if places.is_empty(inputs.content) {
         push_nodes(inputs, other.as_slice(), here, out)
     } else {
         push_firsts(inputs, places, first, out)
@@ -156,14 +162,14 @@ fn push_firsts(
 ) -> Result<(), RenderError>
     requires { Lies (length inputs.now.source.now) (tree_in first.now) }
     ensures ok { OnOk result
-        (Adds (firsts_rendering inputs.now (places_of places.entry) (tree_in first.now))
+        (Adds (firsts_rendering inputs.now (places_in inputs.now places.entry) (tree_in first.now))
         out.old.items out.new.items) }
     ensures err { IfErr result (λ e. e ≢ RenderError.Memory
-        → firsts_rendering inputs.now (places_of places.entry) (tree_in first.now) ≡ Err e) }
+        → firsts_rendering inputs.now (places_in inputs.now places.entry) (tree_in first.now) ≡ Err e) }
 {
     let mut rest = places;
     let mut index: usize = 0;
-    while let Some(split) = rest.split_first()? {
+    while let Some(split) = rest.split_first(inputs.content)? {
         let here = Here {
             this: split.first,
             index,

@@ -7,7 +7,7 @@ ghost use Rattle.template_eval.specs.Views.{atom_text, atom_node, node_of};
 
 use crate::node::{Atom, Node};
 use itoa::Buffer;
-use settings_tree::Item;
+use settings_tree::{Content, Item};
 use std::alloc::AllocError;
 use template_reader::Literal;
 
@@ -68,14 +68,14 @@ pub fn push_literal(out: &mut Vec<u8>, literal: &Literal) -> Result<(), AllocErr
 }
 
 /// Whether what stands there counts as true.
-pub fn is_true(node: Node<'_>) -> bool
-    ensures { result ≡ is_true (node_of node.entry) }
+pub fn is_true(content: &Content, node: Node<'_>) -> bool
+    ensures { result ≡ is_true (node_of content.now node.entry) }
 {
     match node {
         Node::Missing => false,
         Node::Atom(atom) => is_true_atom(atom),
         Node::Items(items) => !items.is_empty(),
-        Node::Children(places) => !places.is_empty(),
+        Node::Children(places) => !places.is_empty(content),
     }
 }
 

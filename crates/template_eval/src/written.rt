@@ -1,10 +1,8 @@
 //! Paths as they are written.
 ghost use Rattle.std.specs.Prelude.{◌≡◌, ◌++◌, IfOk, codes};
-ghost use Rattle.std.specs.List.{list_all};
-ghost use Rattle.key_names.specs.Segment.{is_bare};
 ghost use Rattle.template_eval.specs.Written.{path_text, child_text};
 
-use key_names::Text;
+use key_names::{Text, are_bare};
 use std::alloc::{AllocError, Global};
 use template_reader::Walk;
 
@@ -33,19 +31,6 @@ fn below_this(alloc: Global, key: &str) -> Result<Text, AllocError>
 {
     let text = format!(in alloc; "this.{key}")?;
     Ok(Text::of(text))
-}
-
-// A to Z, a to z, 0 to 9, _ and -.
-fn is_bare(byte: u8) -> bool
-    ensures { result ≡ is_bare byte }
-{
-    byte.is_ascii_alphanumeric() || byte == b'_' || byte == b'-'
-}
-
-fn are_bare(bytes: &[u8]) -> bool
-    ensures { result ≡ list_all is_bare bytes.now }
-{
-    bytes.iter().all(|b| is_bare(*b))
 }
 
 /// The path of a child, as it would be written. The only error is want of memory.

@@ -8,7 +8,7 @@ use Rattle.template_eval.proofs.joins.push_led.Given as goal
 abbrev pub invariant-loop-split : goal.invariant-loop-split
 invariant-loop-split l =
     let pair = child_pair l.inputs.content.now l.inputs.os.now l.joiner l.path in
-    Going (led l.separator (map pair (places_of l.places))) (led l.separator (map pair (places_of l.rest))) l.initial.out.items l.out.items
+    Going (led l.separator (map pair (places_of l.inputs.content.now l.places))) (led l.separator (map pair (places_of l.inputs.content.now l.rest))) l.initial.out.items l.out.items
 
 abbrev pub decreases-loop-split : goal.decreases-loop-split
-decreases-loop-split l = length (places_of l.rest)
+decreases-loop-split l = length (places_of l.inputs.content.now l.rest)

@@ -7,7 +7,7 @@ use Rattle.template_eval.proofs.ChildSteps.{prefix_itself, children_start, nothi
 use Rattle.template_eval.proofs.nodes.value_node.Goals as goal
 
 pub invariant_of-result : goal.invariant_of-result
-invariant_of-result c = record { begins = prefix_itself c.args.key.now }
+invariant_of-result c = record { begins = prefix_itself c.args.key.now; outside = c.requires }
 
 pub returns-in-None : goal.returns-in-None
 returns-in-None c =
@@ -20,7 +20,7 @@ returns-then-len c =
     let values = c.args.content.now.values in
     let least = c.in-Some.ensures.least in
     let same = same_key values c.args.key.now c.in-Some.found.now least.begins (omega (arith, c.if-len.true, c.len.ensures.count, c.len-in-Some.ensures.count)) in
-    c.scalar_node.ensures ∙ sym (ap (λ (o : Option Scalar). value_node o (children_below values c.args.key.now)) (ap (get values) (sym same) ∙ least.stands))
+    c.scalar_node.ensures c.args.content.now ∙ sym (ap (λ (o : Option Scalar). value_node o (children_below values c.args.key.now)) (ap (get values) (sym same) ∙ least.stands))
 
 pub returns-else-len : goal.returns-else-len
 returns-else-len c =

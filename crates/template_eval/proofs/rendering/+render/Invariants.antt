@@ -32,7 +32,7 @@ invariant-push_nodes-loop-node l = record {
 abbrev pub invariant-push_firsts-loop-split : goal.invariant-push_firsts-loop-split
 invariant-push_firsts-loop-split l =
     let once : Here → _ = λ h. rendering l.inputs (tree_in l.first) (Some h) in
-    Going (for_each once 0 (places_of l.places)) (for_each once l.index (places_of l.rest)) l.initial.out.items l.out.items
+    Going (for_each once 0 (places_of l.inputs.content.now l.places)) (for_each once l.index (places_of l.inputs.content.now l.rest)) l.initial.out.items l.out.items
 
 abbrev pub decreases-push_firsts-loop-split : goal.decreases-push_firsts-loop-split
-decreases-push_firsts-loop-split l = length (places_of l.rest)
+decreases-push_firsts-loop-split l = length (places_of l.inputs.content.now l.rest)
