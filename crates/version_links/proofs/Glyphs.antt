@@ -1,24 +1,11 @@
 -- Digits, and where they end in a text.
-use Rattle.std.proofs.Common.{◌≡◌, true, false, Bool, ℕ, zero, suc, ◌+◌, ◌/◌, ◌%◌, ◌<◌, ◌^◌, List, [], ◌∷◌, ◌++◌, length, refl, sym, ◌∙◌, ap, arith, ◌&&◌, ◌||◌, nat_le, length-append}
+use Rattle.std.proofs.Common.{◌≡◌, true, false, ℕ, zero, suc, ◌+◌, ◌/◌, ◌%◌, ◌<◌, ◌^◌, List, [], ◌∷◌, ◌++◌, length, refl, sym, ◌∙◌, ap, arith, length-append}
 use Rattle.std.proofs.lemmas.Bool.{false≢true}
 use Rattle.std.proofs.lemmas.Bool.Decides.{nat_tests}
 use Rattle.std.proofs.lemmas.Fmt.{decimal_by_steps}
 use Rattle.std.specs.Fmt.{decimal, digit_glyph}
 use Rattle.version_links.specs.Names.{hex}
-
--- A decimal or a lower-case hexadecimal digit.
-abbrev pub is_glyph : ℕ → Bool
-is_glyph c = nat_le 48 c && nat_le c 57 || nat_le 97 c && nat_le c 102
-
--- Each byte is such a digit.
-abbrev pub Glyphs : List ℕ → Type 0
-Glyphs [] = Unit {0}
-Glyphs (c ∷ cs) = (is_glyph c ≡ true) × Glyphs cs
-
--- The text is empty, or no digit is its first byte.
-abbrev pub Ends : List ℕ → Type 0
-Ends [] = Unit {0}
-Ends (c ∷ cs) = is_glyph c ≡ false
+pub use Rattle.version_links.specs.Glyphs.{is_glyph, Glyphs, Ends}
 
 pub glyphs-append : (xs ys : List ℕ) → Glyphs xs → Glyphs ys → Glyphs (xs ++ ys)
 glyphs-append [] ys one two = two

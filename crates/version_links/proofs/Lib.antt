@@ -1,4 +1,5 @@
 pub mod Glyphs
+pub mod FirstNumbers
 pub mod Spread
 pub mod Chains
 pub mod Always

@@ -36,7 +36,7 @@ spread_is a (b ∷ c ∷ []) size = simp (append_assoc, append-nil) refl
 spread_is a (b ∷ c ∷ d ∷ []) size = simp (append_assoc, append-nil) refl
 spread_is a (b ∷ c ∷ d ∷ e ∷ more) size = absurd (omega arith)
 
-glyphs-id : (n : ℕ) → Glyphs (id_text n)
+pub glyphs-id : (n : ℕ) → Glyphs (id_text n)
 unfolding id_text
 glyphs-id n = glyphs-hex 16 n
 
@@ -56,7 +56,7 @@ written_same (suc zero) m n one two same = decimal_injective m n one two same
 written_same (suc (suc zero)) m n one two same = decimal_injective m n one two same
 written_same (suc (suc (suc k))) m n one two same = id_same m n one two same
 
-ends-spread : (k : ℕ) (ns : List ℕ) → Ends (spread k ns)
+pub ends-spread : (k : ℕ) (ns : List ℕ) → Ends (spread k ns)
 ends-spread k [] = tt
 ends-spread zero (n ∷ ns) = refl
 ends-spread (suc zero) (n ∷ ns) = refl

@@ -3,6 +3,7 @@ pub mod Names
 pub mod Links
 pub mod Chain
 pub mod Steps
+pub mod Glyphs
 pub mod Fresh
 pub mod Flip
 pub mod Laws

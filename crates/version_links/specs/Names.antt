@@ -1,5 +1,5 @@
 -- The names of the links and data directories of the store.
-use Rattle.std.specs.Prelude.{◌≡◌, Bool, false, ℕ, zero, suc, ◌/◌, ◌%◌, ◌^◌, ◌<◌, List, [], ◌∷◌, ◌++◌, codes}
+use Rattle.std.specs.Prelude.{Bool, false, ℕ, zero, suc, ◌/◌, ◌%◌, ◌^◌, ◌<◌, List, [], ◌∷◌, ◌++◌, codes}
 use Rattle.std.specs.Fmt.{decimal, digit_glyph}
 use Rattle.std.specs.Str.{bytes_eq}
 use Rattle.outside.specs.Names.{Names}

@@ -1,19 +1,10 @@
 -- One link of the chain, as it is read.
-use Rattle.std.specs.Prelude.{◌≡◌, ◌≢◌, ℕ, ◌^◌, ◌<◌, ◌==◌, List, ◌∷◌, ◌++◌, Option, Some, None, if◌then◌else◌}
+use Rattle.std.specs.Prelude.{◌≢◌, ℕ, ◌^◌, ◌<◌, ◌==◌, List, ◌∷◌, ◌++◌, Option, Some, None, if◌then◌else◌}
 use Rattle.std.specs.Fmt.{decimal}
 use Rattle.outside.specs.Tree.{Tree}
-use Rattle.outside.specs.declared.disk_error.DiskErr.{DiskErr}
-use Rattle.outside.specs.declared.disk_error.DiskErr.TheVariants as device
-use Rattle.version_links.specs.declared.link_error.LinkError.{LinkError}
-use Rattle.version_links.specs.declared.link_error.LinkError.TheVariants as told
 use Rattle.version_links.specs.declared.chain.Place.{Place}
 use Rattle.version_links.specs.Names.{id_text}
 use Rattle.version_links.specs.Chain.{link_at, Outcome, nowhere, found}
-
--- A disk's error is handed on under its own name.
-abbrev pub HandsOn : DiskErr → LinkError → Type 0
-HandsOn device.Failed e = e ≡ told.Failed
-HandsOn device.Memory e = e ≡ told.Memory
 
 -- Behind a `_` a number is an id of 16 hexadecimal digits, and behind another mark it is in decimal.
 abbrev pub digits_behind : ℕ → ℕ → List ℕ

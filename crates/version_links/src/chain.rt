@@ -1,5 +1,5 @@
 //! Where the links of the store lead.
-ghost use Rattle.std.specs.Prelude.{◌≡◌, ◌<◌, ◌^◌, Some, IfOk, IsErrOf, IsTrue};
+ghost use Rattle.std.specs.Prelude.{◌≡◌, ◌<◌, ◌^◌, length, Some, IfOk, IfSome, IsErrOf, IsTrue};
 ghost use Rattle.outside.specs.Names.{Names, is_name};
 ghost use Rattle.outside.specs.History.{tree_of};
 ghost use Rattle.outside.specs.Told.{WhereTold};
@@ -56,6 +56,7 @@ fn follow<D: Disk>(
 /// wanting.
 pub fn resolve<D: Disk>(alloc: Global, disk: &mut D) -> Result<Option<Place>, LinkError>
     ensures ok { IfOk result (λ found. WhereTold (D.told disk.old) (λ h. Resolves (tree_of h) (outcome_of found))) }
+    ensures two_names { IfOk result (λ found. IfSome found (λ place. length place.directory ≡ 2)) }
     ensures bad_link { (path : Names) → IsErrOf result (LinkError.BadLink path) → WhereTold (D.told disk.old) (λ h. Resolves (tree_of h) (bad path)) }
     ensures same { D.told disk.new ≡ D.told disk.old }
     ensures cause { HasCauseOf LinkError.Failed (D.faults disk.old) (D.faults disk.new) result }

@@ -32,9 +32,10 @@ impl From<AllocError> for LinkError {
 }
 
 impl From<DiskErr> for LinkError {
-    ghost use Rattle.version_links.specs.Steps.{HandsOn};
+    ghost use Rattle.outside.specs.Faults.{HandsOn};
+    ghost use Rattle.version_links.specs.declared.link_error.LinkError.TheVariants as told;
 
-    ghost from_gives = { HandsOn };
+    ghost from_gives = { HandsOn told.Failed told.Memory };
 
     fn from(error: DiskErr) -> Self {
         match error {

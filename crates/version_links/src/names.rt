@@ -1,6 +1,6 @@
 //! The names of a data directory and of the links that lead to it.
 ghost use Rattle.std.specs.Prelude.{◌≡◌, IfOk};
-ghost use Rattle.version_links.specs.Names.{directory};
+ghost use Rattle.version_links.specs.Names.{IsTarget, directory};
 
 use crate::Version;
 use crate::link::{Link, link_of};
@@ -59,7 +59,8 @@ impl Names {
 
     /// The path of the data directory. It takes no memory.
     pub fn directory(&self) -> &Path
-        ensures { result.now ≡ directory self.now }
+        ensures path { result.now ≡ directory self.now }
+        ensures valid { IsTarget self.now }
     {
         &self.directory
     }

@@ -1,8 +1,10 @@
 //! Numbers and ids in the texts of links.
-ghost use Rattle.std.specs.Prelude.{◌≡◌, ◌≢◌, ◌<◌, ◌^◌, ◌++◌, ◌∷◌, ℕ, false, List, Some, MatchOption};
+ghost use Rattle.std.specs.Prelude.{◌≡◌, ◌≢◌, ◌<◌, ◌^◌, ◌++◌, ◌∷◌, ℕ, length, false, not, List, Some, IfSome, MatchOption};
+ghost use Rattle.std.specs.List.{position};
 ghost use Rattle.std.specs.Fmt.{decimal, digit_glyph};
 ghost use Rattle.version_links.specs.Names.{id_text};
-ghost use Rattle.version_links.specs.Steps.{extended};
+ghost use Rattle.version_links.specs.Steps.{digits_behind, extended};
+ghost use Rattle.version_links.specs.Glyphs.{is_glyph, Glyphs, Ends, HasNumber, HasNoNumber};
 
 use itoa::Buffer;
 
@@ -71,15 +73,58 @@ fn past(text: &[u8], mark: u8) -> Option<&[u8]>
     }
 }
 
+// The number that these digits are behind the mark: an id behind a `_`, and else one in decimal.
+fn value(digits: &[u8], mark: u8) -> Option<u64>
+    ensures { MatchOption result ((n : ℕ) → n < 2 ^ 64 → digits.now ≢ digits_behind mark n)
+        (λ n. digits.now ≡ digits_behind mark n) }
+{
+    if mark == b'_' {
+        id(digits)
+    } else {
+        number(digits)
+    }
+}
+
 /// The number behind the front and the mark: an id behind a `_`, and else one in decimal.
 pub fn number_behind(text: &[u8], front: &[u8], mark: u8) -> Option<u64>
     ensures { MatchOption result ((n : ℕ) → n < 2 ^ 64 → text.now ≢ extended front.now mark n)
         (λ n. text.now ≡ extended front.now mark n) }
 {
     let digits = past(after(text, front)?, mark)?;
-    if mark == b'_' {
-        id(digits)
-    } else {
-        number(digits)
+    value(digits, mark)
+}
+
+fn is_glyph(byte: u8) -> bool
+    ensures { result ≡ is_glyph byte }
+{
+    byte.is_ascii_digit() || (b'a' <= byte && byte <= b'f')
+}
+
+// The place of the first byte that is no digit.
+fn end_of_digits(text: &[u8]) -> Option<usize>
+    ensures value { result ≡ position (λ c. not (is_glyph c)) text.now }
+    ensures bound { IfSome result (λ at. at < length text.now) }
+{
+    text.iter().position(|b| !is_glyph(*b))
+}
+
+// The digits at the front of the text, and what follows them.
+fn split_digits(text: &[u8]) -> (&[u8], &[u8])
+    ensures split { text.now ≡ result.0.now ++ result.1.now }
+    ensures digits { Glyphs result.0.now }
+    ensures rest { Ends result.1.now }
+{
+    match end_of_digits(text) {
+        Some(at) => text.split_at(at),
+        None => (text, b""),
     }
+}
+
+/// The number behind the mark at the front of the text, and what follows its digits.
+pub fn first_number(text: &[u8], mark: u8) -> Option<(u64, &[u8])>
+    ensures { MatchOption result (HasNoNumber mark text.now) (λ p. HasNumber mark text.now p.0 p.1.now) }
+{
+    let (digits, rest) = split_digits(past(text, mark)?);
+    let n = value(digits, mark)?;
+    Some((n, rest))
 }

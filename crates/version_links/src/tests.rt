@@ -1,7 +1,7 @@
 //! Versions as texts, and the texts of links.
-use crate::Version;
 use crate::number::number_behind;
 use crate::printing::with_number;
+use crate::{Version, directory_of};
 use std::test::Fail;
 
 #[test]
@@ -31,19 +31,27 @@ fn reads_and_shows_versions(rt: HostRuntime) -> Result<(), Fail> {
 }
 
 #[test]
-fn orders_versions_by_numbers(rt: HostRuntime) -> Result<(), Fail> {
-    let older = Version {
+fn reads_names_of_data_directories(rt: HostRuntime) -> Result<(), Fail> {
+    let found = directory_of(b"v1.5.20_00000000000000ff");
+    let version = Version {
         major: 1,
-        minor: 9,
-        patch: 9,
+        minor: 5,
+        patch: 20,
     };
-    let newer = Version {
-        major: 1,
-        minor: 10,
-        patch: 0,
-    };
-    assert!(rt; older < newer);
-    assert!(rt; older == older);
+    assert!(rt; found == Some((version, 255)));
+    for name in [
+        "",
+        "current",
+        "v1.5.2",
+        "v1.5_0000000000000000",
+        "v01.5.2_0000000000000000",
+        "v1.5.2_000000000000000",
+        "v1.5.2_000000000000000F",
+        "v1.5.2_0000000000000000_",
+        "v1.5.2.1_0000000000000000",
+    ] {
+        assert!(rt; directory_of(name.as_bytes()).is_none(), "{name}");
+    }
     Ok(())
 }
 
