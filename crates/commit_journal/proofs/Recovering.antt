@@ -3,10 +3,11 @@ use Rattle.std.proofs.Common.{◌≡◌, inl, inr, ◌⊎◌, Bool, true, false,
 use Rattle.std.specs.Prelude.{Vec}
 use Rattle.std.specs.declared.alloc.Global.{Global}
 use Rattle.outside.specs.Names.{Names}
-use Rattle.outside.specs.Tree.{Node, file, link, node_at, file_in}
+use Rattle.outside.specs.Tree.{Node, file, link, node_at, file_in, link_in}
 use Rattle.outside.specs.History.{synced, History, next, tree_of}
 use Rattle.outside.specs.Since.{EachSince, IsAtOrSync, Touches}
 use Rattle.outside.specs.Told.{Moves, WhereTold}
+use Rattle.outside.specs.Faults.{HandsOn}
 use Rattle.outside.specs.declared.disk_error.DiskErr.{DiskErr}
 use Rattle.outside.specs.declared.disk_error.DiskErr.TheVariants as device
 use Rattle.outside.proofs.Crash.{tree_is_image, settled_synced, settled_image}
@@ -21,7 +22,7 @@ use Rattle.commit_journal.specs.Journal.{journal_text, IsJournal}
 use Rattle.commit_journal.specs.Laws.{StandsForOne}
 use Rattle.commit_journal.specs.Stands.{journal, HasJournal, StandsFor, TreeStandsFor, without_journal}
 use Rattle.commit_journal.specs.Change.{CarriesOut}
-use Rattle.commit_journal.specs.Recovery.{HandsOn, journal_in, FromSyncOn, IsRecovered, Recovers}
+use Rattle.commit_journal.specs.Recovery.{journal_in, FromSyncOn, IsRecovered, Recovers}
 use Rattle.commit_journal.proofs.Carried.{journal_not_named}
 use Rattle.commit_journal.proofs.Elsewhere.{only_below, touches_synced}
 use Rattle.commit_journal.proofs.Laid.{with_node_here, laid_other}
@@ -41,11 +42,17 @@ ok_not_bad : (found : Bool) (path : Names) → IsErrOf {T = Bool} {E = JournalEr
 ok_not_bad found path same = cc
 
 -- a device's error is handed on as such an error
-pub plain_device : (d : DiskErr) (e : JournalError) → HandsOn d e → IsPlain e
+pub plain_device : (d : DiskErr) (e : JournalError) → HandsOn told.Failed told.Memory d e → IsPlain e
 plain_device device.Failed e is = inr is
 plain_device device.Memory e is = inl is
 
 -- ---- what a directory stands for
+
+-- where neither a file nor a link is, nothing is
+no_node : (node : Option Node) → file_in node ≡ None → link_in node ≡ None → node ≡ None
+no_node None no_file no_link = refl
+no_node (Some (file bytes)) no_file no_link = cc
+no_node (Some (link text)) no_file no_link = cc
 
 -- two batches that the journal names are one
 same_text : (found : Files) (one other : List Entry) → HasJournal found one → HasJournal found other → one ≡ other
@@ -84,8 +91,11 @@ module _ (dir : Names) where
   still_stands files old new stands (inr since) = since_now (TreeStandsFor dir files) (next synced old) new since (tree_of new) (tree_is_image new)
 
   -- once what is there is on the disk, a crash leaves it
+  since_synced : (files : Files) (old : History) → TreeStandsFor dir files (tree_of old) → EachSince (TreeStandsFor dir files) (next synced old) (next synced old)
+  since_synced files old stands = (since_start (TreeStandsFor dir files) (next synced old) (λ image im. subst (TreeStandsFor dir files) (sym (settled_image (next synced old) (settled_synced old) image im)) stands))
+
   keeps_synced : (files : Files) (old : History) → TreeStandsFor dir files (tree_of old) → FromSyncOn (EachSince (TreeStandsFor dir files)) old (next synced old)
-  keeps_synced files old stands = inr (since_start (TreeStandsFor dir files) (next synced old) (λ image im. subst (TreeStandsFor dir files) (sym (settled_image (next synced old) (settled_synced old) image im)) stands))
+  keeps_synced files old stands = inr (since_synced files old stands)
 
   -- ---- the exits, by what was done
 
@@ -99,6 +109,9 @@ module _ (dir : Names) where
     done = tt;
     found = tt;
     none = tt;
+    first_synced = tt;
+    each_since = tt;
+    stood = tt;
     good = tt;
     bad = λ path same. absurd (not_bad e path plain same);
     others = only_below dir old new (touches old new goes);
@@ -122,6 +135,9 @@ module _ (dir : Names) where
     done = λ files stands. is_there files stands;
     found = sym (ap (λ (o : Option (List ℕ)). is_some o) none);
     none = λ was. refl;
+    first_synced = goes_stay (IsAtOrSync (IsBelow dir)) (next synced old);
+    each_since = λ files. since_synced files old;
+    stood = λ no_link. (files_below dir (tree_of old), inl (no_node (files_below dir (tree_of old) journal) none no_link, refl));
     good = λ bad. let text = bad.0 in let is = bad.1 in cc;
     bad = λ path same. absurd (ok_not_bad false path same);
     others = only_below dir old (next synced old) (touches_synced dir old (next synced old) refl);
@@ -147,6 +163,9 @@ module _ (dir : Names) where
     done = tt;
     found = tt;
     none = tt;
+    first_synced = tt;
+    each_since = tt;
+    stood = tt;
     good = tt;
     bad = λ found same. (same_path found same ∙ at, (text, is, other), refl);
     others = only_below dir old (next synced old) (touches_synced dir old (next synced old) refl);
@@ -177,17 +196,23 @@ module _ (dir : Names) where
     stands_so files stands = stands_over (files_below dir (tree_of old)) files batch.entries has_journal stands
 
     -- while it is carried out, a crash leaves what stands for that
-    carried_on : {F : Type 0} (result : Result Unit F) (new : History) → CarriesOut batch result (next synced old) new → (files : Files) → TreeStandsFor dir files (tree_of old) → FromSyncOn (EachSince (TreeStandsFor dir files)) old new
-    carried_on result new carries files stands =
-        inr (subst (λ (f : Files). EachSince (TreeStandsFor dir f) (next synced old) new) (sym (stands_so files stands))
+    carried_since : {F : Type 0} (result : Result Unit F) (new : History) → CarriesOut batch result (next synced old) new → (files : Files) → TreeStandsFor dir files (tree_of old) → EachSince (TreeStandsFor dir files) (next synced old) new
+    carried_since result new carries files stands =
+        (subst (λ (f : Files). EachSince (TreeStandsFor dir f) (next synced old) new) (sym (stands_so files stands))
         (at_dir (λ d. HasJournal (files_below d (tree_of old)) batch.entries → EachSince (TreeStandsFor d (laid batch.entries (without_journal (files_below d (tree_of old))))) (next synced old) new) (λ has. carries.any_moment (λ p. settled_synced old (batch.dir ++ p)) has) has_journal))
       where
         at_dir : (Q : Names → Type 0) → Q batch.dir → Q dir
         at_dir Q = subst Q at
 
+    carried_on : {F : Type 0} (result : Result Unit F) (new : History) → CarriesOut batch result (next synced old) new → (files : Files) → TreeStandsFor dir files (tree_of old) → FromSyncOn (EachSince (TreeStandsFor dir files)) old new
+    carried_on result new carries files stands = inr (carried_since result new carries files stands)
+
     -- and no path elsewhere is touched
+    within_since : (new : History) → Touches (IsBelow batch.dir) (next synced old) new → Touches (IsBelow dir) (next synced old) new
+    within_since new goes = subst (λ (d : Names). Touches (IsBelow d) (next synced old) new) at goes
+
     within : (new : History) → Touches (IsBelow batch.dir) (next synced old) new → FromSyncOn (Touches (IsBelow dir)) old new
-    within new goes = inr (subst (λ (d : Names). Touches (IsBelow d) (next synced old) new) at goes)
+    within new goes = inr (within_since new goes)
 
     -- it was not carried out to the end
     carry_failed : (e : JournalError) → IsPlain e → {F : Type 0} (f : F) (new : History) → CarriesOut {E = F} batch (Err f) (next synced old) new → Recovers dir (Err e) old new
@@ -209,6 +234,9 @@ module _ (dir : Names) where
       };
       found = sym (ap (λ (o : Option (List ℕ)). is_some o) is);
       none = λ was. absurd (not_false was);
+      first_synced = within_since new carries.others;
+      each_since = carried_since {F = F} (Ok done) new carries;
+      stood = λ no_link. (over, inr (batch.entries, has_journal, refl));
       good = λ bad. let one = bad.1 in let e : bad.0 ≡ text = cc in bad.2 batch.entries (subst (λ (l : List ℕ). IsJournal batch.entries l) (sym e) spelled);
       bad = λ path same. absurd (ok_not_bad true path same);
       others = only_below dir old new (touches old new (within new carries.others));

@@ -1,22 +1,15 @@
 -- What a recovery does to a disk.
-use Rattle.std.specs.Prelude.{◌≡◌, ◌⊎◌, List, ℕ, ◌++◌, Bool, false, is_some, Option, Some, Result, OnOk, IfOk, IsErrOf}
+use Rattle.std.specs.Prelude.{◌≡◌, ◌⊎◌, List, ℕ, ◌++◌, Bool, false, is_some, Option, Some, None, Result, OnOk, IfOk, IsErrOf}
 use Rattle.outside.specs.Names.{Names}
-use Rattle.outside.specs.Tree.{Tree, file_in}
+use Rattle.outside.specs.Tree.{Tree, file_in, link_in}
 use Rattle.outside.specs.History.{History, next, synced, tree_of, IsSettled}
 use Rattle.outside.specs.Since.{EachSince, Touches}
-use Rattle.outside.specs.declared.disk_error.DiskErr.{DiskErr}
-use Rattle.outside.specs.declared.disk_error.DiskErr.TheVariants as device
 use Rattle.commit_journal.specs.declared.journal_error.JournalError.{JournalError}
 use Rattle.commit_journal.specs.declared.journal_error.JournalError.TheVariants as told
 use Rattle.commit_journal.specs.Entries.{Entry}
 use Rattle.commit_journal.specs.Files.{Files, files_below, IsBelow}
 use Rattle.commit_journal.specs.Journal.{IsJournal}
 use Rattle.commit_journal.specs.Stands.{journal, TreeStandsFor, IsReady, ChangesOnlyBelow}
-
--- A disk's error is handed on under its own name.
-abbrev pub HandsOn : DiskErr → JournalError → Type 0
-HandsOn device.Failed e = e ≡ told.Failed
-HandsOn device.Memory e = e ≡ told.Memory
 
 -- The bytes of the file `journal`, if it is there.
 abbrev pub journal_in : Names → Tree → Option (List ℕ)
@@ -50,6 +43,11 @@ pub record Recovers (dir : Names) (result : Result Bool JournalError) (old new :
   -- Ok tells whether a journal was there, and where none was, only the sync was made.
   pub found : IfOk result (λ found. found ≡ is_some (journal_in dir (tree_of old)))
   pub none : IfOk result (λ found. found ≡ false → new ≡ next synced old)
+  -- After Ok the first sync was made, and since then only paths below the directory changed and a crash leaves what stands for the same files.
+  pub first_synced : OnOk result (Touches (IsBelow dir) (next synced old) new)
+  pub each_since : OnOk result ((files : Files) → TreeStandsFor dir files (tree_of old) → EachSince (TreeStandsFor dir files) (next synced old) new)
+  -- Ok comes only where the directory stood for some files, unless a link stands in the journal's place.
+  pub stood : OnOk result (link_in (files_below dir (tree_of old) journal) ≡ None → (files : Files) × TreeStandsFor dir files (tree_of old))
   -- A bad journal is never carried out, and where it is answered, only the sync was made.
   pub good : OnOk result (IsBad dir (tree_of old) → ⊥)
   pub bad : (path : Names) → IsErrOf result (told.BadJournal path) → (path ≡ dir ++ journal) × IsBad dir (tree_of old) × (new ≡ next synced old)

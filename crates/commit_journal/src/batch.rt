@@ -5,7 +5,7 @@ ghost use Rattle.commit_journal.specs.Entries.{Entry, has_first_name, are_rising
 ghost use Rattle.commit_journal.specs.Journal.{IsJournal};
 
 use crate::BatchError;
-use crate::placed_entry::{PlacedEntry, child_of, place_all};
+use crate::placed_entry::{PlacedEntry, journal_path, place_all};
 use crate::printing::journal_text;
 use crate::reading::read_entries;
 use key_names::Bytes;
@@ -58,7 +58,7 @@ impl Batch {
     {
         let text = journal_text(alloc, &entries)?;
         let entries = place_all(alloc, dir, entries)?;
-        let journal = child_of(dir, b"journal")?;
+        let journal = journal_path(alloc, dir)?;
         let dir = dir.copy()?;
         Ok(Batch {
             dir,
@@ -89,7 +89,7 @@ impl Batch {
             Err(BatchError::Memory) => return Err(AllocError),
             Err(BatchError::TooDeep) => unreachable!(),
         };
-        let journal = child_of(dir, b"journal")?;
+        let journal = journal_path(alloc, dir)?;
         let dir = dir.copy()?;
         Ok(Some(Batch {
             dir,

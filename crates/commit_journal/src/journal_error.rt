@@ -43,9 +43,10 @@ impl From<Failed> for JournalError {
 }
 
 impl From<DiskErr> for JournalError {
-    ghost use Rattle.commit_journal.specs.Recovery.{HandsOn};
+    ghost use Rattle.outside.specs.Faults.{HandsOn};
+    ghost use Rattle.commit_journal.specs.declared.journal_error.JournalError.TheVariants as told;
 
-    ghost from_gives = { HandsOn };
+    ghost from_gives = { HandsOn told.Failed told.Memory };
 
     fn from(error: DiskErr) -> Self {
         match error {

@@ -23,6 +23,7 @@ pub use batch_error::BatchError;
 pub use changing::change;
 pub use journal_error::JournalError;
 pub use law::laws;
+pub use parts::cut;
 pub use recovery::recover;
 
 #[cfg(test)]

@@ -18,8 +18,8 @@ fn after<'a>(text: &'a [u8], word: &[u8]) -> Option<&'a [u8]>
     text.strip_prefix(word)
 }
 
-// The parts around the first such byte.
-fn cut(text: &[u8], byte: u8) -> Option<(&[u8], &[u8])>
+/// The parts of the text around its first such byte, or None where it has none. One pass over the text, and no memory.
+pub fn cut(text: &[u8], byte: u8) -> Option<(&[u8], &[u8])>
     ensures { MatchOption result (Lacks byte text.now) (λ p. IsCut byte text.now p.0.now p.1.now) }
 {
     for (i, b) in text.iter().enumerate() {

@@ -1,13 +1,14 @@
 //! The entries of a batch, each with its whole path.
-ghost use Rattle.std.specs.Prelude.{◌≡◌, ◌≤◌, ◌<◌, ◌++◌, ◌∷◌, [], length, IfOk, OnOk, IsErrOf, IsTrue, false};
+ghost use Rattle.std.specs.Prelude.{◌≡◌, ◌≤◌, ◌<◌, ◌++◌, length, IfOk, OnOk, IsErrOf, IsTrue, false};
 ghost use Rattle.std.specs.List.{list_all};
-ghost use Rattle.outside.specs.Names.{is_name, are_names};
+ghost use Rattle.outside.specs.Names.{are_names};
 ghost use Rattle.commit_journal.specs.Entries.{fits_below};
 ghost use Rattle.commit_journal.specs.Placed.{ArePlaced};
+ghost use Rattle.commit_journal.specs.Stands.{journal};
 
 use crate::BatchError;
 use key_names::Bytes;
-use outside::{Path, PathError};
+use outside::{Name, Path};
 use std::alloc::{AllocError, Global};
 
 /// An entry of a batch.
@@ -21,34 +22,16 @@ pub struct PlacedEntry {
     pub bytes: Option<Bytes>,
 }
 
-/// The path with one name more, where there is room for it.
-pub fn child_of(path: &Path, name: &[u8]) -> Result<Path, AllocError>
-    requires valid { IsTrue (is_name name.now) }
-    requires room { length path.now < 40 }
-    ensures { IfOk result (λ child. child ≡ path.now ++ name.now ∷ []) }
+/// The path of the journal in a directory, or want of memory.
+pub fn journal_path(alloc: Global, dir: &Path) -> Result<Path, AllocError>
+    requires { length dir.now < 40 }
+    ensures { IfOk result (λ path. path ≡ dir.now ++ journal) }
 {
-    match path.child(name) {
-        Ok(child) => Ok(child),
-        Err(PathError::Memory) => Err(AllocError),
-        Err(PathError::BadName | PathError::TooDeep) => unreachable!(),
-    }
-}
-
-// Adds one name to the path, where there is room for it.
-fn push_name(path: &mut Path, name: &[u8]) -> Result<(), AllocError>
-    requires valid { IsTrue (is_name name.now) }
-    requires room { length path.old < 40 }
-    ensures { OnOk result (path.new ≡ path.old ++ name.now ∷ []) }
-{
-    match path.push(name) {
-        Ok(()) => Ok(()),
-        Err(PathError::Memory) => Err(AllocError),
-        Err(PathError::BadName | PathError::TooDeep) => unreachable!(),
-    }
+    dir.join(&Name::of(b"journal".to_vec(alloc)?))
 }
 
 // The directory's path with the names of the relative path behind it.
-fn join(dir: &Path, relative: &Path) -> Result<Path, AllocError>
+fn join(alloc: Global, dir: &Path, relative: &Path) -> Result<Path, AllocError>
     requires { length (dir.now ++ relative.now) ≤ 40 }
     ensures path { IfOk result (λ path. path ≡ dir.now ++ relative.now) }
     ensures named { OnOk result (IsTrue (are_names relative.now)) }
@@ -56,7 +39,8 @@ fn join(dir: &Path, relative: &Path) -> Result<Path, AllocError>
     let mut path = dir.copy()?;
     let names = relative.names();
     for name in names {
-        push_name(&mut path, name.as_slice())?;
+        let bytes = name.as_slice();
+        path.push_name(Name::of(bytes.to_vec(alloc)?))?;
     }
     Ok(path)
 }
@@ -81,7 +65,7 @@ pub fn place_all(
         if relative.names().len() > room {
             return Err(BatchError::TooDeep);
         }
-        let path = join(dir, &relative)?;
+        let path = join(alloc, dir, &relative)?;
         all.push(PlacedEntry {
             relative,
             path,

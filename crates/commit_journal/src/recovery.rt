@@ -7,7 +7,7 @@ ghost use Rattle.outside.specs.Faults.{HasCause, HasCauseOf};
 ghost use Rattle.commit_journal.specs.Recovery.{Recovers};
 
 use crate::changing::carry_out;
-use crate::placed_entry::child_of;
+use crate::placed_entry::journal_path;
 use crate::{Batch, JournalError};
 use outside::{Disk, Failed, Path};
 use std::alloc::Global;
@@ -31,7 +31,7 @@ pub fn recover<D: Disk>(alloc: Global, disk: &mut D, dir: &Path) -> Result<bool,
     ensures cause { HasCauseOf JournalError.Failed (D.faults disk.old) (D.faults disk.new) result }
     ensures bad_without_fault { (path : Names) → IsErrOf result (JournalError.BadJournal path) → D.faults disk.new ≡ D.faults disk.old }
 {
-    let path = child_of(dir, b"journal")?;
+    let path = journal_path(alloc, dir)?;
     sync_first(disk)?;
     let Some(text) = disk.read(alloc, &path)? else {
         return Ok(false);
