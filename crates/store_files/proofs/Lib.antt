@@ -1,5 +1,6 @@
 pub mod FileNames
 pub mod Places
+pub mod Alike
 pub mod Showing
 pub mod Spelled
 pub mod Sound
@@ -15,7 +16,6 @@ pub mod KeyFiles
 pub mod FoundHeld
 pub mod Filing
 pub mod FormatFile
-pub mod Rising
 pub mod KeyTexts
 pub mod PlaceFiles
 pub mod Batching

@@ -1,7 +1,8 @@
 -- Laws of places, and of what files stand for.
-use Rattle.std.specs.Prelude.{◌≡◌, ◌≢◌, ℕ, IsTrue}
+use Rattle.std.specs.Prelude.{◌≡◌, ◌≢◌, ℕ, List, ◌∷◌, None, IsTrue}
 use Rattle.outside.specs.Names.{Names}
 use Rattle.commit_journal.specs.Files.{Files}
+use Rattle.commit_journal.specs.Stands.{journal}
 use Rattle.settings_tree.specs.Change.{Place}
 use Rattle.settings_tree.specs.declared.held.Held.{Held}
 use Rattle.store_files.specs.Places.{path_of, is_place, format_path}
@@ -27,3 +28,15 @@ StandsFaultless = (files : Files) (held : Held) (format : ℕ) (path : Names) �
 -- Files have at most one fault.
 abbrev pub HasOneFault : Type 0
 HasOneFault = (files : Files) (one other : Names) → IsFault files one → IsFault files other → one ≡ other
+
+-- The two have the same at each path of names.
+abbrev pub AreAlike : Files → Files → Type 0
+AreAlike one other = (name : List ℕ) (rest : Names) → one (name ∷ rest) ≡ other (name ∷ rest)
+
+-- Files that are alike stand for the same.
+abbrev pub StandAlike : Type 0
+StandAlike = (one other : Files) (held : Held) (format : ℕ) → AreAlike one other → Stands one held format → Stands other held format
+
+-- Files that stand for something have no journal among them.
+abbrev pub StandsWithoutJournal : Type 0
+StandsWithoutJournal = (files : Files) (held : Held) (format : ℕ) → Stands files held format → files journal ≡ None

@@ -32,9 +32,9 @@ pub(crate) fn path_of(alloc: Global, base: &Path, entry: &Entry) -> Result<Path,
         Entry::MetaGone { key, name } => meta_path(alloc, base, key, name.as_str().as_bytes()),
         Entry::PendSet { tx, key, value: _ } => pending_path(alloc, base, tx, key),
         Entry::PendGone { tx, key } => pending_path(alloc, base, tx, key),
-        Entry::OwedSet { owed: _ } => top_path(base, b"owed"),
-        Entry::ImageSet { image: _ } => top_path(base, b"image"),
-        Entry::WeakIs { weak: _ } => top_path(base, b"weak"),
+        Entry::OwedSet { owed: _ } => top_path(alloc, base, b"owed"),
+        Entry::ImageSet { image: _ } => top_path(alloc, base, b"image"),
+        Entry::WeakIs { weak: _ } => top_path(alloc, base, b"weak"),
     }
 }
 

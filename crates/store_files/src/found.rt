@@ -16,7 +16,7 @@ use json_trees::{Pending, Scalar};
 use key_names::{Bytes, Key, Text};
 use outside::Name;
 use settings_maps::{KeyList, KeyMap, Metadata, Transactions, TxName};
-use settings_tree::{Content, Held, Owed, PendMaps, fits, is_setting};
+use settings_tree::{Content, Held, Owed, PendMaps, fits, may_be_weak};
 use std::alloc::{AllocError, Global};
 
 /// What the files of a data directory say, as far as they are read.
@@ -61,13 +61,6 @@ fn fits_transaction(transactions: &Transactions, tx: &TxName, key: &Key) -> bool
         Some(keys) => fits(keys, key),
         None => true,
     }
-}
-
-fn may_be_weak(values: &KeyMap<Scalar>, keys: &[Key]) -> bool
-    ensures { IsTrue result ↔ All (MayBeWeak values.now) keys.now }
-{
-    keys.iter()
-        .all(|key| is_setting(key) && values.get(key).is_some())
 }
 
 // Whether the file `weak` is missing in format 2.

@@ -1,12 +1,13 @@
 //! Which place a path is that of.
 ghost use Rattle.std.specs.Prelude.{◌≡◌, ◌++◌, ◌∷◌, [], codes, MatchOption, IsTrue};
-ghost use Rattle.commit_journal.specs.Parts.{Lacks, IsCut};
+ghost use Rattle.commit_journal.specs.Parts.{Lacks};
 ghost use Rattle.store_files.specs.FoundFiles.{IsPlaceOf};
 ghost use Rattle.store_files.specs.Texts.{Finds};
 ghost use Rattle.settings_maps.specs.TxName.{is_meta_name};
 ghost use Rattle.store_files.specs.declared.place.FilePlace.{FilePlace};
 
 use crate::key_files::key_of;
+use commit_journal::cut;
 use key_names::{Key, Text};
 use outside::Name;
 use settings_maps::{TxName, is_meta_name};
@@ -27,18 +28,6 @@ pub(crate) enum FilePlace {
     Image,
     /// The weak keys.
     Weak,
-}
-
-// The parts around the first dot.
-fn cut(name: &[u8]) -> Option<(&[u8], &[u8])>
-    ensures { MatchOption result (Lacks 46 name.now) (λ p. IsCut 46 name.now p.0.now p.1.now) }
-{
-    for (i, b) in name.iter().enumerate() {
-        if *b == b'.' {
-            return Some((&name[..i], &name[i + 1..]));
-        }
-    }
-    None
 }
 
 // The text of a metadata name, or None where the bytes are none.
@@ -92,7 +81,7 @@ fn live_of(alloc: Global, names: &[Name]) -> Result<Option<FilePlace>, AllocErro
     let Some((last, first)) = names.split_last() else {
         return Ok(None);
     };
-    match cut(last.as_slice()) {
+    match cut(last.as_slice(), b'.') {
         Some((last, name)) => meta_of(alloc, first, last, name),
         None => value_of(alloc, first, last.as_slice()),
     }

@@ -8,22 +8,9 @@ ghost use Rattle.settings_tree.specs.Change.{Live, Meta, Pend};
 ghost use Rattle.store_files.specs.Places.{names_of, meta_names, path_of, is_place};
 
 use key_names::{Key, file_name};
-use outside::{Path, PathError};
+use outside::{Name, Path};
 use settings_maps::TxName;
 use std::alloc::{AllocError, Global};
-
-// Adds one name to the path, where there is room for it.
-fn push_name(path: &mut Path, name: &[u8]) -> Result<(), AllocError>
-    requires valid { IsTrue (is_name name.now) }
-    requires room { length path.old < 40 }
-    ensures { OnOk result (path.new ≡ path.old ++ name.now ∷ []) }
-{
-    match path.push(name) {
-        Ok(()) => Ok(()),
-        Err(PathError::Memory) => Err(AllocError),
-        Err(PathError::BadName | PathError::TooDeep) => unreachable!(),
-    }
-}
 
 // Adds the file name of a segment.
 fn push_segment(alloc: Global, path: &mut Path, segment: &[u8]) -> Result<(), AllocError>
@@ -33,7 +20,7 @@ fn push_segment(alloc: Global, path: &mut Path, segment: &[u8]) -> Result<(), Al
     ensures { OnOk result (path.new ≡ path.old ++ file_name segment.now ∷ []) }
 {
     let name = file_name(alloc, segment)?;
-    push_name(path, name.as_slice())
+    path.push_name(Name::of(name.as_slice().to_vec(alloc)?))
 }
 
 // Adds the names of a key.
@@ -71,7 +58,7 @@ fn push_meta(alloc: Global, path: &mut Path, key: &Key, name: &[u8]) -> Result<(
         push_segment(alloc, path, key.segment(index))?;
     }
     let bytes = dotted(alloc, key.segment(last), name)?;
-    push_name(path, &bytes)
+    path.push_name(Name::of(bytes))
 }
 
 /// The path of the file of a live value, behind a base of at most two names. The only error is want of memory.
@@ -80,7 +67,7 @@ pub fn live_path(alloc: Global, base: &Path, key: &Key) -> Result<Path, AllocErr
     ensures path { IfOk result (λ path. path ≡ base.now ++ path_of (Live key.now)) }
     ensures valid { OnOk result (IsTrue (is_place (Live key.now))) }
 {
-    let mut path = top_path(base, b"live")?;
+    let mut path = top_path(alloc, base, b"live")?;
     push_key(alloc, &mut path, key)?;
     Ok(path)
 }
@@ -92,7 +79,7 @@ pub fn meta_path(alloc: Global, base: &Path, key: &Key, name: &[u8]) -> Result<P
     ensures path { IfOk result (λ path. path ≡ base.now ++ path_of (Meta key.now name.now)) }
     ensures valid { OnOk result (IsTrue (is_place (Meta key.now name.now))) }
 {
-    let mut path = top_path(base, b"live")?;
+    let mut path = top_path(alloc, base, b"live")?;
     push_meta(alloc, &mut path, key, name)?;
     Ok(path)
 }
@@ -103,19 +90,17 @@ pub fn pending_path(alloc: Global, base: &Path, tx: &TxName, key: &Key) -> Resul
     ensures path { IfOk result (λ path. path ≡ base.now ++ path_of (Pend tx.now key.now)) }
     ensures valid { OnOk result (IsTrue (is_place (Pend tx.now key.now))) }
 {
-    let mut path = top_path(base, b"pending")?;
-    push_name(&mut path, tx.as_str().as_bytes())?;
+    let mut path = top_path(alloc, base, b"pending")?;
+    path.push_name(Name::of(tx.as_str().as_bytes().to_vec(alloc)?))?;
     push_key(alloc, &mut path, key)?;
     Ok(path)
 }
 
 /// The path of one name, behind a base of at most two names. The only error is want of memory.
-pub fn top_path(base: &Path, name: &[u8]) -> Result<Path, AllocError>
+pub fn top_path(alloc: Global, base: &Path, name: &[u8]) -> Result<Path, AllocError>
     requires base { length base.now ≤ 2 }
     requires valid { IsTrue (is_name name.now) }
     ensures { IfOk result (λ path. path ≡ base.now ++ name.now ∷ []) }
 {
-    let mut path = base.copy()?;
-    push_name(&mut path, name)?;
-    Ok(path)
+    base.join(&Name::of(name.to_vec(alloc)?))
 }

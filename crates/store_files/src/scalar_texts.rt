@@ -163,13 +163,6 @@ fn keys_of(alloc: Global, items: &[Item]) -> Result<Option<Vec<Key>>, AllocError
     Ok(Some(keys))
 }
 
-fn rises(keys: &[Key]) -> bool
-    ensures yes { IsTrue result → IsRising keys.now }
-    ensures no { result ≡ false → ¬ IsRising keys.now }
-{
-    keys.is_sorted_by(|a, b| a.cmp(b).is_lt())
-}
-
 // The keys that are listed as these items.
 fn rising_keys_of(alloc: Global, items: &[Item]) -> Result<Option<KeyList>, AllocError>
     ensures { (keys : List (List (List ℕ))) → IsKeyList keys → items.now ≡ key_items keys
@@ -178,7 +171,7 @@ fn rising_keys_of(alloc: Global, items: &[Item]) -> Result<Option<KeyList>, Allo
     let Some(keys) = keys_of(alloc, items)? else {
         return Ok(None);
     };
-    if rises(&keys) {
+    if KeyList::rise(&keys) {
         Ok(Some(KeyList::of(keys)))
     } else {
         Ok(None)

@@ -1,5 +1,6 @@
 use Rattle.store_files.proofs.Meaning.{one_meaning}
 use Rattle.store_files.proofs.Faults.{faultless, one_fault}
+use Rattle.store_files.proofs.Alike.{stand_alike, stands_without_journal}
 use Rattle.store_files.proofs.Places.{one_place, no_format}
 use Rattle.store_files.proofs.law.laws.Goals as goal
 
@@ -17,3 +18,9 @@ returns-clause-one_fault c = one_fault
 
 pub returns-clause-one_meaning : goal.returns-clause-one_meaning
 returns-clause-one_meaning c = one_meaning
+
+pub returns-clause-alike : goal.returns-clause-alike
+returns-clause-alike c = stand_alike
+
+pub returns-clause-no_journal : goal.returns-clause-no_journal
+returns-clause-no_journal c = stands_without_journal
