@@ -5,19 +5,10 @@ use Rattle.std.specs.Ordering.{eq_by_cmp}
 use Rattle.outside.specs.Names.{Names, path_cmp}
 use Rattle.outside.specs.Tree.{Node, Tree, paths_below}
 use Rattle.outside.specs.History.{History, tree_of}
-use Rattle.outside.specs.declared.disk_error.DiskErr.{DiskErr}
-use Rattle.outside.specs.declared.disk_error.DiskErr.TheVariants as device
 use Rattle.commit_journal.specs.Files.{Files, files_below, with_node}
 use Rattle.store_files.specs.Damage.{Fits, IsFaultBelow}
 use Rattle.store_files.specs.FoundFiles.{Says, StaysRuled, no_files}
 use Rattle.store_files.specs.declared.found.Found.{Found}
-use Rattle.fs_datastore.specs.declared.load_error.LoadError.{LoadError}
-use Rattle.fs_datastore.specs.declared.load_error.LoadError.TheVariants as told
-
--- A disk's error is handed on under its own name.
-abbrev pub HandsOn : DiskErr → LoadError → Type 0
-HandsOn device.Failed e = e ≡ told.Failed
-HandsOn device.Memory e = e ≡ told.Memory
 
 -- What stands at the path is read with the others, or is a node that may not stand behind them.
 abbrev pub ReadsNode : Names → Option Node → Found → Found → Bool → Type 0

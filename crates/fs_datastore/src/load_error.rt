@@ -32,9 +32,10 @@ impl From<AllocError> for LoadError {
 }
 
 impl From<DiskErr> for LoadError {
-    ghost use Rattle.fs_datastore.specs.Loading.{HandsOn};
+    ghost use Rattle.outside.specs.Faults.{HandsOn};
+    ghost use Rattle.fs_datastore.specs.declared.load_error.LoadError.TheVariants as told;
 
-    ghost from_gives = { HandsOn };
+    ghost from_gives = { HandsOn told.Failed told.Memory };
 
     fn from(error: DiskErr) -> Self {
         match error {

@@ -87,18 +87,19 @@ fn first_fault<'a, D: Disk>(
 }
 
 // The path of the file that is missing.
-fn absent_path(dir: &Path, absent: Absent) -> Result<Path, AllocError>
+fn absent_path(alloc: Global, dir: &Path, absent: Absent) -> Result<Path, AllocError>
     requires { length dir.now ≡ 2 }
     ensures { IfOk result (λ path. path ≡ dir.now ++ absent_path absent) }
 {
     match absent {
-        Absent::Owed => top_path(dir, b"owed"),
-        Absent::Image => top_path(dir, b"image"),
-        Absent::Weak => top_path(dir, b"weak"),
+        Absent::Owed => top_path(alloc, dir, b"owed"),
+        Absent::Image => top_path(alloc, dir, b"image"),
+        Absent::Weak => top_path(alloc, dir, b"weak"),
     }
 }
 
-/// Reads what a data directory of two names stands for, in format 1 or 2. It reads each file once, and changes nothing.
+/// Reads what a data directory of two names stands for, in format 1 or 2. It lists the paths and reads each file once,
+/// and changes nothing.
 ///
 /// `Damaged` exactly where the files stand for nothing, with the path of their fault: the first path, in order, that is
 /// not that of exactly one thing, holds bytes outside their form, is a link, or breaks the prefix rule with an earlier
@@ -122,7 +123,7 @@ pub fn load<D: Disk>(alloc: Global, disk: &mut D, dir: &Path) -> Result<Loaded, 
     match found.held(alloc) {
         Ok((held, format)) => Ok(Loaded { held, format }),
         Err(absent) => Err(LoadError::Damaged {
-            path: absent_path(dir, absent)?,
+            path: absent_path(alloc, dir, absent)?,
         }),
     }
 }

@@ -211,18 +211,18 @@ fn save_owed<D: Disk>(alloc: Global, disk: &mut D, dir: &Path, keys: &Owed) -> R
     ensures saves { Moves (D.told disk.old) (D.told disk.new) (SavesTo dir.now (value_at_place TheOwed (owed keys.now)) result) }
     ensures cause { HasCauseOf DiskErr.Failed (D.faults disk.old) (D.faults disk.new) result }
 {
-    let path = top_path(dir, b"owed")?;
+    let path = top_path(alloc, dir, b"owed")?;
     let text = owed_text(alloc, keys)?;
     write_text(disk, &path, &text)
 }
 
 #[tactic(auto, using(crate::proofs::Savings::saving))]
-fn save_image<D: Disk>(disk: &mut D, dir: &Path, text: &Bytes) -> Result<(), DiskErr>
+fn save_image<D: Disk>(alloc: Global, disk: &mut D, dir: &Path, text: &Bytes) -> Result<(), DiskErr>
     requires { length dir.now ≡ 2 }
     ensures saves { Moves (D.told disk.old) (D.told disk.new) (SavesTo dir.now (value_at_place TheImage (image text.now)) result) }
     ensures cause { HasCauseOf DiskErr.Failed (D.faults disk.old) (D.faults disk.new) result }
 {
-    let path = top_path(dir, b"image")?;
+    let path = top_path(alloc, dir, b"image")?;
     write(disk, &path, text.as_slice())
 }
 
@@ -237,18 +237,18 @@ fn save_weak<D: Disk>(
     ensures saves { Moves (D.told disk.old) (D.told disk.new) (SavesTo dir.now (value_at_place TheWeak (weak keys.now)) result) }
     ensures cause { HasCauseOf DiskErr.Failed (D.faults disk.old) (D.faults disk.new) result }
 {
-    let path = top_path(dir, b"weak")?;
+    let path = top_path(alloc, dir, b"weak")?;
     let text = weak_text(alloc, keys)?;
     write_text(disk, &path, &text)
 }
 
 #[tactic(auto, using(crate::proofs::Savings::telling))]
-fn save_format<D: Disk>(disk: &mut D, dir: &Path) -> Result<(), DiskErr>
+fn save_format<D: Disk>(alloc: Global, disk: &mut D, dir: &Path) -> Result<(), DiskErr>
     requires { length dir.now ≡ 2 }
     ensures tells { Moves (D.told disk.old) (D.told disk.new) (TellsFormat dir.now result) }
     ensures cause { HasCauseOf DiskErr.Failed (D.faults disk.old) (D.faults disk.new) result }
 {
-    let path = top_path(dir, b"format")?;
+    let path = top_path(alloc, dir, b"format")?;
     write(disk, &path, b"2")
 }
 
@@ -260,7 +260,7 @@ fn save_single<D: Disk>(alloc: Global, disk: &mut D, dir: &Path, held: &Held) ->
     ensures cause { HasCauseOf DiskErr.Failed (D.faults disk.old) (D.faults disk.new) result }
 {
     save_owed(alloc, disk, dir, &held.owed)?;
-    save_image(disk, dir, &held.image)?;
+    save_image(alloc, disk, dir, &held.image)?;
     save_weak(alloc, disk, dir, held.live.weak())
 }
 
@@ -296,6 +296,6 @@ pub fn save_all<D: Disk>(
     ensures cause { HasCauseOf DiskErr.Failed (D.faults disk.old) (D.faults disk.new) result }
 {
     save_held(alloc, disk, dir, held)?;
-    save_format(disk, dir)?;
+    save_format(alloc, disk, dir)?;
     sync(disk)
 }
