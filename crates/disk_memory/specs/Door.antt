@@ -5,7 +5,7 @@ use Rattle.outside.specs.Door.{DoorState}
 use Rattle.outside.specs.declared.disk_error.Failed.{Failed}
 use Rattle.disk_memory.specs.Plan.{one_more}
 use Rattle.disk_memory.specs.Pieces.{joined}
-use Rattle.disk_memory.specs.Connection.{exchange_of, after_last, is_number, GivesNext, TakesAll}
+use Rattle.disk_memory.specs.Connection.{exchange_of, after_last, is_number, GivesNext, TakesAll, IsPlanned, CountsRead, CountsWrite}
 use Rattle.disk_memory.specs.declared.input.Input.{Input}
 use Rattle.disk_memory.specs.declared.connection.Connection.{Connection}
 use Rattle.disk_memory.specs.declared.door.MemoryDoor.{MemoryDoor}
@@ -50,18 +50,32 @@ pub record IsUnused (door : MemoryDoor) : Type 0 where
 pub record TakesInput (old new : MemoryDoor) (result : Result Bool Failed) : Type 0 where
   pub counted : new.accepts ≡ one_more old.accepts
   pub failed : IsTrue (is_accept_failing old) → IsErr result
-  pub next : result ≡ Ok true → (input : Input) × (inputs_of old ≡ input ∷ inputs_of new) × (exchanges_of new ≡ fresh (joined input.pieces.items) ∷ exchanges_of old)
+  pub failing : new.accept_fails ≡ old.accept_fails
+  pub next : result ≡ Ok true → (input : Input) × (connection : Connection) × (inputs_of old ≡ input ∷ inputs_of new) × (new.last ≡ Some connection) × IsPlanned input connection
+      × (exchanges_of new ≡ fresh (joined input.pieces.items) ∷ exchanges_of old)
   pub none : result ≡ Ok false → inputs_of old ≡ []
   pub same : result ≢ Ok true → inputs_of new ≡ inputs_of old
 
--- The read is the next one of the last connection.
-pub record ReadsLast {E : Type 0} (room : List ℕ) (old : MemoryDoor) (result : Result ℕ E) : Type 0 where
-  pub connection : Connection
-  pub last : old.last ≡ Some connection
-  pub reads : GivesNext room connection result
+-- The connections that are still to come are those from before, and so are the accepts that were counted and the one that is to fail.
+pub record KeepsWaiting (old new : MemoryDoor) : Type 0 where
+  pub inputs : inputs_of new ≡ inputs_of old
+  pub accepts : new.accepts ≡ old.accepts
+  pub failing : new.accept_fails ≡ old.accept_fails
 
--- The write is the next one of the last connection.
-pub record WritesLast {E : Type 0} (piece : List ℕ) (old : MemoryDoor) (result : Result ℕ E) : Type 0 where
-  pub connection : Connection
-  pub last : old.last ≡ Some connection
-  pub writes : TakesAll piece connection result
+-- The read is the next one of the last connection, and was counted there.
+pub record ReadsLast {E : Type 0} (room : List ℕ) (old new : MemoryDoor) (result : Result ℕ E) : Type 0 where
+  pub before : Connection
+  pub now : Connection
+  pub old_is : old.last ≡ Some before
+  pub new_is : new.last ≡ Some now
+  pub reads : GivesNext room before result
+  pub counted : CountsRead before now
+
+-- The write is the next one of the last connection, and was counted there.
+pub record WritesLast {E : Type 0} (piece : List ℕ) (old new : MemoryDoor) (result : Result ℕ E) : Type 0 where
+  pub before : Connection
+  pub now : Connection
+  pub old_is : old.last ≡ Some before
+  pub new_is : new.last ≡ Some now
+  pub writes : TakesAll piece before result
+  pub counted : CountsWrite before now

@@ -41,7 +41,14 @@ pub record IsUnused (link : MemoryLink) : Type 0 where
   pub connects : link.connects ≡ 0
   pub failing : link.connect_fails ≡ None
 
--- The connect was counted, and failed exactly where it was set to.
+-- The connects that were counted are those from before, and so is the one that is to fail.
+pub record KeepsConnects (old new : MemoryLink) : Type 0 where
+  pub connects : new.connects ≡ old.connects
+  pub failing : new.connect_fails ≡ old.connect_fails
+
+-- The connect was counted, failed exactly where it was set to, and left the connection as it was.
 pub record CountsConnect {E : Type 0} (old new : MemoryLink) (result : Result Unit E) : Type 0 where
   pub counted : new.connects ≡ one_more old.connects
+  pub failing : new.connect_fails ≡ old.connect_fails
+  pub connection : connection_of new ≡ connection_of old
   pub failed : IsErr result ↔ IsTrue (is_connect_failing old)

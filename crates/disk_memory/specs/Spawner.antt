@@ -58,14 +58,23 @@ answer_at most (Some (Some answer)) = Some (min answer.status 256, take most ans
 abbrev pub planned_answer : MemorySpawner → ℕ → Option (ℕ × List ℕ)
 planned_answer spawner most = answer_at (most + 1) (slice_get spawner.answers.items spawner.ask_calls)
 
--- The run was counted; it failed where it was to fail, or for want of memory, and else answered as planned.
+-- What the runs and the asks are to answer is as before.
+pub record KeepsPlans (old new : MemorySpawner) : Type 0 where
+  pub statuses : statuses_of new ≡ statuses_of old
+  pub answers : answers_of new ≡ answers_of old
+
+-- The run was counted, and no ask; it failed where it was to fail, or for want of memory, and else answered as planned.
 pub record RunsAsPlanned {E : Type 0} (old new : MemorySpawner) (result : Result ℕ E) : Type 0 where
   pub counted : new.run_calls ≡ one_more old.run_calls
+  pub asks : new.ask_calls ≡ old.ask_calls
+  pub plans : KeepsPlans old new
   pub failed : planned_status old ≡ None → IsErr result
   pub status : IfOk result (λ status. planned_status old ≡ Some status)
 
--- The ask was counted; it failed where it was to fail, or for want of memory, and else answered as planned.
+-- The ask was counted, and no run; it failed where it was to fail, or for want of memory, and else answered as planned.
 pub record AsksAsPlanned (most : ℕ) (old new : MemorySpawner) (result : Result Answer AskErr) : Type 0 where
   pub counted : new.ask_calls ≡ one_more old.ask_calls
+  pub runs : new.run_calls ≡ old.run_calls
+  pub plans : KeepsPlans old new
   pub failed : planned_answer old most ≡ None → IsErrOf result Failed
   pub answer : IfOk result (λ answer. planned_answer old most ≡ Some (answer_in answer))

@@ -22,11 +22,12 @@ pub struct Connection {
 impl Connection {
     ghost use Rattle.outside.specs.Exchange.{fresh};
     ghost use Rattle.disk_memory.specs.Pieces.{joined};
-    ghost use Rattle.disk_memory.specs.Connection.{exchange_of, GivesNext, TakesAll};
+    ghost use Rattle.disk_memory.specs.Connection.{exchange_of, GivesNext, TakesAll, IsPlanned, CountsRead, CountsWrite};
 
     /// A connection before its first byte.
     pub fn new(alloc: Global, input: Input) -> Connection
         ensures exchange { exchange_of result ≡ fresh (joined input.pieces.items) }
+        ensures planned { IsPlanned input result }
     {
         Connection {
             incoming: Incoming::new(input.pieces),
@@ -44,6 +45,7 @@ impl Connection {
         requires { 0 < length room.old }
         ensures heard { Hears room.new result (exchange_of self.old) (exchange_of self.new) }
         ensures next { GivesNext room.new self.old result }
+        ensures counted { CountsRead self.old self.new }
     {
         self.reads = self.reads.saturating_add(1);
         if self.read_fails == Some(self.reads) {
@@ -57,6 +59,7 @@ impl Connection {
     pub fn write(&mut self, piece: &[u8]) -> Result<usize, Failed>
         ensures said { Says piece.now result (exchange_of self.old) (exchange_of self.new) }
         ensures all { TakesAll piece.now self.old result }
+        ensures counted { CountsWrite self.old self.new }
     {
         self.writes = self.writes.saturating_add(1);
         let fails = self.write_fails == Some(self.writes);

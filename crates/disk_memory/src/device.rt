@@ -1,10 +1,11 @@
 //! The calls of a disk in memory.
-ghost use Rattle.std.specs.Prelude.{◌≡◌, None, Some, option_map, IfOk};
+ghost use Rattle.std.specs.Prelude.{◌≡◌, None, Some, option_map, IfOk, OnErr};
 ghost use Rattle.outside.specs.Tree.{file, link, node_at, file_in, link_in, paths_below};
 ghost use Rattle.outside.specs.History.{tree_of};
 ghost use Rattle.outside.specs.DiskCalls.{Writes, Puts, Syncs};
 ghost use Rattle.outside.specs.Told.{Moves, WhereTold};
 ghost use Rattle.outside.specs.Faults.{HasCause, HasCauseOf};
+ghost use Rattle.disk_memory.specs.Crash.{MayTear};
 ghost use Rattle.disk_memory.specs.Plan.{CountsRead, CountsWrite};
 ghost use Rattle.disk_memory.specs.Disk.{history_of, plan_of, told, faults};
 
@@ -67,6 +68,7 @@ impl Disk for MemoryDisk {
         ensures written { Moves (told self.old) (told self.new) (Writes path.now bytes.now result) }
         ensures cause { HasCause (faults self.old) (faults self.new) result }
         ensures counted { CountsWrite (plan_of self.old) (plan_of self.new) result }
+        ensures failed { OnErr result (MayTear path.now (history_of self.old) (history_of self.new)) }
     {
         if self.plan.begin() {
             self.record.tear(path);
@@ -85,6 +87,7 @@ impl Disk for MemoryDisk {
         ensures removed { Moves (told self.old) (told self.new) (Puts path.now None result) }
         ensures cause { HasCause (faults self.old) (faults self.new) result }
         ensures counted { CountsWrite (plan_of self.old) (plan_of self.new) result }
+        ensures failed { OnErr result (history_of self.new ≡ history_of self.old) }
     {
         if self.plan.begin() {
             return Err(Failed);
@@ -102,6 +105,7 @@ impl Disk for MemoryDisk {
         ensures replaced { Moves (told self.old) (told self.new) (Puts path.now (Some (file bytes.now)) result) }
         ensures cause { HasCause (faults self.old) (faults self.new) result }
         ensures counted { CountsWrite (plan_of self.old) (plan_of self.new) result }
+        ensures failed { OnErr result (history_of self.new ≡ history_of self.old) }
     {
         if self.plan.begin() {
             return Err(Failed);
@@ -119,6 +123,7 @@ impl Disk for MemoryDisk {
         ensures relinked { Moves (told self.old) (told self.new) (Puts path.now (Some (link target.now)) result) }
         ensures cause { HasCause (faults self.old) (faults self.new) result }
         ensures counted { CountsWrite (plan_of self.old) (plan_of self.new) result }
+        ensures failed { OnErr result (history_of self.new ≡ history_of self.old) }
     {
         if self.plan.begin() {
             return Err(Failed);

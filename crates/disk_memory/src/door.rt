@@ -104,7 +104,7 @@ impl MemoryDoor {
 
 #[tactic(auto, using(crate::proofs::Doors::last_goes_on))]
 impl Door for MemoryDoor {
-    ghost use Rattle.disk_memory.specs.Door.{inputs_of, told, state, door_faults, TakesInput, ReadsLast, WritesLast};
+    ghost use Rattle.disk_memory.specs.Door.{told, state, door_faults, KeepsWaiting, TakesInput, ReadsLast, WritesLast};
 
     ghost faults = { door_faults };
 
@@ -144,7 +144,8 @@ impl Door for MemoryDoor {
         ensures bound { IfOk result (λ count. count ≤ length room.new) }
         ensures heard { Moves (told self.old) (told self.new) (LastBy (Hears room.new result)) }
         ensures cause { HasCause (door_faults self.old) (door_faults self.new) result }
-        ensures last { ReadsLast room.new self.old result }
+        ensures last { ReadsLast room.new self.old self.new result }
+        ensures waiting { KeepsWaiting self.old self.new }
     {
         let Some(last) = &mut self.last else {
             unreachable!()
@@ -163,7 +164,8 @@ impl Door for MemoryDoor {
         ensures goes_on { IfOk result (λ count. 0 < length piece.now → 0 < count) }
         ensures said { Moves (told self.old) (told self.new) (LastBy (Says piece.now result)) }
         ensures cause { HasCause (door_faults self.old) (door_faults self.new) result }
-        ensures last { WritesLast piece.now self.old result }
+        ensures last { WritesLast piece.now self.old self.new result }
+        ensures waiting { KeepsWaiting self.old self.new }
     {
         let Some(last) = &mut self.last else {
             unreachable!()
@@ -180,7 +182,8 @@ impl Door for MemoryDoor {
         ensures done { state self.new ≡ finished (state self.old) }
         ensures same { told self.new ≡ told self.old }
         ensures faults { door_faults self.new ≡ door_faults self.old }
-        ensures inputs { inputs_of self.new ≡ inputs_of self.old }
+        ensures waiting { KeepsWaiting self.old self.new }
+        ensures last { self.new.last ≡ self.old.last }
     {
         self.busy = false;
     }

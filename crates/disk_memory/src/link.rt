@@ -24,12 +24,14 @@ pub struct MemoryLink {
 impl MemoryLink {
     ghost use Rattle.outside.specs.Exchange.{fresh};
     ghost use Rattle.disk_memory.specs.Pieces.{joined};
-    ghost use Rattle.disk_memory.specs.Link.{exchange_of_link, failing_at, IsUnused};
+    ghost use Rattle.disk_memory.specs.Connection.{IsPlanned};
+    ghost use Rattle.disk_memory.specs.Link.{exchange_of_link, connection_of, failing_at, IsUnused};
 
     /// A link whose server answers this. No connect fails.
     pub fn of_input(alloc: Global, input: Input) -> MemoryLink
         ensures exchange { exchange_of_link result ≡ fresh (joined input.pieces.items) }
         ensures unused { IsUnused result }
+        ensures planned { IsPlanned input (connection_of result) }
     {
         MemoryLink {
             connection: Connection::new(alloc, input),
@@ -56,8 +58,8 @@ impl MemoryLink {
 }
 
 impl Link for MemoryLink {
-    ghost use Rattle.disk_memory.specs.Connection.{GivesNext, TakesAll};
-    ghost use Rattle.disk_memory.specs.Link.{told, is_connected, link_faults, connection_of, CountsConnect};
+    ghost use Rattle.disk_memory.specs.Connection.{GivesNext, TakesAll, CountsRead, CountsWrite};
+    ghost use Rattle.disk_memory.specs.Link.{told, is_connected, link_faults, connection_of, CountsConnect, KeepsConnects};
 
     ghost faults = { link_faults };
 
@@ -89,6 +91,8 @@ impl Link for MemoryLink {
         ensures heard { Moves (told self.old) (told self.new) (Hears room.new result) }
         ensures cause { HasCause (link_faults self.old) (link_faults self.new) result }
         ensures next { GivesNext room.new (connection_of self.old) result }
+        ensures counted { CountsRead (connection_of self.old) (connection_of self.new) }
+        ensures connects { KeepsConnects self.old self.new }
     {
         let answer = self.connection.read(room);
         if answer.is_err() {
@@ -105,6 +109,8 @@ impl Link for MemoryLink {
         ensures said { Moves (told self.old) (told self.new) (Says piece.now result) }
         ensures cause { HasCause (link_faults self.old) (link_faults self.new) result }
         ensures all { TakesAll piece.now (connection_of self.old) result }
+        ensures counted { CountsWrite (connection_of self.old) (connection_of self.new) }
+        ensures connects { KeepsConnects self.old self.new }
     {
         let answer = self.connection.write(piece);
         if answer.is_err() {

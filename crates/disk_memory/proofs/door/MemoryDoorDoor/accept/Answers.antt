@@ -6,7 +6,15 @@ pub returns-clause-taken : goal.returns-clause-taken
 returns-clause-taken c = record {
   counted = search rules;
   failed = search rules;
-  next = λ is. (c.in-Some.input, reverse-push c.pop.new.self.items c.args.self.now.waiting.items c.in-Some.input (search rules), λ i. c.new.ensures.exchange i ∷ c.in-Ok.ensures.ok i);
+  failing = search rules;
+  next = λ is. (
+    c.in-Some.input,
+    c.new.result,
+    reverse-push c.pop.new.self.items c.args.self.now.waiting.items c.in-Some.input (search rules),
+    refl,
+    c.new.ensures.planned,
+    λ i. c.new.ensures.exchange i ∷ c.in-Ok.ensures.ok i,
+  );
   none = λ is. cc;
   same = λ other. absurd (other refl);
 }
