@@ -2,6 +2,7 @@
 use crate::faults::Faults;
 use crate::folder::Folder;
 use crate::places::Kind;
+use crate::work::Lock;
 use outside::{Disk, DiskErr, Failed, Path};
 use std::alloc::{AllocError, Global};
 use std::rt::Files;
@@ -9,26 +10,48 @@ use std::rt::Files;
 /// A disk over the files below a folder, to which nobody else writes.
 ///
 /// A file lies at its own path, and a link as a file at the same path below `.links`. A new file is made in `.work`,
-/// synced, and renamed over the old one. `sync` puts down each file that was written in place and each folder whose
-/// entries changed since the last sync that answered Ok, each once. No symbolic link is followed below the folder: it
-/// is a fault, as is all that is neither a file nor a folder, and a path below `.work`, `.links` or `api.sock`. Each
-/// error is a fault, and so is want of memory in a writing call.
+/// synced, and renamed over the old one. A folder is no node: one without files gives way to a file, and below `store`
+/// and `.links` a folder goes with the last file in it.
+///
+/// The first call takes the lock on the folder, which is held as long as the disk lives. Where another program holds it,
+/// each call is a fault and nothing is read or changed.
+///
+/// `sync` puts down each file that was written in place and each folder whose entries changed since the last sync that
+/// answered Ok, each once. The first one also puts down all files and folders of `store`, `etc` and `.links`, as an
+/// earlier program may have left them. The bytes of a file that was written in place are kept until it is on the disk:
+/// where its sync fails, reads answer them and the next sync writes them anew. Where the sync of a folder fails, or of a
+/// file whose bytes aren't kept, each later call is a fault.
+///
+/// No symbolic link is followed below the folder. At a path that is named it is a fault, and so is all that is neither a
+/// file nor a folder, and a path below `.work`, `.links` or `api.sock`. Each error is a fault, and so is want of memory
+/// in a writing call.
 #[derive(Drop)]
 pub struct RealDisk<R: Files + AllocGlobal + Clone + Drop> {
     folder: Folder<R>,
     faults: Faults,
 }
 
-impl<R: Files + AllocGlobal + Clone + Drop> RealDisk<R> {
+impl<R: Files + AllocGlobal + Clone + Drop> RealDisk<R>
+where
+    R::File: Lock,
+{
     /// A disk over the files below this folder, which is there; `.` is the working folder. Or want of memory.
     pub fn new(rt: R, root: &str) -> Result<RealDisk<R>, AllocError> {
         let folder = Folder::new(rt, root)?;
         let faults = Faults::new();
         Ok(RealDisk { folder, faults })
     }
+
+    /// Whether another program held the lock on the folder at the last call.
+    pub fn is_locked_out(&self) -> bool {
+        self.folder.is_locked_out()
+    }
 }
 
-impl<R: Files + AllocGlobal + Clone + Drop> Disk for RealDisk<R> {
+impl<R: Files + AllocGlobal + Clone + Drop> Disk for RealDisk<R>
+where
+    R::File: Lock,
+{
     ghost use Rattle.std.specs.Prelude.{None};
 
     ghost faults = { λ d. d.faults.count };

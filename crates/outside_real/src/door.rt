@@ -3,30 +3,43 @@ ghost use Rattle.std.specs.Prelude.{◌≡◌, None, IfOk};
 ghost use Rattle.outside.specs.Faults.{HasCause};
 
 use crate::faults::{Faults, written_of};
-use crate::places::{SOCKET, remove_file, work_place};
+use crate::patience::{Patience, part};
+use crate::places::{SOCKET, remove_file};
+use crate::work::{Lock, take_lock, work_place};
 use outside::{Door, Failed};
 use std::alloc::AllocError;
 use std::fs::{self, Permissions};
-use std::io::{self, ErrorKind, Read, Write};
+use std::io::{self, ErrorKind};
 use std::os::unix::fs::PermissionsExt;
 use std::os::unix::net::{UnixListener, UnixStream};
 use std::rt::{Files, Net};
+use std::time::Clock;
 
 /// A door over the Unix socket `api.sock` in a folder, to which its owner and its group may connect. It is never at its
 /// end.
 ///
-/// A client that vanishes is a fault of the calls of its own connection, and of no accept. Each other error of the
+/// A client that vanishes is a fault of the calls of its own connection, and of no accept. So is one that keeps the
+/// calls of its connection waiting for ten seconds in all, those that read or those that write. Each other error of the
 /// system is a fault.
+///
+/// `finish` tells the client that no more comes, and lets go up to 4 MB of what it still sends, for a second at most, so
+/// that it reads its whole answer.
+///
+/// One door at a time is open in a folder: where another program's door is bound there, binding is a fault and changes
+/// nothing.
 #[derive(Drop)]
-pub struct RealDoor<R: Files + Net + AllocGlobal + Drop> {
+pub struct RealDoor<R: Files + Net + Clock + AllocGlobal + Drop> {
     rt: R,
     root: String,
+    // The lock on the socket, once it is taken.
+    lock: Option<R::File>,
     listener: Option<UnixListener>,
     clients: Clients,
+    patience: Patience,
     faults: Faults,
 }
 
-/// The clients of a door.
+/// The clients of a door. They are seen by clauses alone.
 #[derive(Drop)]
 pub struct Clients {
     /// The last one, until it is finished.
@@ -37,8 +50,9 @@ pub struct Clients {
     broken: bool,
 }
 
-// A socket at its place. It is bound in the folder that its owner alone may enter, gets its mode there, and is then
-// renamed: so nobody connects before it has the mode, and it takes the place of a socket file that was left.
+// A socket at its place, whose lock this program holds. It is bound in the folder that its owner alone may enter, gets
+// its mode there, and is then renamed: so nobody connects before it has the mode, and it takes the place of a socket
+// file that was left.
 fn bind<R: Files + Net + AllocGlobal>(rt: &R, root: &str) -> io::Result<UnixListener> {
     let new = work_place(rt, root, "socket")?;
     let place = format!(in rt.alloc(); "{root}{SOCKET}")?;
@@ -68,22 +82,25 @@ fn next_client(listener: &UnixListener) -> io::Result<UnixStream> {
     Err(io::Error::from(ErrorKind::Other))
 }
 
-// The next client. The socket is bound first, where it wasn't.
-fn client<R: Files + Net + AllocGlobal>(
+// The socket at its place. Its lock is taken first, where it isn't.
+fn bind_locked<R: Files + Net + AllocGlobal>(
     rt: &R,
     root: &str,
-    listener: &mut Option<UnixListener>,
-) -> io::Result<UnixStream> {
-    let bound = match listener.take() {
-        Some(bound) => bound,
-        None => bind(rt, root)?,
-    };
-    let client = next_client(&bound);
-    *listener = Some(bound);
-    client
+    lock: &mut Option<R::File>,
+) -> io::Result<UnixListener>
+where
+    R::File: Lock,
+{
+    if lock.is_none() {
+        *lock = Some(take_lock(rt, root, "socket-lock")?);
+    }
+    bind(rt, root)
 }
 
-impl<R: Files + Net + AllocGlobal + Drop> RealDoor<R> {
+impl<R: Files + Net + Clock + AllocGlobal + Drop> RealDoor<R>
+where
+    R::File: Lock,
+{
     ghost use Rattle.outside_real.specs.Door.{state_of, unused};
 
     /// A door at the socket in this folder; `.` is the working folder. Or want of memory.
@@ -94,24 +111,40 @@ impl<R: Files + Net + AllocGlobal + Drop> RealDoor<R> {
         Ok(RealDoor {
             rt,
             root,
+            lock: None,
             listener: None,
             clients: Clients {
                 last: None,
                 accepted: 0,
                 broken: false,
             },
+            patience: Patience::new(),
             faults: Faults::new(),
         })
     }
 
-    /// Removes a stale socket file and binds the socket. Clients may connect from then on.
+    // The next client. The socket is bound first, where it wasn't.
+    fn client(&mut self) -> io::Result<UnixStream>
+        ensures same { state_of self.new.clients ≡ state_of self.old.clients }
+        ensures faults { self.new.faults ≡ self.old.faults }
+    {
+        let bound = match self.listener.take() {
+            Some(bound) => bound,
+            None => bind_locked(&self.rt, self.root.as_str(), &mut self.lock)?,
+        };
+        let client = next_client(&bound);
+        self.listener = Some(bound);
+        client
+    }
+
+    /// Binds the socket, in place of a socket file that was left. Clients may connect from then on.
     ///
-    /// `Failed` where the system refuses it.
+    /// `Failed` where the system refuses it, or another program's door is bound in the folder.
     pub fn listen(&mut self) -> Result<(), Failed>
         ensures cause { HasCause self.old.faults.count self.new.faults.count result }
         ensures same { state_of self.new.clients ≡ state_of self.old.clients }
     {
-        let answer = bind(&self.rt, self.root.as_str());
+        let answer = bind_locked(&self.rt, self.root.as_str(), &mut self.lock);
         match self.faults.counted(answer) {
             Ok(listener) => {
                 self.listener = Some(listener);
@@ -122,7 +155,10 @@ impl<R: Files + Net + AllocGlobal + Drop> RealDoor<R> {
     }
 }
 
-impl<R: Files + Net + AllocGlobal + Drop> Door for RealDoor<R> {
+impl<R: Files + Net + Clock + AllocGlobal + Drop> Door for RealDoor<R>
+where
+    R::File: Lock,
+{
     ghost use Rattle.outside_real.specs.Door.{state_of};
 
     ghost faults = { λ door. door.faults.count };
@@ -132,9 +168,10 @@ impl<R: Files + Net + AllocGlobal + Drop> Door for RealDoor<R> {
     ghost told = { λ _. None };
 
     fn accept(&mut self) -> Result<bool, Failed> {
-        let answer = client(&self.rt, self.root.as_str(), &mut self.listener);
+        let answer = self.client();
         match self.faults.counted(answer) {
             Ok(stream) => {
+                self.patience = Patience::new();
                 self.clients.last = Some(stream);
                 self.clients.accepted += 1;
                 Ok(true)
@@ -150,7 +187,7 @@ impl<R: Files + Net + AllocGlobal + Drop> Door for RealDoor<R> {
         let Some(stream) = &mut self.clients.last else {
             unreachable!()
         };
-        let answer = stream.read(room);
+        let answer = self.patience.read(&self.rt, stream, room);
         self.faults.counted(answer)
     }
 
@@ -158,11 +195,13 @@ impl<R: Files + Net + AllocGlobal + Drop> Door for RealDoor<R> {
         let Some(stream) = &mut self.clients.last else {
             unreachable!()
         };
-        let answer = written_of(piece, stream.write(piece));
+        let answer = written_of(piece, self.patience.write(&self.rt, stream, piece));
         self.faults.counted(answer)
     }
 
     fn finish(&mut self) {
-        self.clients.last = None;
+        if let Some(client) = self.clients.last.take() {
+            part(&self.rt, client);
+        }
     }
 }

@@ -1,30 +1,66 @@
 //! The files below a real folder.
-use crate::places::{
-    Kind, Standing, is_own, place_of, remove_file, sync_place, what_stands, work_place,
-};
+use crate::folders::Folders;
+use crate::places::{KEPT, Kind, Standing, is_own, place_of, remove_file, what_stands};
+use crate::unsynced::Unsynced;
+use crate::walk::Walk;
+use crate::work::{Lock, create_anew, place_in_work, take_lock};
 use outside::{Path, PathError};
 use std::alloc::{AllocError, Global};
 use std::collections::BTreeSet;
-use std::fs::{self, OpenFile, OpenOptions};
+use std::fs::{self, OpenFile};
 use std::io::{self, ErrorKind, Write};
 use std::rt::Files;
 
-/// The files below a folder, and the places that changed since the last sync. Each error is the system's, or
-/// `OutOfMemory`.
+/// The files below a folder, and the places that changed since the last sync that answered Ok. Each error is the
+/// system's, or `OutOfMemory`.
 #[derive(Drop)]
 pub struct Folder<R: Files + AllocGlobal + Clone + Drop> {
     rt: R,
     root: String,
-    unsynced: BTreeSet<String>,
+    // The lock on the folder, once it is taken.
+    lock: Option<R::File>,
+    // Whether another program held the lock.
+    locked_out: bool,
+    folders: Folders,
+    unsynced: Unsynced,
+    // Whether what earlier programs may have left is among what is to be synced, or on the disk.
+    settled: bool,
 }
 
-impl<R: Files + AllocGlobal + Clone + Drop> Folder<R> {
+impl<R: Files + AllocGlobal + Clone + Drop> Folder<R>
+where
+    R::File: Lock,
+{
     /// The files below this folder, which is there. Or want of memory.
     pub fn new(rt: R, root: &str) -> Result<Folder<R>, AllocError> {
         let alloc = rt.alloc();
-        let root = String::from_str(alloc, root)?;
-        let unsynced = BTreeSet::new(alloc);
-        Ok(Folder { rt, root, unsynced })
+        Ok(Folder {
+            root: String::from_str(alloc, root)?,
+            lock: None,
+            locked_out: false,
+            folders: Folders::new(alloc),
+            unsynced: Unsynced::new(alloc),
+            settled: false,
+            rt,
+        })
+    }
+
+    /// Whether another program held the folder's lock at the last call.
+    pub fn is_locked_out(&self) -> bool {
+        self.locked_out
+    }
+
+    // Begins a call: takes the lock, if it isn't taken. An error after a failed sync of what can't be written anew.
+    fn begin(&mut self) -> io::Result<()> {
+        if self.unsynced.is_broken() {
+            return Err(io::Error::from(ErrorKind::Other));
+        }
+        if self.lock.is_none() {
+            let answer = take_lock(&self.rt, self.root.as_str(), "lock");
+            self.locked_out = matches!(&answer, Err(e) if e.kind() == ErrorKind::WouldBlock);
+            self.lock = Some(answer?);
+        }
+        Ok(())
     }
 
     // The place of the first names of the path.
@@ -49,10 +85,14 @@ impl<R: Files + AllocGlobal + Clone + Drop> Folder<R> {
     }
 
     // Whether the folders that the path lies in are there, none of them by a symbolic link.
-    fn has_folders(&self, kind: Kind, path: &Path) -> io::Result<bool> {
+    fn has_folders(&mut self, kind: Kind, path: &Path) -> io::Result<bool> {
+        let folder = self.folder(kind, path)?;
+        if self.folders.is_known(&folder) {
+            return Ok(true);
+        }
         for count in 0..path.names().len() {
             let folder = self.first_names(kind, path, count)?;
-            if what_stands(&self.rt, folder.as_str())? != Standing::Folder {
+            if !self.folders.stands(&self.rt, folder)? {
                 return Ok(false);
             }
         }
@@ -60,7 +100,7 @@ impl<R: Files + AllocGlobal + Clone + Drop> Folder<R> {
     }
 
     // The place of the node of this kind at the path, if there is one.
-    fn node(&self, kind: Kind, path: &Path) -> io::Result<Option<String>> {
+    fn node(&mut self, kind: Kind, path: &Path) -> io::Result<Option<String>> {
         let place = self.place(kind, path)?;
         if self.has_folders(kind, path)?
             && what_stands(&self.rt, place.as_str())? == Standing::File
@@ -71,26 +111,37 @@ impl<R: Files + AllocGlobal + Clone + Drop> Folder<R> {
         }
     }
 
+    // The bytes of the file at the place.
+    fn bytes(&self, place: &String) -> io::Result<Vec<u8>> {
+        match self.unsynced.lost(place) {
+            Some(bytes) => Ok(bytes.to_vec(self.rt.alloc())?),
+            None => fs::read(&self.rt, place.as_str()),
+        }
+    }
+
     /// The bytes of the file at the path, or None where no file is there.
-    pub fn file(&self, path: &Path) -> io::Result<Option<Vec<u8>>> {
+    pub fn file(&mut self, path: &Path) -> io::Result<Option<Vec<u8>>> {
+        self.begin()?;
         match self.node(Kind::File, path)? {
-            Some(place) => Ok(Some(fs::read(&self.rt, place.as_str())?)),
+            Some(place) => Ok(Some(self.bytes(&place)?)),
             None => Ok(None),
         }
     }
 
     /// The text of the link at the path, or None where no link is there. A file at the path hides the link, so that
     /// the change from one to the other is at one moment.
-    pub fn link(&self, path: &Path) -> io::Result<Option<Vec<u8>>> {
+    pub fn link(&mut self, path: &Path) -> io::Result<Option<Vec<u8>>> {
+        self.begin()?;
         match (self.node(Kind::File, path)?, self.node(Kind::Link, path)?) {
-            (None, Some(place)) => Ok(Some(fs::read(&self.rt, place.as_str())?)),
+            (None, Some(place)) => Ok(Some(self.bytes(&place)?)),
             _ => Ok(None),
         }
     }
 
-    // The place is to be synced.
-    fn note(&mut self, place: String) -> Result<(), AllocError> {
-        self.unsynced.insert(place)?;
+    // The folder that the path lies in is to be synced.
+    fn note_folder(&mut self, kind: Kind, path: &Path) -> io::Result<()> {
+        let folder = self.folder(kind, path)?;
+        self.unsynced.note(folder)?;
         Ok(())
     }
 
@@ -99,8 +150,10 @@ impl<R: Files + AllocGlobal + Clone + Drop> Folder<R> {
         let mut above = String::from_str(self.rt.alloc(), self.root.as_str())?;
         for count in 0..path.names().len() {
             let folder = self.first_names(kind, path, count)?;
-            if what_stands(&self.rt, folder.as_str())? == Standing::Nothing {
-                self.note(above)?;
+            let copy = String::from_str(self.rt.alloc(), folder.as_str())?;
+            if !self.folders.stands(&self.rt, copy)? {
+                self.unsynced.note(above)?;
+                self.folders.forget(&folder);
                 fs::create_dir(&self.rt, folder.as_str())?;
             }
             above = folder;
@@ -108,14 +161,63 @@ impl<R: Files + AllocGlobal + Clone + Drop> Folder<R> {
         Ok(())
     }
 
+    // Makes the path one at which a file may be made, and answers whether one stands there. Folders are no nodes: one
+    // that stands there is taken away with those below it, unless there is more in them.
+    fn make_way(&mut self, kind: Kind, path: &Path) -> io::Result<bool> {
+        let place = self.place(kind, path)?;
+        self.make_folders(kind, path)?;
+        match what_stands(&self.rt, place.as_str())? {
+            Standing::File => Ok(true),
+            Standing::Folder if !path.names().is_empty() => {
+                self.note_folder(kind, path)?;
+                self.remove_folders(place)?;
+                Ok(false)
+            }
+            Standing::Nothing => Ok(false),
+            _ => Err(io::Error::from(ErrorKind::IsADirectory)),
+        }
+    }
+
+    // Takes away the folder and those below it. An error where there is more in them.
+    fn remove_folders(&mut self, place: String) -> io::Result<()> {
+        let mut walk = Walk::new(self.rt.alloc());
+        walk.add(&self.rt, place)?;
+        walk.go(&self.rt)?;
+        if walk.has_others || !walk.files.is_empty() {
+            return Err(io::Error::from(ErrorKind::IsADirectory));
+        }
+        for _ in 0..usize::MAX {
+            let Some(folder) = walk.folders.pop() else {
+                break;
+            };
+            self.folders.forget(&folder);
+            fs::remove_dir(&self.rt, folder.as_str())?;
+        }
+        Ok(())
+    }
+
+    // Takes away the folders that the path lies in and in which nothing is left, from the last one up to those that
+    // last. The folder above such a one is to be synced.
+    fn prune(&mut self, kind: Kind, path: &Path) -> io::Result<()> {
+        for count in (kind.lasting(path)..path.names().len()).rev() {
+            let folder = self.first_names(kind, path, count)?;
+            let above = self.first_names(kind, path, count.saturating_sub(1))?;
+            let copy = String::from_str(self.rt.alloc(), above.as_str())?;
+            let is_new = self.unsynced.note(copy)?;
+            if !self.folders.remove_empty(&self.rt, folder)? {
+                if is_new {
+                    self.unsynced.forget(&above);
+                }
+                break;
+            }
+        }
+        Ok(())
+    }
+
     // A new file with these bytes, on the disk.
     fn make_new(&self, bytes: &[u8]) -> io::Result<String> {
-        let place = work_place(&self.rt, self.root.as_str(), "new")?;
-        remove_file(&self.rt, place.as_str())?;
-        let mut file = OpenOptions::new()
-            .write(true)
-            .create_new(true)
-            .open(&self.rt, place.as_str())?;
+        let place = place_in_work(self.rt.alloc(), self.root.as_str(), "new")?;
+        let mut file = create_anew(&self.rt, place.as_str())?;
         file.write_all(bytes)?;
         file.sync_all()?;
         Ok(place)
@@ -123,78 +225,101 @@ impl<R: Files + AllocGlobal + Clone + Drop> Folder<R> {
 
     /// Makes the path a node of this kind, by a rename of a new file that is on the disk.
     pub fn put(&mut self, kind: Kind, path: &Path, bytes: &[u8]) -> io::Result<()> {
+        self.begin()?;
         let place = self.place(kind, path)?;
-        let folder = self.folder(kind, path)?;
         let new = self.make_new(bytes)?;
-        self.make_folders(kind, path)?;
-        self.note(folder)?;
+        self.make_way(kind, path)?;
+        // Noted first, so that a failure in between is synced too.
+        self.note_folder(kind, path)?;
         fs::rename(&self.rt, new.as_str(), place.as_str())?;
+        self.unsynced.forget(&place);
         self.give_way(kind, path)
     }
 
-    // Takes away the node of the other kind, if there is one, once this one is on the disk.
+    // Takes away the node of the other kind, if there is one, once all that is there is on the disk.
     fn give_way(&mut self, kind: Kind, path: &Path) -> io::Result<()> {
         if self.node(kind.other(), path)?.is_some() {
-            let folder = self.folder(kind, path)?;
-            sync_place(&self.rt, folder.as_str())?;
+            self.put_down()?;
             self.take(kind.other(), path)?;
         }
         Ok(())
     }
 
-    // Takes away the node of this kind, if there is one.
+    // Takes away the node of this kind, if there is one, and the folders that it leaves empty.
     fn take(&mut self, kind: Kind, path: &Path) -> io::Result<()> {
         if let Some(place) = self.node(kind, path)? {
-            let folder = self.folder(kind, path)?;
-            self.note(folder)?;
+            self.note_folder(kind, path)?;
             remove_file(&self.rt, place.as_str())?;
+            self.unsynced.forget(&place);
+            self.prune(kind, path)?;
         }
         Ok(())
     }
 
     /// Takes away what is at the path: a link that a file hides first.
     pub fn remove(&mut self, path: &Path) -> io::Result<()> {
+        self.begin()?;
         self.take(Kind::Link, path)?;
         self.take(Kind::File, path)
     }
 
     /// Makes the path a file with these bytes, in place.
     pub fn write(&mut self, path: &Path, bytes: &[u8]) -> io::Result<()> {
+        self.begin()?;
         let place = self.place(Kind::File, path)?;
-        self.make_folders(Kind::File, path)?;
-        if what_stands(&self.rt, place.as_str())? == Standing::Nothing {
-            let folder = self.folder(Kind::File, path)?;
-            self.note(folder)?;
+        if !self.make_way(Kind::File, path)? {
+            self.note_folder(Kind::File, path)?;
         }
-        let noted = self.place(Kind::File, path)?;
-        self.note(noted)?;
+        let kept = bytes.to_vec(self.rt.alloc())?;
+        let copy = self.place(Kind::File, path)?;
+        self.unsynced.begin(copy)?;
         let mut file = fs::create(&self.rt, place.as_str())?;
         file.write_all(bytes)?;
+        self.unsynced.keep(place, kept)?;
         self.take(Kind::Link, path)
     }
 
-    /// Puts each place down that changed since the last sync that answered Ok, each once.
-    pub fn sync(&mut self) -> io::Result<()> {
-        for place in self.unsynced.iter() {
-            sync_place(&self.rt, place.as_str())?;
+    // Notes all that earlier programs may have left: the files, and the folders that they lie in.
+    fn note_all(&mut self) -> io::Result<()> {
+        let mut walk = Walk::new(self.rt.alloc());
+        for below in KEPT {
+            let mut place = String::from_str(self.rt.alloc(), self.root.as_str())?;
+            place.push_str(below)?;
+            walk.add(&self.rt, place)?;
         }
-        self.unsynced.clear();
+        walk.go(&self.rt)?;
+        walk.folders
+            .push(String::from_str(self.rt.alloc(), self.root.as_str())?)
+            .map_err(AllocError::from)?;
+        self.unsynced.note_each(walk.folders)?;
+        self.unsynced.note_each(walk.files)?;
         Ok(())
     }
 
-    // Adds the nodes of this kind directly in the folder, and its folders to those that are still to be listed.
+    fn put_down(&mut self) -> io::Result<()> {
+        if !self.settled {
+            self.note_all()?;
+            self.settled = true;
+        }
+        self.unsynced.sync(&self.rt)
+    }
+
+    /// Puts each place down that changed since the last sync that answered Ok, each once; at first also what earlier
+    /// programs left.
+    pub fn sync(&mut self) -> io::Result<()> {
+        self.begin()?;
+        self.put_down()
+    }
+
+    // Adds the nodes directly in the folder, and its folders to those that are still to be listed.
     fn list_folder(
         &self,
-        kind: Kind,
+        place: &str,
         folder: &Path,
         folders: &mut Vec<Path>,
         found: &mut BTreeSet<Path>,
     ) -> io::Result<()> {
-        let place = self.first_names(kind, folder, folder.names().len())?;
-        if what_stands(&self.rt, place.as_str())? != Standing::Folder {
-            return Ok(());
-        }
-        for entry in fs::read_dir(&self.rt, place.as_str())? {
+        for entry in fs::read_dir(&self.rt, place)? {
             let entry = entry?;
             let name = entry.file_name().as_bytes();
             if folder.names().is_empty() && is_own(name) {
@@ -212,8 +337,9 @@ impl<R: Files + AllocGlobal + Clone + Drop> Folder<R> {
     }
 
     // Adds the nodes of this kind below the path.
-    fn list_kind(&self, kind: Kind, path: &Path, found: &mut BTreeSet<Path>) -> io::Result<()> {
-        if !self.has_folders(kind, path)? {
+    fn list_kind(&mut self, kind: Kind, path: &Path, found: &mut BTreeSet<Path>) -> io::Result<()> {
+        let place = self.place(kind, path)?;
+        if !self.has_folders(kind, path)? || !self.folders.stands(&self.rt, place)? {
             return Ok(());
         }
         let mut folders = Vec::new(self.rt.alloc());
@@ -223,13 +349,16 @@ impl<R: Files + AllocGlobal + Clone + Drop> Folder<R> {
             let Some(folder) = folders.pop() else {
                 break;
             };
-            self.list_folder(kind, &folder, &mut folders, found)?;
+            let place = self.first_names(kind, &folder, folder.names().len())?;
+            self.list_folder(place.as_str(), &folder, &mut folders, found)?;
+            self.folders.set(place)?;
         }
         Ok(())
     }
 
     /// The paths of all nodes strictly below the path, rising. A name that is none of a path is an error.
-    pub fn list(&self, path: &Path) -> io::Result<Vec<Path>> {
+    pub fn list(&mut self, path: &Path) -> io::Result<Vec<Path>> {
+        self.begin()?;
         let alloc = self.rt.alloc();
         let mut found = BTreeSet::new(alloc);
         self.list_kind(Kind::File, path, &mut found)?;

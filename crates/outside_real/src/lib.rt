@@ -9,15 +9,21 @@ mod disk;
 mod door;
 mod faults;
 mod folder;
+mod folders;
 mod link;
+mod patience;
 mod places;
 mod sink;
 mod spawner;
 #[cfg(test)]
 mod tests;
+mod unsynced;
+mod walk;
+mod work;
 
 pub use disk::RealDisk;
 pub use door::RealDoor;
 pub use link::RealLink;
 pub use sink::RealSink;
 pub use spawner::RealSpawner;
+pub use work::Lock;

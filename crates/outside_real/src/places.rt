@@ -1,9 +1,8 @@
 //! Where the nodes of a disk lie below a real folder.
 use outside::Path;
 use std::alloc::{AllocError, Global};
-use std::fs::{self, DirBuilder, OpenFile};
+use std::fs;
 use std::io::{self, ErrorKind};
-use std::os::unix::fs::DirBuilderExt;
 use std::rt::Files;
 
 /// Files lie at their own paths, and links as files at the same paths below a folder of their own.
@@ -31,10 +30,22 @@ impl Kind {
             Kind::Link => Kind::File,
         }
     }
+
+    /// How many of the first folders of a path stay once they are empty. Below `store` and `.links` no folder does.
+    pub fn lasting(self, path: &Path) -> usize {
+        match (self, path.names().first()) {
+            (Kind::Link, _) => 1,
+            (Kind::File, Some(name)) if name.as_slice() == b"store".as_slice() => 2,
+            _ => usize::MAX,
+        }
+    }
 }
 
 /// The socket below the root.
 pub const SOCKET: &str = "/api.sock";
+
+/// The folders below the root in which an earlier program may have left what is not on the disk yet.
+pub const KEPT: [&str; 3] = ["/store", "/etc", "/.links"];
 
 /// Whether the name of something directly below the root is the adapters' own, so that no node lies there.
 pub fn is_own(name: &[u8]) -> bool {
@@ -69,28 +80,27 @@ pub enum Standing {
     File,
     /// A folder.
     Folder,
+    /// Anything else, as a symbolic link.
+    Other,
 }
 
-/// What stands at the place, with no symbolic link followed at its end. Anything but a file or a folder, as a
-/// symbolic link, is an error.
-pub fn what_stands(files: &impl Files, place: &str) -> io::Result<Standing> {
+/// What stands at the place, with no symbolic link followed at its end.
+pub fn look(files: &impl Files, place: &str) -> io::Result<Standing> {
     match fs::symlink_metadata(files, place) {
         Ok(data) if data.is_file() => Ok(Standing::File),
         Ok(data) if data.is_dir() => Ok(Standing::Folder),
-        Ok(_) => Err(io::Error::from(ErrorKind::InvalidData)),
+        Ok(_) => Ok(Standing::Other),
         Err(e) if e.kind() == ErrorKind::NotFound => Ok(Standing::Nothing),
         Err(e) => Err(e),
     }
 }
 
-/// The place of a file of this name in the folder `.work` below the root. Its owner alone may enter that folder, which is
-/// made where it is missing. It need not last: what is made there is renamed or let go.
-pub fn work_place<R: Files + AllocGlobal>(rt: &R, root: &str, name: &str) -> io::Result<String> {
-    let folder = format!(in rt.alloc(); "{root}/.work")?;
-    if what_stands(rt, folder.as_str())? == Standing::Nothing {
-        DirBuilder::new().mode(0o700).create(rt, folder.as_str())?;
+/// The same, where anything but a file or a folder is an error.
+pub fn what_stands(files: &impl Files, place: &str) -> io::Result<Standing> {
+    match look(files, place)? {
+        Standing::Other => Err(io::Error::from(ErrorKind::InvalidData)),
+        standing => Ok(standing),
     }
-    Ok(format!(in rt.alloc(); "{folder}/{name}")?)
 }
 
 /// Removes the file at the place, if there is one.
@@ -101,11 +111,26 @@ pub fn remove_file(files: &impl Files, place: &str) -> io::Result<()> {
     }
 }
 
-/// Puts what the file or folder at the place holds on the disk. One that was removed since has nothing to put.
-pub fn sync_place(files: &impl Files, place: &str) -> io::Result<()> {
+/// Removes the folder at the place, if there is one, and answers whether it could. False where something is in it, or
+/// where another file system begins there.
+pub fn remove_empty(files: &impl Files, place: &str) -> io::Result<bool> {
+    match fs::remove_dir(files, place) {
+        Ok(()) => Ok(true),
+        Err(e) if e.kind() == ErrorKind::NotFound => Ok(true),
+        Err(e)
+            if matches!(
+                e.kind(),
+                ErrorKind::DirectoryNotEmpty | ErrorKind::AlreadyExists | ErrorKind::ResourceBusy
+            ) => { Ok(false) }
+        Err(e) => Err(e),
+    }
+}
+
+/// The file or folder at the place, or None where it was removed.
+pub fn open_place<R: Files>(files: &R, place: &str) -> io::Result<Option<R::File>> {
     match fs::open(files, place) {
-        Ok(file) => file.sync_all(),
-        Err(e) if e.kind() == ErrorKind::NotFound => Ok(()),
+        Ok(file) => Ok(Some(file)),
+        Err(e) if matches!(e.kind(), ErrorKind::NotFound | ErrorKind::NotADirectory) => Ok(None),
         Err(e) => Err(e),
     }
 }

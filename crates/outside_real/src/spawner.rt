@@ -3,7 +3,8 @@ ghost use Rattle.std.specs.Prelude.{◌≡◌, ◌+◌, ◌<◌, ◌≤◌, None
 ghost use Rattle.outside.specs.Faults.{HasCauseOf};
 
 use crate::faults::Faults;
-use crate::places::{remove_file, work_place};
+use crate::places::remove_file;
+use crate::work::work_place;
 use outside::{Answer, AskErr, Asker, Failed, Spawner};
 use std::alloc::{AllocError, Global};
 use std::fs;

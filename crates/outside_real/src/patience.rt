@@ -1,0 +1,120 @@
+//! Calls on a client's connection that wait no longer than they may.
+ghost use Rattle.std.specs.Prelude.{◌≤◌, length, IfOk};
+
+use std::io::{self, ErrorKind, Read, Write};
+use std::net::Shutdown;
+use std::os::unix::net::UnixStream;
+use std::time::{Clock, Duration, Instant};
+
+/// How many seconds the calls that read a connection may wait in all, and how many those that write it. A client that
+/// keeps them waiting longer is parted from.
+const PATIENCE: u64 = 10;
+
+/// How many seconds the end of a finished client is waited for.
+const PARTING: u64 = 1;
+
+/// How many pieces of at most 4,096 bytes are let go until then.
+const MOST_PIECES: u32 = 1024;
+
+/// How long the calls on a connection may still wait.
+#[derive(Clone, Copy, Debug)]
+pub struct Patience {
+    /// Those that read it.
+    read: Duration,
+    /// Those that write it.
+    write: Duration,
+}
+
+// Reads once, and takes the time that it waited from what is left. It is an error where nothing is left.
+fn read_once(
+    clock: &impl Clock,
+    stream: &mut UnixStream,
+    room: &mut [u8],
+    left: &mut Duration,
+) -> io::Result<usize>
+    ensures { IfOk result (λ count. count ≤ length room.new) }
+{
+    stream.set_read_timeout(Some(*left))?;
+    let began = Instant::now(clock)?;
+    let answer = stream.read(room);
+    *left = left.saturating_sub(began.elapsed(clock)?);
+    answer
+}
+
+// Writes once, likewise.
+fn write_once(
+    clock: &impl Clock,
+    stream: &mut UnixStream,
+    piece: &[u8],
+    left: &mut Duration,
+) -> io::Result<usize>
+    ensures { IfOk result (λ count. count ≤ length piece.now) }
+{
+    stream.set_write_timeout(Some(*left))?;
+    let began = Instant::now(clock)?;
+    let answer = stream.write(piece);
+    *left = left.saturating_sub(began.elapsed(clock)?);
+    answer
+}
+
+impl Patience {
+    /// That of a new connection.
+    pub fn new() -> Patience {
+        Patience {
+            read: Duration::from_secs(PATIENCE),
+            write: Duration::from_secs(PATIENCE),
+        }
+    }
+
+    /// Reads some bytes, while there is patience. A signal that comes before the first byte is no failure.
+    pub fn read(
+        &mut self,
+        clock: &impl Clock,
+        stream: &mut UnixStream,
+        room: &mut [u8],
+    ) -> io::Result<usize>
+        ensures { IfOk result (λ count. count ≤ length room.new) }
+    {
+        for _ in 0..u64::MAX {
+            match read_once(clock, stream, room, &mut self.read) {
+                Err(e) if e.kind() == ErrorKind::Interrupted => {}
+                answer => return answer,
+            }
+        }
+        Err(io::Error::from(ErrorKind::Interrupted))
+    }
+
+    /// Writes some bytes, while there is patience. A signal that comes before the first byte is no failure.
+    pub fn write(
+        &mut self,
+        clock: &impl Clock,
+        stream: &mut UnixStream,
+        piece: &[u8],
+    ) -> io::Result<usize>
+        ensures { IfOk result (λ count. count ≤ length piece.now) }
+    {
+        for _ in 0..u64::MAX {
+            match write_once(clock, stream, piece, &mut self.write) {
+                Err(e) if e.kind() == ErrorKind::Interrupted => {}
+                answer => return answer,
+            }
+        }
+        Err(io::Error::from(ErrorKind::Interrupted))
+    }
+}
+
+/// Tells the client that no more comes, and lets go what it still sends: a client whose bytes weren't all read would
+/// find its connection reset in place of the end of the answer.
+pub fn part(clock: &impl Clock, mut client: UnixStream) {
+    if client.shutdown(Shutdown::Write).is_err() {
+        return;
+    }
+    let mut left = Duration::from_secs(PARTING);
+    let mut room = [0u8; 4096];
+    for _ in 0..MOST_PIECES {
+        match read_once(clock, &mut client, &mut room, &mut left) {
+            Ok(0) | Err(_) => break,
+            Ok(_) => {}
+        }
+    }
+}

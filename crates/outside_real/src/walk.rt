@@ -1,0 +1,64 @@
+//! What lies below real folders.
+use crate::places::{Standing, look};
+use std::alloc::{AllocError, Global};
+use std::rt::Files;
+use std::{fs, io};
+
+/// The places below some folders.
+#[derive(Drop)]
+pub struct Walk {
+    /// The folders themselves and those below them, each behind the one that it lies in.
+    pub folders: Vec<String>,
+    /// The files in them.
+    pub files: Vec<String>,
+    /// Whether there is anything else in them.
+    pub has_others: bool,
+}
+
+impl Walk {
+    /// Below no folder.
+    pub fn new(alloc: Global) -> Walk {
+        Walk {
+            folders: Vec::new(alloc),
+            files: Vec::new(alloc),
+            has_others: false,
+        }
+    }
+
+    /// Adds what stands at the place.
+    pub fn add(&mut self, files: &impl Files, place: String) -> io::Result<()> {
+        match look(files, place.as_str())? {
+            Standing::Nothing => {}
+            Standing::File => self.files.push(place).map_err(AllocError::from)?,
+            Standing::Folder => self.folders.push(place).map_err(AllocError::from)?,
+            Standing::Other => self.has_others = true,
+        }
+        Ok(())
+    }
+
+    // Adds what lies directly in the folder.
+    fn add_entries<R: Files + AllocGlobal + Clone + Drop>(
+        &mut self,
+        rt: &R,
+        folder: &str,
+    ) -> io::Result<()> {
+        for entry in fs::read_dir(rt, folder)? {
+            let entry = entry?;
+            let place = String::from_str(rt.alloc(), entry.path().as_str())?;
+            self.add(rt, place)?;
+        }
+        Ok(())
+    }
+
+    /// Adds all that lies below its folders.
+    pub fn go<R: Files + AllocGlobal + Clone + Drop>(&mut self, rt: &R) -> io::Result<()> {
+        for next in 0..usize::MAX {
+            let Some(folder) = self.folders.get(next) else {
+                break;
+            };
+            let folder = String::from_str(rt.alloc(), folder.as_str())?;
+            self.add_entries(rt, folder.as_str())?;
+        }
+        Ok(())
+    }
+}

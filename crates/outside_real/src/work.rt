@@ -1,0 +1,90 @@
+//! The folder `.work`, and the locks in it.
+use crate::places::{Standing, look, remove_file};
+use std::alloc::{AllocError, Global};
+use std::fs::{self, DirBuilder, File, OpenFile, OpenOptions};
+use std::io::{self, ErrorKind};
+use std::os::unix::fs::{DirBuilderExt, MetadataExt};
+use std::rt::Files;
+
+/// A file that can be locked against other programs.
+pub trait Lock {
+    /// Locks the file until it is closed. `WouldBlock` where another program has locked it.
+    fn lock_now(&self) -> io::Result<()>;
+}
+
+impl Lock for File {
+    fn lock_now(&self) -> io::Result<()> {
+        match self.try_lock() {
+            Ok(()) => Ok(()),
+            Err(e) => Err(io::Error::from(e)),
+        }
+    }
+}
+
+fn refused() -> io::Error {
+    io::Error::from(ErrorKind::PermissionDenied)
+}
+
+/// The place of a file of this name in the folder `.work` below the root.
+pub fn place_in_work(alloc: Global, root: &str, name: &str) -> Result<String, AllocError> {
+    format!(in alloc; "{root}/.work/{name}")
+}
+
+// The user to whom the folder `.work` below the root belongs. It is made where it is missing, and one that others may
+// enter is refused.
+fn owner_of_work<R: Files + AllocGlobal>(rt: &R, root: &str) -> io::Result<u32> {
+    let folder = format!(in rt.alloc(); "{root}/.work")?;
+    if look(rt, folder.as_str())? == Standing::Nothing {
+        DirBuilder::new().mode(0o700).create(rt, folder.as_str())?;
+    }
+    let data = fs::symlink_metadata(rt, folder.as_str())?;
+    if data.is_dir() && data.mode() & 0o077 == 0 {
+        Ok(data.uid())
+    } else {
+        Err(refused())
+    }
+}
+
+/// The place of a file of this name in the folder `.work` below the root. Its owner alone may enter that folder, which
+/// is made where it is missing. It need not last: what is made there is renamed or let go.
+pub fn work_place<R: Files + AllocGlobal>(rt: &R, root: &str, name: &str) -> io::Result<String> {
+    owner_of_work(rt, root)?;
+    Ok(place_in_work(rt.alloc(), root, name)?)
+}
+
+/// A new file at the place, where none is left.
+pub fn create_anew<R: Files>(files: &R, place: &str) -> io::Result<R::File> {
+    remove_file(files, place)?;
+    OpenOptions::new()
+        .write(true)
+        .create_new(true)
+        .open(files, place)
+}
+
+// Refuses a `.work` whose owner is another user, by a new file there.
+fn check_owner<R: Files + AllocGlobal>(rt: &R, root: &str) -> io::Result<()> {
+    let place = work_place(rt, root, "owner")?;
+    let own = create_anew(rt, place.as_str())?.metadata()?.uid();
+    remove_file(rt, place.as_str())?;
+    if owner_of_work(rt, root)? == own {
+        Ok(())
+    } else {
+        Err(refused())
+    }
+}
+
+/// The lock of this name in `.work`, which is held until the file is closed. `WouldBlock` where another program holds
+/// it; each other error is the system's.
+pub fn take_lock<R: Files + AllocGlobal>(rt: &R, root: &str, name: &str) -> io::Result<R::File>
+where
+    R::File: Lock,
+{
+    let place = work_place(rt, root, name)?;
+    let file = OpenOptions::new()
+        .write(true)
+        .create(true)
+        .open(rt, place.as_str())?;
+    file.lock_now()?;
+    check_owner(rt, root)?;
+    Ok(file)
+}
