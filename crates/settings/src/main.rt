@@ -4,7 +4,7 @@
 use outside_real::{RealDisk, RealSink};
 use settings_cmd::run;
 use std::env;
-use std::io::{self, ErrorKind};
+use std::io::{self, ErrorKind, Write};
 use std::process::ExitCode;
 use std::rt::Env;
 
@@ -14,16 +14,24 @@ const OUT_OF_MEMORY: u8 = 1;
 fn main(rt: HostRuntime) -> ExitCode {
     match status_of(&rt) {
         Ok(status) => ExitCode::from(status),
-        Err(_) => ExitCode::from(OUT_OF_MEMORY),
+        Err(_) => {
+            let _ = rt.stdout().write_all(b"settings: memory\n");
+            ExitCode::from(OUT_OF_MEMORY)
+        }
     }
 }
 
+// The status of the command. Where it met the lock of another program, standard error says so.
 fn status_of(rt: &HostRuntime) -> io::Result<u8> {
     let alloc = rt.alloc();
     let words = words_of(rt)?;
     let mut disk = RealDisk::new(rt.clone()?, ".")?;
     let mut out = RealSink::new(rt.stdout());
-    Ok(run(alloc, &words, &mut disk, &mut out))
+    let status = run(alloc, &words, &mut disk, &mut out);
+    if disk.is_locked_out() {
+        let _ = eprintln!(rt; "settings: another program is at work in this folder");
+    }
+    Ok(status)
 }
 
 /// The words after the program's name. Words that aren't UTF-8 name no command, as no words do.

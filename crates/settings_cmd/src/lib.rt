@@ -13,6 +13,3 @@ pub use command::run;
 pub use refusal::Refusal;
 pub use setting::{Setting, is_segment, setting_of};
 pub use store::keep;
-
-#[cfg(test)]
-mod tests;

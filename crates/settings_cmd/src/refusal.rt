@@ -36,9 +36,10 @@ impl From<Failed> for Refusal {
 }
 
 impl From<DiskErr> for Refusal {
-    ghost use Rattle.settings_cmd.specs.Refusal.{GivesRefusal};
+    ghost use Rattle.outside.specs.Faults.{HandsOn};
+    ghost use Rattle.settings_cmd.specs.declared.refusal.Refusal.TheVariants as refused;
 
-    ghost from_gives = { GivesRefusal };
+    ghost from_gives = { HandsOn refused.Disk refused.Memory };
 
     fn from(e: DiskErr) -> Self {
         match e {

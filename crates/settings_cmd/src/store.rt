@@ -1,6 +1,5 @@
 //! A setting is kept on the disk.
-ghost use Rattle.std.specs.Prelude.{◌≡◌, ◌⊎◌, ◌<◌, ◌≤◌, ◌∷◌, ◌++◌, [], List, ℕ, length, true, is_some, string_bytes, IfOk, OnOk, IsErrOf};
-ghost use Rattle.outside.specs.Names.{is_name};
+ghost use Rattle.std.specs.Prelude.{◌≡◌, ◌⊎◌, ◌≤◌, List, ℕ, is_some, string_bytes, IfOk, OnOk, IsErrOf};
 ghost use Rattle.outside.specs.Tree.{node_at};
 ghost use Rattle.outside.specs.History.{tree_of};
 ghost use Rattle.outside.specs.Since.{LeavesOnly};
@@ -11,7 +10,7 @@ ghost use Rattle.settings_cmd.specs.Stored.{store_path, HasStore, IsTreeOrPut, I
 
 use crate::refusal::Refusal;
 use crate::setting::setting_of;
-use outside::{Disk, DiskErr, Failed, Path, PathError};
+use outside::{Disk, DiskErr, Failed, Name, Path};
 use std::alloc::{AllocError, Global};
 
 /// Keeps the setting that the words ask for in a store that isn't there yet, and answers the store's text.
@@ -74,18 +73,8 @@ fn put_one<D: Disk>(disk: &mut D, path: &Path, bytes: &[u8]) -> Result<(), Faile
 fn store_path(alloc: Global) -> Result<Path, AllocError>
     ensures { IfOk result (λ path. path ≡ store_path) }
 {
-    let folder = child_of(&Path::root(alloc), b"store")?;
-    child_of(&folder, b"one")
-}
-
-fn child_of(path: &Path, name: &[u8]) -> Result<Path, AllocError>
-    requires valid { is_name name.now ≡ true }
-    requires room { length path.now < 40 }
-    ensures { IfOk result (λ child. child ≡ path.now ++ name.now ∷ []) }
-{
-    match path.child(name) {
-        Ok(child) => Ok(child),
-        Err(PathError::Memory) => Err(AllocError),
-        Err(PathError::BadName | PathError::TooDeep) => unreachable!(),
-    }
+    let mut path = Path::root(alloc);
+    path.push_name(Name::of(b"store".to_vec(alloc)?))?;
+    path.push_name(Name::of(b"one".to_vec(alloc)?))?;
+    Ok(path)
 }

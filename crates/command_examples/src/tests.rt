@@ -1,5 +1,5 @@
-use super::*;
 use disk_memory::{MemoryDisk, MemorySink};
+use settings_cmd::run;
 use std::alloc::{AllocError, Global};
 use std::test::Fail;
 

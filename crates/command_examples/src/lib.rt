@@ -1,0 +1,5 @@
+//! Tests of the commands of the program `settings`, over devices in memory: what they print, and how they end where a device fails.
+#![tactic(auto)]
+
+#[cfg(test)]
+mod tests;
