@@ -1,5 +1,10 @@
-//! Tests of whole templates: of services as an image has them, read and rendered, and cut short at every byte.
+//! Tests of templates: what sources are read to and how they are refused, what templates render to and
+//! how they refuse, and whole templates of services, cut short at every byte too.
 #![tactic(auto)]
 
 #[cfg(test)]
-mod tests;
+mod reading;
+#[cfg(test)]
+mod rendering;
+#[cfg(test)]
+mod services;

@@ -33,46 +33,38 @@ fn no_names(alloc: Global) -> Os {
     }
 }
 
-// The template renders to these bytes over the content.
-fn renders(
+// Each template renders to the bytes beside it over a content with this value, or with none.
+fn each_renders(
     rt: &impl Abort,
     alloc: Global,
-    source: &str,
-    content: &Content,
-    bytes: &str,
+    rows: &[(&str, Option<(&str, &str)>, &str)],
 ) -> Result<(), Fail> {
-    let source = source.as_bytes();
-    let template = read(alloc, source)?;
     let os = no_names(alloc);
-    let rendered = render(alloc, &template, source, content, &os)?;
-    assert_eq!(rt; rendered.as_slice(), bytes.as_bytes());
+    for (source, setting, want) in rows {
+        let content = content_of(alloc, *setting)?;
+        let template = read(alloc, source.as_bytes())?;
+        let rendered = render(alloc, &template, source.as_bytes(), &content, &os)?;
+        assert_eq!(rt; rendered.as_slice(), want.as_bytes(), "at {source:?}");
+    }
     Ok(())
 }
 
 #[test]
-fn writes_a_line_for_each_server(rt: HostRuntime) -> Result<(), Fail> {
-    let servers = ("settings.ntp.time-servers", r#"["a.example","b.example"]"#);
-    let content = content_of(rt.alloc(), Some(servers))?;
-    renders(
-        &rt,
-        rt.alloc(),
-        CHRONY,
-        &content,
-        "pool a.example iburst\npool b.example iburst\ndriftfile /var/lib/chrony/drift\n",
-    )
-}
-
-#[test]
-fn writes_a_line_for_each_kernel_setting(rt: HostRuntime) -> Result<(), Fail> {
-    let forward = (r#"settings.kernel.sysctl."net.ipv4.ip_forward""#, r#""1""#);
-    let content = content_of(rt.alloc(), Some(forward))?;
-    renders(&rt, rt.alloc(), SYSCTL, &content, "net.ipv4.ip_forward=1\n")
-}
-
-#[test]
-fn writes_nothing_without_kernel_settings(rt: HostRuntime) -> Result<(), Fail> {
-    let content = content_of(rt.alloc(), None)?;
-    renders(&rt, rt.alloc(), SYSCTL, &content, "")
+fn renders_services(rt: HostRuntime) -> Result<(), Fail> {
+    let rows: &[(&str, Option<(&str, &str)>, &str)] = &[
+        (
+            CHRONY,
+            Some(("settings.ntp.time-servers", r#"["a.example","b.example"]"#)),
+            "pool a.example iburst\npool b.example iburst\ndriftfile /var/lib/chrony/drift\n",
+        ),
+        (
+            SYSCTL,
+            Some((r#"settings.kernel.sysctl."net.ipv4.ip_forward""#, r#""1""#)),
+            "net.ipv4.ip_forward=1\n",
+        ),
+        (SYSCTL, None, ""),
+    ];
+    each_renders(&rt, rt.alloc(), rows)
 }
 
 // The first bytes of the template, so many, are refused where they end within its tags and blocks,

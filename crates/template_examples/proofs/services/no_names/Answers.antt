@@ -2,7 +2,7 @@ use Rattle.std.proofs.Common.{List, [], sym, subst, map}
 use Rattle.std.specs.List.Sorted.{IsStrictlySortedBy}
 use Rattle.key_names.specs.Order.{bytes_cmp}
 use Rattle.settings_tree.specs.declared.os.OsName.{OsName}
-use Rattle.template_examples.proofs.tests.no_names.Goals as goal
+use Rattle.template_examples.proofs.services.no_names.Goals as goal
 
 -- No names rise.
 none : IsStrictlySortedBy bytes_cmp (map (λ (m : OsName). m.name) [])

@@ -1,0 +1,125 @@
+//! What a migration makes of what is held, each way.
+use held_text::HeldText;
+use key_names::{Key, Text};
+use migrate_helpers::{MapError, Mapping, Migration};
+use settings_tree::Held;
+use std::alloc::{AllocError, Global};
+use std::test::Fail;
+
+/// What is held, and what the ways forward and back make of it: members of a held text with spaces between
+/// them, where a member that holds nothing is left out; or a conflict and its key; or the same.
+pub type Row = (&'static str, &'static str, &'static str);
+
+/// What is held stays.
+pub const SAME: &str = "same";
+
+// The value of the member: an empty list, where it is left out.
+fn value_of<'a>(members: &'a str, member: &str) -> &'a str {
+    match members.split_once(member) {
+        Some((_, rest)) => match rest.split_once(' ') {
+            Some((value, _)) => value,
+            None => rest,
+        },
+        None => "[]",
+    }
+}
+
+// The held text of the members, beside an image.
+fn held_text(alloc: Global, members: &str) -> Result<String, AllocError> {
+    let live = value_of(members, "\"live\":");
+    let meta = value_of(members, "\"meta\":");
+    let owed = value_of(members, "\"owed\":");
+    let pending = value_of(members, "\"pending\":");
+    let weak = value_of(members, "\"weak\":");
+    format!(in alloc;
+        "{{\"image\":\"aGVsbG8=\",\"live\":{live},\"meta\":{meta},\"owed\":{owed},\"pending\":{pending},\"weak\":{weak}}}"
+    )
+}
+
+fn held(alloc: Global, members: &str) -> Result<Held, Fail> {
+    let text = held_text(alloc, members)?;
+    Ok(Held::read(alloc, text.as_bytes())?)
+}
+
+fn conflict(alloc: Global, key: &Key) -> Result<String, AllocError> {
+    let key = key.print()?;
+    let key = key.as_str();
+    format!(in alloc; "conflict {key}")
+}
+
+// What a way made, as a text.
+fn shown(alloc: Global, made: Result<Held, MapError>) -> Result<Text, Fail> {
+    match made {
+        Ok(held) => Ok(held.print()?),
+        Err(MapError::Conflict { key }) => Ok(Text::of(conflict(alloc, &key)?)),
+        Err(MapError::Memory) => Err(Fail::new("memory")),
+    }
+}
+
+fn forward(alloc: Global, migration: &Migration, members: &str) -> Result<Text, Fail> {
+    let held = held(alloc, members)?;
+    shown(alloc, migration.forward(&held))
+}
+
+fn copy_backward(migration: &Migration, held: &Held) -> Result<Held, MapError> {
+    let copy = migration.copy()?;
+    copy.backward(held)
+}
+
+// By a copy, which does the same.
+fn backward(alloc: Global, migration: &Migration, members: &str) -> Result<Text, Fail> {
+    let held = held(alloc, members)?;
+    shown(alloc, copy_backward(migration, &held))
+}
+
+// What is wanted of a way, as a text.
+fn wanted(alloc: Global, members: &str, made: &str) -> Result<String, AllocError> {
+    if made == SAME {
+        held_text(alloc, members)
+    } else if made.starts_with("conflict") {
+        String::from_str(alloc, made)
+    } else {
+        held_text(alloc, made)
+    }
+}
+
+fn same(shown: &str, wanted: &str) -> Result<(), Fail> {
+    if shown == wanted {
+        return Ok(());
+    }
+    Err(Fail::new(format_args!("made {shown}, not {wanted}")))
+}
+
+fn agree(shown: Result<Text, Fail>, wanted: Result<String, AllocError>) -> Result<(), Fail> {
+    let shown = shown?;
+    same(shown.as_str(), wanted?.as_str())
+}
+
+fn goes_there(alloc: Global, migration: &Migration, row: &Row) -> Result<(), Fail> {
+    let (members, there, _) = *row;
+    agree(
+        forward(alloc, migration, members),
+        wanted(alloc, members, there),
+    )
+}
+
+fn goes_back(alloc: Global, migration: &Migration, row: &Row) -> Result<(), Fail> {
+    let (members, _, back) = *row;
+    agree(
+        backward(alloc, migration, members),
+        wanted(alloc, members, back),
+    )
+}
+
+fn goes(alloc: Global, migration: &Migration, rows: &[Row]) -> Result<(), Fail> {
+    for row in rows {
+        goes_there(alloc, migration, row)?;
+        goes_back(alloc, migration, row)?;
+    }
+    Ok(())
+}
+
+/// The migration makes what stands in the rows.
+pub fn makes(alloc: Global, migration: Result<Migration, Fail>, rows: &[Row]) -> Result<(), Fail> {
+    goes(alloc, &migration?, rows)
+}

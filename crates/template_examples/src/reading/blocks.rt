@@ -1,0 +1,92 @@
+//! Blocks, one within the other.
+use crate::reading::shown::{agree, shown};
+use std::alloc::{AllocError, Global};
+use std::test::Fail;
+
+const CHRONY: &str =
+    "[required-extensions]\nstd = \"v1\"\n+++\n{{#each settings.ntp.time-servers}}\npool {{this}} iburst\n{{/each}}\ndriftfile /var/lib/chrony/drift\n";
+
+const SYSCTL: &str =
+    "{{#if settings.kernel.sysctl}}\n{{#each settings.kernel.sysctl}}\n{{@key}}={{this}}\n{{/each}}\n{{/if}}\n";
+
+#[test]
+fn nests_blocks(rt: HostRuntime) -> Result<(), Fail> {
+    let rows: &[(&str, &str)] = &[
+        (
+            CHRONY,
+            "each settings.ntp.time-servers['pool '<@this>' iburst\n'|]'driftfile /var/lib/chrony/drift\n'",
+        ),
+        (
+            SYSCTL,
+            "if settings.kernel.sysctl[each settings.kernel.sysctl[<@key>'='<@this>'\n'|]|]",
+        ),
+        ("{{#if a}}x{{else}}y{{/if}}", "if a['x'|'y']"),
+        ("{{#unless a}}x{{/unless}}", "unless a['x'|]"),
+        ("{{# if a }}x{{/ if }}", "if a['x'|]"),
+        ("{{#if a}}{{/if}}{{#if b}}{{/if}}", "if a[|]if b[|]"),
+        (
+            "{{#each a}}{{@index}}{{@key}}{{this.x}}{{this.\"y z\"}}{{else}}n{{/each}}",
+            "each a[<@index><@key><@this.x><@this.\"y z\">|'n']",
+        ),
+        (
+            "{{#each a}}{{#if this}}{{this}}{{/if}}{{/each}}",
+            "each a[if @this[<@this>|]|]",
+        ),
+        (
+            "{{#each a}}{{#each this}}{{else}}{{this}}{{/each}}{{/each}}",
+            "each a[each @this[|<@this>]|]",
+        ),
+        (
+            "{{#if a}}{{else}}{{#if b}}{{else}}x{{/if}}{{/if}}",
+            "if a[|if b[|'x']]",
+        ),
+    ];
+    agree(&rt, rt.alloc(), rows)
+}
+
+// What the first bytes of `{{#if a}}x{{/if}}` are read to, so many of them.
+fn prefix_read(length: usize) -> &'static str {
+    match length {
+        0 => "",
+        1 => "'{'",
+        2..=8 => "Unclosed 0",
+        9..=11 => "NeverClosed 0",
+        12..=16 => "Unclosed 10",
+        _ => "if a['x'|]",
+    }
+}
+
+#[test]
+fn reads_each_prefix(rt: HostRuntime) -> Result<(), Fail> {
+    let source = b"{{#if a}}x{{/if}}";
+    for length in 0..=source.len() {
+        let read = shown(rt.alloc(), source.split_at(length).0)?;
+        assert_eq!(rt; read.as_str(), prefix_read(length));
+    }
+    Ok(())
+}
+
+// So many blocks, one within the other, with this tag in the innermost.
+fn nested(alloc: Global, count: usize, within: &str) -> Result<String, AllocError> {
+    let mut text = String::new(alloc);
+    for _ in 0..count {
+        text.push_str("{{#if a}}")?;
+    }
+    text.push_str(within)?;
+    for _ in 0..count {
+        text.push_str("{{/if}}")?;
+    }
+    Ok(text)
+}
+
+#[test]
+fn keeps_the_limit(rt: HostRuntime) -> Result<(), Fail> {
+    let alloc = rt.alloc();
+    let full = nested(alloc, 32, "{{a}}")?;
+    assert!(rt; shown(alloc, full.as_bytes())?.as_str().starts_with("if a["));
+    let deep = nested(alloc, 33, "")?;
+    assert_eq!(rt; shown(alloc, deep.as_bytes())?.as_str(), "TooDeep 288");
+    let outside = nested(alloc, 32, "{{#if this}}")?;
+    assert_eq!(rt; shown(alloc, outside.as_bytes())?.as_str(), "NotInEach 288");
+    Ok(())
+}
