@@ -1,9 +1,11 @@
 # The two commands of the set-up: `make first-run` and `make test`.
 
 # Builds the program, which `rt run` does only once all of it is proved, and makes the first run in a folder of its own.
-# Without words the program is refused (status 20) and touches nothing, so the build asks only that it is there.
+# An earlier build goes first, so what runs is what was proved now. The run without words is refused (status 20) and
+# touches nothing; whether the build went well shows in the program that it leaves.
 first-run:
-	cd crates/settings && { rt run || test -x out/settings; } > /dev/null
+	rm -f crates/settings/out/settings
+	cd crates/settings && { rt run > /dev/null || test -x out/settings; }
 	rm -rf out/first-run && mkdir -p out/first-run
 	cd out/first-run && ../../crates/settings/out/settings set 'settings.motd="hi"'
 
