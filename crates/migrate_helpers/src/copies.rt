@@ -4,16 +4,6 @@ ghost use Rattle.std.specs.Prelude.{◌≡◌, IfOk};
 use key_names::{Key, Text};
 use std::alloc::{AllocError, Global};
 
-pub(crate) fn copied_keys(alloc: Global, keys: &[Key]) -> Result<Vec<Key>, AllocError>
-    ensures { IfOk result (λ copies. copies.items ≡ keys.now) }
-{
-    let mut copies = Vec::new(alloc);
-    for key in keys {
-        copies.push(key.copy()?)?;
-    }
-    Ok(copies)
-}
-
 pub(crate) fn copied_pairs(
     alloc: Global,
     pairs: &[(Key, Key)],

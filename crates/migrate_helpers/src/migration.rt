@@ -3,10 +3,11 @@ ghost use Rattle.std.specs.Prelude.{◌≡◌, IfOk};
 ghost use Rattle.migrate_helpers.specs.Borrowed.{step};
 ghost use Rattle.migrate_helpers.specs.Step.{backward_step, forward_step};
 
-use crate::copies::{copied_keys, copied_pairs, copied_texts};
+use crate::copies::{copied_pairs, copied_texts};
 use crate::step::{Edit, Step};
 use json_trees::Scalar;
 use key_names::{Key, Text};
+use settings_maps::copy_keys;
 use std::alloc::AllocError;
 
 /// A migration. Migrations of settings act on the live settings and on each pending map, where a
@@ -120,13 +121,13 @@ impl Migration {
     {
         Ok(match self {
             Migration::AddSettings { settings } => Migration::AddSettings {
-                settings: copied_keys(*settings.allocator(), settings)?,
+                settings: copy_keys(*settings.allocator(), settings)?,
             },
             Migration::AddPrefixes { prefixes } => Migration::AddPrefixes {
-                prefixes: copied_keys(*prefixes.allocator(), prefixes)?,
+                prefixes: copy_keys(*prefixes.allocator(), prefixes)?,
             },
             Migration::RemoveSettings { settings } => Migration::RemoveSettings {
-                settings: copied_keys(*settings.allocator(), settings)?,
+                settings: copy_keys(*settings.allocator(), settings)?,
             },
             Migration::ReplaceString { setting, old, new } => Migration::ReplaceString {
                 setting: setting.copy()?,

@@ -28,6 +28,6 @@ one_model text one other table table' is too =
     let own : IsModelOf too.document one = subst (λ (d : Members). IsModelOf d one) document is.model_is in
     record {
       types = one_table (row_texts too.document) one.types other.types table table' own.types too.model_is.types;
-      os = same_names one.os.names.items other.os.names.items (own.os ∙ sym too.model_is.os);
+      os = same_names one.os other.os (own.os ∙ sym too.model_is.os);
       content = own.content ∙ sym too.model_is.content;
     }

@@ -20,7 +20,7 @@ use Rattle.model_file.specs.declared.model_error.ModelKind.TheVariants.{NotToml}
 -- The model has the table of the document's rows, its names of the operating system, and its values and metadata.
 pub record IsModelOf (document : Members) (model : Model) : Type 0 where
   pub types : IsTableOf (row_texts document) model.types
-  pub os : map (λ n. (n.name, n.text)) model.os.names.items ≡ os_names document
+  pub os : map (λ n. (n.name, n.text)) model.os ≡ os_names document
   pub content : model.content ≡ contents_of document
 
 -- The text is a document for which all checks hold, and this is its model.
@@ -57,7 +57,7 @@ AreTyped table values = (key : Path) (value : Scalar) → get values key ≡ Som
 -- Both models have the same types, names of the operating system, values and metadata.
 pub record AreSame (one other : Model) : Type 0 where
   pub types : one.types ≡ other.types
-  pub os : one.os.names.items ≡ other.os.names.items
+  pub os : one.os ≡ other.os
   pub content : one.content ≡ other.content
 
 -- A text spells one model at most.

@@ -24,14 +24,12 @@ use toml::{Table, Value};
 pub fn os_of(alloc: Global, document: &Table) -> Result<Os, Refusal>
     ensures passes { (rows : RowTexts) → OnOk result (Passes rows (os_checks (table_view document.now))) }
     ensures names { IfOk result
-        (λ os. map (λ n. (n.name, n.text)) os.names.items ≡ os_names (table_view document.now)) }
+        (λ os. map (λ n. (n.name, n.text)) os ≡ os_names (table_view document.now)) }
     ensures refused { (rows : RowTexts) → IfErr result (Refuses rows (os_checks (table_view document.now))) }
 {
     match section(alloc, document, "os")? {
         Some(table) => names_of(alloc, table),
-        None => Ok(Os {
-            names: Vec::new(alloc),
-        }),
+        None => Ok(Os::of(Vec::new(alloc))),
     }
 }
 
@@ -47,7 +45,7 @@ fn names_of(alloc: Global, table: &Table) -> Result<Os, Refusal>
     ensures passes { (rows : RowTexts)
         → OnOk result (Passes rows (map os_check (named (table_view table.now)))) }
     ensures names { IfOk result
-        (λ os. map (λ n. (n.name, n.text)) os.names.items ≡ os_texts (named (table_view table.now))) }
+        (λ os. map (λ n. (n.name, n.text)) os ≡ os_texts (named (table_view table.now))) }
     ensures refused { (rows : RowTexts)
         → IfErr result (Refuses rows (map os_check (named (table_view table.now)))) }
 {
@@ -55,7 +53,7 @@ fn names_of(alloc: Global, table: &Table) -> Result<Os, Refusal>
     for (name, value) in table.iter() {
         names.push(name_of(alloc, name, value)?)?;
     }
-    Ok(Os { names })
+    Ok(Os::of(names))
 }
 
 fn name_of(alloc: Global, name: &str, value: &Value) -> Result<OsName, Refusal>

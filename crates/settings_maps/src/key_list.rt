@@ -25,7 +25,8 @@ impl Model for KeyList {
     ghost invariant = { λ l. IsRising l.keys.items };
 }
 
-fn copy_keys(alloc: Global, keys: &[Key]) -> Result<Vec<Key>, AllocError>
+/// Copies of the keys, in their order. It costs the keys' length.
+pub fn copy_keys(alloc: Global, keys: &[Key]) -> Result<Vec<Key>, AllocError>
     ensures { IfOk result (λ copies. copies.items ≡ keys.now) }
 {
     let mut copies = Vec::new(alloc);

@@ -13,7 +13,7 @@ mod transactions;
 mod tree_maps;
 mod tx_name;
 
-pub use key_list::KeyList;
+pub use key_list::{KeyList, copy_keys};
 pub use key_map::KeyMap;
 pub use meta_name::is_meta_name;
 pub use metadata::Metadata;

@@ -1,4 +1,5 @@
--- Rooms: placeholders that are made before a change is laid, so that laying it takes no memory.
+-- For the private calls of `parts` alone, which lay a change in two passes; no public clause speaks of it. A room is a placeholder that the first pass
+-- makes where an entry needs memory, so that the second takes none; what is laid is `Laid`.
 use Rattle.std.specs.Prelude.{Bool, true, false, not, ◌&&◌, List, [], ◌∷◌, is_some, fold, if◌then◌else◌}
 use Rattle.std.specs.FinMap.{get, insert, remove}
 use Rattle.json_trees.specs.declared.scalar.Scalar.TheVariants.{Bool as Truth}

@@ -5,7 +5,7 @@ use Rattle.std.specs.Fmt.{digits}
 use Rattle.key_names.specs.Key.{printed}
 use Rattle.json_trees.specs.declared.item.Item.TheVariants as value
 use Rattle.settings_tree.specs.Content.{Contents}
-use Rattle.settings_tree.specs.declared.os.Os.{Os}
+use Rattle.settings_tree.specs.declared.os.OsName.{OsName}
 use Rattle.template_reader.specs.Tree.{Tree, done, node, text, print}
 use Rattle.template_reader.specs.declared.expr.Expr.TheVariants.{Plain}
 use Rattle.template_reader.specs.declared.walk.Walk.TheVariants.{Root, This, AtKey, AtIndex}
@@ -24,7 +24,7 @@ servers = items (value.Text (codes "a") ∷ value.Text (codes "b") ∷ [])
 abbrev motd : List (List ℕ)
 motd = codes "settings" ∷ codes "motd" ∷ []
 
-module _ (content : Contents) (os : Os) where
+module _ (content : Contents) (os : List OsName) where
   -- The source and the tree of `pool {{this}} iburst` and a line feed.
   abbrev source : List ℕ
   source = codes "pool {{this}} iburst\n"

@@ -10,7 +10,6 @@ use Rattle.json_trees.specs.declared.item.Item.TheVariants as value
 use Rattle.json_trees.specs.declared.scalar.Scalar.{Scalar}
 use Rattle.json_trees.specs.declared.scalar.Scalar.TheVariants.{Bool as Truth, Int, Text, List as Listed}
 use Rattle.settings_tree.specs.Content.{Contents}
-use Rattle.settings_tree.specs.declared.os.Os.{Os}
 use Rattle.settings_tree.specs.declared.os.OsName.{OsName}
 use Rattle.template_eval.specs.Place.{Path, Place, nowhere, in_tree, system, item}
 use Rattle.template_eval.specs.Place as place
@@ -43,9 +42,9 @@ text_node None = missing
 text_node (Some s) = scalar (value.Text s.text)
 
 -- What stands below `os`.
-abbrev pub os_node : Os → Path → Node
-os_node os [] = children (map system os.names.items)
-os_node os (name ∷ []) = text_node (find (λ s. bytes_eq s.name name) os.names.items)
+abbrev pub os_node : List OsName → Path → Node
+os_node os [] = children (map system os)
+os_node os (name ∷ []) = text_node (find (λ s. bytes_eq s.name name) os)
 os_node os (name ∷ next ∷ more) = missing
 
 -- The path of the operating system.
@@ -53,12 +52,12 @@ abbrev pub os_path : Path
 os_path = codes "os" ∷ []
 
 -- What stands at a path of the tree.
-abbrev pub tree_node : Contents → Os → Path → Node
+abbrev pub tree_node : Contents → List OsName → Path → Node
 tree_node content os path =
     if is_prefix os_path path then os_node os (drop 1 path) else value_node (get content.values path) (children_below content.values path)
 
 -- What stands at a place.
-abbrev pub node : Contents → Os → Place → Node
+abbrev pub node : Contents → List OsName → Place → Node
 node content os nowhere = missing
 node content os (in_tree path) = tree_node content os path
 node content os (system s) = scalar (value.Text s.text)

@@ -7,9 +7,9 @@ use Rattle.base64.specs.declared.decode.DecodeError.{DecodeError}
 use Rattle.json_trees.specs.declared.item.Item.{Item}
 use Rattle.json_trees.specs.declared.item.Item.TheVariants as value
 use Rattle.settings_tree.specs.Content.{Contents}
-use Rattle.settings_tree.specs.declared.os.Os.{Os}
+use Rattle.settings_tree.specs.declared.os.OsName.{OsName}
 use Rattle.template_reader.specs.Bytes.{part}
-use Rattle.template_reader.specs.Tree.{Tree, Branch, done, node, text, print, block, test, each}
+use Rattle.template_reader.specs.Tree.{Tree, Branch, walk_of, done, node, text, print, block, test, each}
 use Rattle.template_reader.specs.declared.expr.Expr.{Expr}
 use Rattle.template_reader.specs.declared.expr.Expr.TheVariants.{Plain, Default, Decode, JoinArray, JoinMap}
 use Rattle.template_reader.specs.declared.walk.Walk.{Walk}
@@ -68,7 +68,7 @@ name_of (place.item i) = []
 name_of (place.label name) = []
 
 -- A child of `join_map`: its name, the joiner and its text.
-abbrev pub child_pair : Contents → Os → List ℕ → Walk → Place → Rendered
+abbrev pub child_pair : Contents → List OsName → List ℕ → Walk → Place → Rendered
 child_pair content os joiner path p = onto (name_of p ++ joiner) (node_text (child_text path (name_of p)) (nodes.node content os p))
 
 -- `join_map` where nothing stands.
@@ -82,19 +82,11 @@ join_map_text pair separator fail path (children places) = joined separator (map
 join_map_text pair separator fail path n = Err (NotList path)
 
 -- What stands where a path leads.
-abbrev pub node_at : Contents → Os → Option Here → Walk → Node
+abbrev pub node_at : Contents → List OsName → Option Here → Walk → Node
 node_at content os here path = nodes.node content os (place_at here path)
 
--- The path of an expression.
-abbrev pub path_of : Expr → Walk
-path_of (Plain path) = path
-path_of (Default literal path) = path
-path_of (Decode path) = path
-path_of (JoinArray joiner path) = path
-path_of (JoinMap joiner separator fail path) = path
-
 -- What an expression prints of what stands where its path leads.
-abbrev pub print_text : Contents → Os → Expr → Node → Rendered
+abbrev pub print_text : Contents → List OsName → Expr → Node → Rendered
 print_text content os (Plain path) n = node_text (path_text path) n
 print_text content os (Default literal path) n = default_text (literal_text literal) (path_text path) n
 print_text content os (Decode path) n = decode_text (path_text path) n
@@ -102,8 +94,8 @@ print_text content os (JoinArray joiner path) n = join_array_text joiner (path_t
 print_text content os (JoinMap joiner separator fail path) n = join_map_text (child_pair content os joiner path) separator fail (path_text path) n
 
 -- What an expression prints.
-abbrev pub expr_text : Contents → Os → Option Here → Expr → Rendered
-expr_text content os here e = print_text content os e (node_at content os here (path_of e))
+abbrev pub expr_text : Contents → List OsName → Option Here → Expr → Rendered
+expr_text content os here e = print_text content os e (node_at content os here (walk_of e))
 
 -- Once for each of these, which have the indices from n on.
 abbrev pub for_each : (Here → Rendered) → ℕ → List Place → Rendered
@@ -129,11 +121,11 @@ is_first unless truth = if unless then not truth else truth
 
 -- What nodes render to, one after another, behind the item or the child of the innermost each.
 abbrev mutual
-  pub render : Contents → Os → List ℕ → Tree → Option Here → Rendered
+  pub render : Contents → List OsName → List ℕ → Tree → Option Here → Rendered
   render content os source done here = Ok []
   render content os source (node b t) here = both (render_one content os source b here) (render content os source t here)
 
-  pub render_one : Contents → Os → List ℕ → Branch → Option Here → Rendered
+  pub render_one : Contents → List OsName → List ℕ → Branch → Option Here → Rendered
   render_one content os source (text s) here = Ok (part s.start s.end source)
   render_one content os source (print e) here = expr_text content os here e
   render_one content os source (block (test unless path) first other) here =

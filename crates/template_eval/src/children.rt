@@ -5,8 +5,8 @@ ghost use Rattle.template_eval.specs.Node.{os_path};
 
 use key_names::Key;
 
-/// The children of a key of the values that those past another key give: the other is the parent
-/// itself, or begins with it. The parent doesn't begin with `os`.
+/// The children of a key that the values past another give: the other is the parent itself, or
+/// begins with it. The parent doesn't begin with `os`, below which no values are seen.
 #[derive(Clone, Copy, Drop)]
 pub struct Children<'a> {
     pub parent: &'a Key,

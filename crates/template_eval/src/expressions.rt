@@ -3,7 +3,7 @@ ghost use Rattle.std.specs.Prelude.{◌≡◌, ◌≢◌, IfErr, OnOk, Err};
 ghost use Rattle.base64.specs.Engines.{standard};
 ghost use Rattle.base64.specs.GeneralPurpose.{decode_of};
 ghost use Rattle.template_eval.specs.Written.{path_text, literal_text};
-ghost use Rattle.template_eval.specs.Render.{node_text, default_text, decoded, decode_text, join_array_text, join_map_text, path_of};
+ghost use Rattle.template_eval.specs.Render.{node_text, default_text, decoded, decode_text, join_array_text, join_map_text};
 ghost use Rattle.template_eval.specs.Kept.{KeepsHere};
 ghost use Rattle.template_eval.specs.Steps.{Adds};
 ghost use Rattle.template_eval.specs.Views.{atom_node, node_in, seen, pair_of, printing, expression};
@@ -201,18 +201,6 @@ fn push_map(
     }
 }
 
-fn path_of(expr: &Expr) -> &Walk
-    ensures { result.now ≡ path_of expr.now }
-{
-    match expr {
-        Expr::Plain { path } => path,
-        Expr::Default { path, .. } => path,
-        Expr::Decode { path } => path,
-        Expr::JoinArray { path, .. } => path,
-        Expr::JoinMap { path, .. } => path,
-    }
-}
-
 // Adds what the expression prints of what stands where its path leads.
 fn push_print(
     inputs: &Inputs<'_>,
@@ -259,6 +247,6 @@ pub fn push_expr(
     ensures err { IfErr result (λ e. e ≢ RenderError.Memory
         → expression inputs.now (seen here.entry) expr.now ≡ Err e) }
 {
-    let place = place_at(here, path_of(expr))?;
+    let place = place_at(here, expr.path())?;
     push_print(inputs, expr, node(inputs.content, inputs.os, &place), out)
 }

@@ -63,9 +63,11 @@ fn value_node<'a>(content: &'a Content, key: &'a Key) -> Node<'a>
 
 // The name of the operating system, if it is one.
 fn find_name<'a>(os: &'a Os, name: &[u8]) -> Option<&'a OsName>
-    ensures { option_copied result ≡ find (λ s. bytes_eq s.name name.now) os.now.names.items }
+    ensures { option_copied result ≡ find (λ s. bytes_eq s.name name.now) os.now }
 {
-    os.names.iter().find(|s| s.name.as_str().as_bytes() == name)
+    os.names()
+        .iter()
+        .find(|s| s.name.as_str().as_bytes() == name)
 }
 
 // The text of a name of the operating system.
@@ -83,7 +85,7 @@ fn os_node<'a>(os: &'a Os, key: &Key) -> Node<'a>
     ensures { (content : Contents) → node_of content result ≡ os_node os.now (drop 1 key.now) }
 {
     match key.len() {
-        1 => Node::Children(Places::System(&os.names)),
+        1 => Node::Children(Places::System(os.names())),
         2 => named(os, key.segment(1)),
         _ => Node::Missing,
     }

@@ -31,7 +31,8 @@ pub struct Split<'a> {
     pub rest: Places<'a>,
 }
 
-// The child of the parent that the key is, with its value, or that the key is below.
+// The child of the parent that the key of this value is, which then keeps the value, or that the key
+// is below.
 fn child_at<'a>(parent: &Key, key: &'a Key, scalar: &'a Scalar) -> Result<Place<'a>, AllocError>
     requires begins { IsTrue (is_prefix parent.now key.now) }
     requires longer { length parent.now < length key.now }

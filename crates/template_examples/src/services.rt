@@ -28,9 +28,7 @@ fn content_of(alloc: Global, setting: Option<(&str, &str)>) -> Result<Content, F
 
 // An operating system without names.
 fn no_names(alloc: Global) -> Os {
-    Os {
-        names: Vec::new(alloc),
-    }
+    Os::of(Vec::new(alloc))
 }
 
 // Each template renders to the bytes beside it over a content with this value, or with none.

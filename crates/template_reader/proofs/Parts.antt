@@ -6,7 +6,8 @@ use Rattle.std.proofs.lemmas.List.{append-nil, length-drop}
 use Rattle.std.proofs.Math.Bool.{and-true, and-false}
 use Rattle.std.proofs.lemmas.Bool.Decides.{nat_tests}
 use Rattle.template_reader.specs.Spot.{Block, after_form}
-use Rattle.template_reader.specs.Fault.{form_fault, at as said_at, is_in_each, is_outside, is_root, walk_of, same_name}
+use Rattle.template_reader.specs.Fault.{form_fault, at as said_at, is_in_each, is_outside, is_root, same_name}
+use Rattle.template_reader.specs.Tree.{walk_of}
 use Rattle.template_reader.specs.Tree.{Tree, Branch, done, node, joined, Head}
 use Rattle.template_reader.specs.Tree as trees
 use Rattle.template_reader.specs.Taken.{Item, text_item, form_item, tag_takes_before, tag_takes_after}

@@ -12,20 +12,12 @@ use Rattle.template_reader.specs.Spot.{Block, Spot, spots, blocks_after}
 use Rattle.template_reader.specs.declared.walk.Walk.{Walk}
 use Rattle.template_reader.specs.declared.walk.Walk.TheVariants.{Root, This, AtKey, AtIndex}
 use Rattle.template_reader.specs.declared.expr.Expr.{Expr}
-use Rattle.template_reader.specs.declared.expr.Expr.TheVariants.{Plain, Default, Decode, JoinArray, JoinMap}
+use Rattle.template_reader.specs.Tree.{walk_of}
 use Rattle.template_reader.specs.declared.tag.Name.{Name}
 use Rattle.template_reader.specs.declared.tag.Name.TheVariants as name
 use Rattle.template_reader.specs.declared.template_error.TemplateKind.{TemplateKind}
 use Rattle.template_reader.specs.declared.template_error.TemplateKind.TheVariants.{Escape, Unclosed, BadTag, NotBegun, TwoElse, NotInEach, TooDeep, NeverClosed}
 use Rattle.template_reader.specs.declared.template_error.TemplateError.{TemplateError}
-
--- The path of an expression.
-abbrev pub walk_of : Expr → Walk
-walk_of (Plain w) = w
-walk_of (Default l w) = w
-walk_of (Decode w) = w
-walk_of (JoinArray j w) = w
-walk_of (JoinMap j s f w) = w
 
 -- The path begins at the root.
 abbrev pub is_root : Walk → Bool

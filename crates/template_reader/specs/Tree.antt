@@ -2,7 +2,16 @@
 use Rattle.std.specs.Prelude.{Bool, List, [], ◌∷◌}
 use Rattle.template_reader.specs.declared.walk.Walk.{Walk}
 use Rattle.template_reader.specs.declared.expr.Expr.{Expr}
+use Rattle.template_reader.specs.declared.expr.Expr.TheVariants.{Plain, Default, Decode, JoinArray, JoinMap}
 use Rattle.template_reader.specs.declared.span.Span.{Span}
+
+-- The path of an expression.
+abbrev pub walk_of : Expr → Walk
+walk_of (Plain w) = w
+walk_of (Default l w) = w
+walk_of (Decode w) = w
+walk_of (JoinArray j w) = w
+walk_of (JoinMap j s f w) = w
 
 -- What a block begins with: if or unless and its path, or each and its path.
 pub data Head : Type 0 where

@@ -1,6 +1,6 @@
 //! Blocks, and the nodes that are made of them.
 ghost use Rattle.std.specs.Prelude.{◌≡◌, ◌||◌, ◌+◌, ◌<◌, ◌≤◌, ◌^◌, OnOk};
-ghost use Rattle.template_reader.specs.Fault.{same_name, is_root, walk_of};
+ghost use Rattle.template_reader.specs.Fault.{same_name, is_root};
 ghost use Rattle.template_reader.specs.Tree.{done, joined, node, print, block};
 ghost use Rattle.template_reader.specs.Forest.{tree_of, tree_in, branch_of};
 ghost use Rattle.template_reader.specs.Reading.{head, text_tree};
@@ -44,19 +44,6 @@ fn is_root(path: &Walk) -> bool
         Walk::This(_) => false,
         Walk::AtKey => false,
         Walk::AtIndex => false,
-    }
-}
-
-/// The path of the expression.
-pub fn path_of(expr: &Expr) -> &Walk
-    ensures { result.now ≡ walk_of expr.now }
-{
-    match expr {
-        Expr::Plain { path } => path,
-        Expr::Default { path, .. } => path,
-        Expr::Decode { path } => path,
-        Expr::JoinArray { path, .. } => path,
-        Expr::JoinMap { path, .. } => path,
     }
 }
 

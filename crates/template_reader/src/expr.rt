@@ -1,4 +1,7 @@
 //! What a tag prints.
+ghost use Rattle.std.specs.Prelude.{◌≡◌};
+ghost use Rattle.template_reader.specs.Tree.{walk_of};
+
 use crate::Walk;
 use key_names::Text;
 
@@ -42,4 +45,19 @@ pub enum Expr {
         fail: bool,
         path: Walk,
     },
+}
+
+impl Expr {
+    /// The path that leads to what is printed.
+    pub fn path(&self) -> &Walk
+        ensures { result.now ≡ walk_of self.now }
+    {
+        match self {
+            Expr::Plain { path } => path,
+            Expr::Default { path, .. } => path,
+            Expr::Decode { path } => path,
+            Expr::JoinArray { path, .. } => path,
+            Expr::JoinMap { path, .. } => path,
+        }
+    }
 }

@@ -7,7 +7,7 @@ ghost use Rattle.template_reader.specs.Forest.{tree_of, tree_in, branch_of};
 ghost use Rattle.template_reader.specs.Nest.{ParsesBody};
 ghost use Rattle.template_reader.specs.Reading.{IsLast, IsWrong, Passes, Stops, Steps, Fails, FailsIn, Others, Blocks, opened, text_tree};
 
-use crate::blocks::{block_of, is_inside, is_name, is_readable, path_of, print_of, push_node};
+use crate::blocks::{block_of, is_inside, is_name, is_readable, print_of, push_node};
 use crate::next::{Found, next_tag};
 use crate::scan::tail;
 use crate::tag::{Form, Name};
@@ -198,7 +198,7 @@ fn read_one(
     match form {
         Form::Comment => Ok(Step::Goes { rest }),
         Form::Print { expr } => {
-            check_path(path_of(&expr), level, place)?;
+            check_path(expr.path(), level, place)?;
             push_node(nodes, print_of(expr))?;
             Ok(Step::Goes { rest })
         }

@@ -55,7 +55,7 @@ fn os_of(alloc: Global) -> Result<Os, AllocError> {
     let text = text(alloc, "x86_64")?;
     let mut names = Vec::new(alloc);
     names.push(OsName { name, text })?;
-    Ok(Os { names })
+    Ok(Os::of(names))
 }
 
 fn refusal(alloc: Global, error: &RenderError) -> Result<String, AllocError> {

@@ -19,9 +19,9 @@ returns-in_err-table-clause-refused c = λ rows.
     refuses_before rows (table_check (codes "os") document ∷ []) (map os_check (named (section_members (codes "os") document))) _ (c.in_err-table.ensures.refused rows) in
     search (rules, refused)
 
-pub invariant_of-result : goal.invariant_of-result
+pub of-requires : goal.of-requires
 unfolding IsStrictlySortedBy
-invariant_of-result c = record { rising = rw c.new.ensures.items tt }
+of-requires c = rw c.new.ensures.items tt
 
 pub returns-in-Some-clause-passes : goal.returns-in-Some-clause-passes
 returns-in-Some-clause-passes c = λ rows.

@@ -9,7 +9,7 @@ none : IsStrictlySortedBy bytes_cmp (map (λ (m : OsName). m.name) [])
 unfolding IsStrictlySortedBy
 none = tt
 
-pub invariant_of-result : goal.invariant_of-result
-invariant_of-result c =
+pub of-requires : goal.of-requires
+of-requires c =
     let P : List OsName → Type 0 = λ l. IsStrictlySortedBy bytes_cmp (map (λ (m : OsName). m.name) l) in
-    record { rising = subst P (sym c.new.ensures.items) none }
+    subst P (sym c.new.ensures.items) none

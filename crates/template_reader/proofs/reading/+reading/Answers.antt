@@ -63,7 +63,7 @@ read_one-returns-in_err-check_path-in-Print-clause-err t c =
     let s = c.in-Some.passed in
     let e = c.in_err-check_path-in-Print.ensures.err in
     rw (x.1, x.2) (λ k. outside_print _ _ _ _ _ _ _ _ s.form s.place s.rest.from s.rest.taken c.in-Print.expr _ (rw c.in-Some.is at c.in_ok-passed.ensures.passes) c.in-Print.is
-    (ap (λ w. is_root w || c.args.level.in_each) (sym c.path_of.ensures) ∙ e.0) e.1)
+    (ap (λ w. is_root w || c.args.level.in_each) (sym c.path.ensures) ∙ e.0) e.1)
 
 pub read_one-returns-in_err-check_path-in-Begin-clause-err : goal.read_one-returns-in_err-check_path-in-Begin-clause-err
 read_one-returns-in_err-check_path-in-Begin-clause-err t c =
@@ -97,7 +97,7 @@ read_one-returns-in_ok-push_node-in-Print-clause-ok t c =
     let p = rw c.in-Some.is at c.in_ok-passed.ensures.passes in (
       p.later,
       passed_print _ _ _ _ c.args.level.depth c.args.level.in_each _ _ _ s.form s.place s.rest.from s.rest.taken c.in-Print.expr p c.in-Print.is
-          (ap (λ w. is_root w || c.args.level.in_each) (sym c.path_of.ensures) ∙ c.in_ok-check_path-in-Print.ensures.ok)
+          (ap (λ w. is_root w || c.args.level.in_each) (sym c.path.ensures) ∙ c.in_ok-check_path-in-Print.ensures.ok)
           (c.in_ok-push_node-in-Print.ensures ∙ ap (λ b. trees.joined (tree_of c.pass_text.new.nodes.items) (trees.node b trees.done)) c.print_of.ensures),
     )
 

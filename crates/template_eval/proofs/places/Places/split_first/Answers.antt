@@ -1,6 +1,5 @@
-use Rattle.std.proofs.Common.{◌≡◌, [], ◌∷◌, subst, sym}
-use Rattle.std.specs.Prelude.{MatchOption}
-use Rattle.template_eval.specs.Views.{place_of, places_of}
+use Rattle.std.proofs.Common.{subst, sym}
+use Rattle.template_eval.specs.Views.{places_of}
 use Rattle.template_eval.specs.declared.places.Places.{Places}
 use Rattle.template_eval.proofs.Entries.{Parts}
 use Rattle.template_eval.proofs.places.Places.split_first.Goals as goal

@@ -9,9 +9,9 @@ single : (n : OsName) → IsStrictlySortedBy bytes_cmp (map (λ (m : OsName). m.
 unfolding IsStrictlySortedBy
 single n = (tt, tt)
 
-pub invariant_of-result : goal.invariant_of-result
-invariant_of-result c =
+pub of-requires : goal.of-requires
+of-requires c =
     let n : OsName = record { name = c.in_ok-name.name; text = c.in_ok-text.text } in
     let one : c.push.new.self.items ≡ n ∷ [] = c.in_ok-push.ensures.items ∙ ap (λ (l : List OsName). l ++ n ∷ []) c.new-names.ensures.items in
     let P : List OsName → Type 0 = λ l. IsStrictlySortedBy bytes_cmp (map (λ (m : OsName). m.name) l) in
-    record { rising = subst P (sym one) (single n) }
+    subst P (sym one) (single n)
