@@ -120,7 +120,8 @@ fn split_digits(text: &[u8]) -> (&[u8], &[u8])
     }
 }
 
-/// The number behind the mark at the front of the text, and what follows its digits.
+/// The number behind the mark at the front of the text, and what follows its digits: an id behind a `_`, and else a number
+/// below 2 ^ 64 in decimal. None exactly where the text doesn't begin so. It takes no memory.
 pub fn first_number(text: &[u8], mark: u8) -> Option<(u64, &[u8])>
     ensures { MatchOption result (HasNoNumber mark text.now) (λ p. HasNumber mark text.now p.0 p.1.now) }
 {
