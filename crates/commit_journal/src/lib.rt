@@ -25,6 +25,3 @@ pub use journal_error::JournalError;
 pub use law::laws;
 pub use parts::cut;
 pub use recovery::recover;
-
-#[cfg(test)]
-mod tests;

@@ -18,8 +18,6 @@ mod plan;
 mod record;
 mod sink;
 mod spawner;
-#[cfg(test)]
-mod tests;
 
 pub use bytes::Bytes;
 pub use disk::MemoryDisk;

@@ -1,5 +1,5 @@
 //! A data directory is read.
-ghost use Rattle.std.specs.Prelude.{◌≡◌, ◌++◌, ◌∷◌, [], Some, drop, length, IfOk, IfNone, IsErrOf, IsTrue};
+ghost use Rattle.std.specs.Prelude.{◌≡◌, ◌++◌, Some, drop, length, IfOk, IfNone, IsErrOf, IsTrue};
 ghost use Rattle.std.specs.Option.{option_copied};
 ghost use Rattle.outside.specs.Names.{Names};
 ghost use Rattle.outside.specs.Tree.{file, node_at};

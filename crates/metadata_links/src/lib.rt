@@ -26,6 +26,3 @@ pub use file_row::FileRow;
 pub use index::{Index, Steps};
 pub use manifest::Manifest;
 pub use manifest_error::ManifestError;
-
-#[cfg(test)]
-mod tests;

@@ -15,8 +15,6 @@ mod patience;
 mod places;
 mod sink;
 mod spawner;
-#[cfg(test)]
-mod tests;
 mod unsynced;
 mod walk;
 mod work;

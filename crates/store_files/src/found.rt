@@ -1,9 +1,9 @@
 //! What the files of a data directory say, as they are read one after another.
-ghost use Rattle.std.specs.Prelude.{◌≡◌, ◌↔◌, [], None, IfOk, IfErr, IsTrue, All, false, unwrap_or, if◌then◌else◌};
+ghost use Rattle.std.specs.Prelude.{◌≡◌, ◌↔◌, [], None, IfOk, IfErr, IsTrue, false, unwrap_or, if◌then◌else◌};
 ghost use Rattle.commit_journal.specs.Files.{Files};
 ghost use Rattle.settings_maps.specs.Maps.{inner};
 ghost use Rattle.settings_tree.specs.Change.{Live, Meta, Pend, TheOwed, TheWeak};
-ghost use Rattle.settings_tree.specs.Content.{IsContent, MayBeWeak};
+ghost use Rattle.settings_tree.specs.Content.{IsContent};
 ghost use Rattle.settings_tree.specs.Pending.{IsPending};
 ghost use Rattle.settings_tree.specs.Rule.{Fits, Clashes};
 ghost use Rattle.store_files.specs.Places.{is_place, format_path};

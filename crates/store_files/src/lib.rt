@@ -16,6 +16,3 @@ pub use found::{Absent, Found};
 pub use law::laws;
 pub use place_paths::{live_path, meta_path, pending_path, top_path};
 pub use scalar_texts::{owed_text, pending_text, weak_text};
-
-#[cfg(test)]
-mod tests;

@@ -1,9 +1,9 @@
 //! The paths of places.
-ghost use Rattle.std.specs.Prelude.{◌≡◌, ◌≤◌, ◌<◌, ◌+◌, ◌++◌, ◌∷◌, [], length, codes, IfOk, OnOk, IsTrue};
+ghost use Rattle.std.specs.Prelude.{◌≡◌, ◌≤◌, ◌<◌, ◌+◌, ◌++◌, ◌∷◌, [], length, IfOk, OnOk, IsTrue};
 ghost use Rattle.outside.specs.Names.{is_name};
 ghost use Rattle.key_names.specs.Key.{is_key};
 ghost use Rattle.key_names.specs.Segment.{file_name, is_segment, has_short_name};
-ghost use Rattle.settings_maps.specs.TxName.{is_meta_name, is_tx_name};
+ghost use Rattle.settings_maps.specs.TxName.{is_meta_name};
 ghost use Rattle.settings_tree.specs.Change.{Live, Meta, Pend};
 ghost use Rattle.store_files.specs.Places.{names_of, meta_names, path_of, is_place};
 

@@ -1,5 +1,5 @@
 //! The texts of files that are JSON: scalars, pending values, and lists of keys, which are kept as scalars too.
-ghost use Rattle.std.specs.Prelude.{◌≡◌, ◌≢◌, ◌↔◌, ℕ, List, Ok, Some, IfOk, OnOk, IsTrue, false, option_map};
+ghost use Rattle.std.specs.Prelude.{◌≡◌, ◌↔◌, ℕ, List, Ok, Some, IfOk, OnOk, IsTrue, false, option_map};
 ghost use Rattle.std.specs.List.{list_all};
 ghost use Rattle.serde_json.specs.Data.{null};
 ghost use Rattle.serde_json.specs.Written.{compact_text};
@@ -7,7 +7,6 @@ ghost use Rattle.key_names.specs.Key.{is_key, printed};
 ghost use Rattle.json_trees.specs.Json.{data_of};
 ghost use Rattle.json_trees.specs.Scalar.{scalar_read, json_text};
 ghost use Rattle.json_trees.specs.declared.item.Item.TheVariants as kind;
-ghost use Rattle.settings_maps.specs.KeyList.{IsRising};
 ghost use Rattle.settings_tree.specs.declared.entry.Owed.{Owed};
 ghost use Rattle.store_files.specs.Values.{IsKeyList, IsOwed, Spells, pending, owed, weak, list_of, owed_scalar};
 ghost use Rattle.store_files.specs.Batches.{pending_text};

@@ -1,21 +1,37 @@
 //! A data directory is read, and read again after each kind of damage; a store is made, and a change of it written down.
-use disk_memory::{MemoryDisk, Node};
+ghost use Rattle.std.specs.Prelude.{◌≡◌, length, IfOk};
+
+use disk_memory::{MemoryDisk, Node, Pick};
 use fs_datastore::{LoadError, batch_of, load, save_all};
 use held_text::HeldText;
-use outside::{Disk, Path};
+use outside::{Disk, Path, PathError};
 use pending_tx::commit;
 use settings_tree::{Held, TxName};
-use std::alloc::Global;
+use std::alloc::{AllocError, Global};
 use std::test::Fail;
 use version_links::{Version, flip, fresh_dir};
 
-const HELD: &str =
-    r#"{"image":"aW1n","live":[["settings.\"a.b\"",true],["settings.motd","hi"]],"meta":[["settings.motd","name",["x"]]],"owed":["settings.motd"],"pending":[["t1",[["settings.motd",null],["settings.n",7]]]],"weak":["settings.motd"]}"#;
+const HELD: &str = concat!(
+    r#"{"image":"aW1n","live":[["settings.\"a.b\"",true],["settings.motd","hi"]],"#,
+    r#""meta":[["settings.motd","name",["x"]]],"owed":["settings.motd"],"#,
+    r#""pending":[["t1",[["settings.motd",null],["settings.n",7]]]],"weak":["settings.motd"]}"#,
+);
 
 const DIRECTORY: &str = "store/v1.5.2_0000000000000000";
 
+// The names of the data directory, and of the next one beside it.
+const PRESENT: &[u8] = b"v1.5.2_0000000000000000";
+
+const NEXT: &[u8] = b"v1.5.2_0000000000000001";
+
+const VERSION: Version = Version {
+    major: 1,
+    minor: 5,
+    patch: 2,
+};
+
 // The files of the data directory.
-const FILES: [(&str, &str); 9] = [
+const FILES: &[(&str, &str)] = &[
     ("format", "2"),
     ("image", "img"),
     ("live/settings/a%2Eb", "true"),
@@ -27,8 +43,18 @@ const FILES: [(&str, &str); 9] = [
     ("weak", r#"["settings.motd"]"#),
 ];
 
+// The files of a data directory in the first format, and what they stand for.
+const FIRST_FILES: &[(&str, &str)] = &[
+    ("image", "img"),
+    ("live/settings/motd", r#""hi""#),
+    ("owed", "[]"),
+];
+
+const FIRST_HELD: &str =
+    r#"{"image":"aW1n","live":[["settings.motd","hi"]],"meta":[],"owed":[],"pending":[],"weak":[]}"#;
+
 // All nodes of the store at version 1.5.2, in the order of their paths.
-const STORE: [&str; 13] = [
+const STORE: &[&str] = &[
     "store/current -> v1",
     "store/v1 -> v1.5",
     "store/v1.5 -> v1.5.2",
@@ -56,6 +82,12 @@ remove pending/default/settings/motd
 end
 "#;
 
+fn directory(alloc: Global, name: &[u8]) -> Result<Path, PathError>
+    ensures { IfOk result (λ path. length path ≡ 2) }
+{
+    Path::root(alloc).child(b"store")?.child(name)
+}
+
 // The path of a file of the data directory.
 fn file_path(alloc: Global, name: &str) -> Result<Path, Fail> {
     let text = format!(in alloc; "{DIRECTORY}/{name}")?;
@@ -72,81 +104,102 @@ fn put(alloc: Global, disk: &mut MemoryDisk, name: &str, bytes: Option<&[u8]>) -
     Ok(())
 }
 
-// A disk with the data directory.
-fn store(alloc: Global) -> Result<MemoryDisk, Fail> {
+// A disk with a data directory of these files.
+fn store(alloc: Global, files: &[(&str, &str)]) -> Result<MemoryDisk, Fail> {
     let mut disk = MemoryDisk::new(alloc)?;
-    for (name, text) in FILES {
+    for (name, text) in files {
         put(alloc, &mut disk, name, Some(text.as_bytes()))?;
     }
     Ok(disk)
 }
 
-// What the data directory stands for: the held text with the format behind it, or the path of the
-// damage behind a `!`.
-fn stands_for(alloc: Global, disk: &mut MemoryDisk) -> Result<String, Fail> {
-    let dir = Path::root(alloc)
-        .child(b"store")?
-        .child(b"v1.5.2_0000000000000000")?;
-    Ok(match load(alloc, disk, &dir) {
-        Ok(loaded) => {
-            let text = loaded.held.print()?;
-            format!(in alloc; "{} {}", text.as_str(), loaded.format)?
-        }
-        Err(LoadError::Damaged { path }) => {
-            let text = String::from_utf8(path.print()?)?;
-            format!(in alloc; "!{text}")?
-        }
-        Err(_) => format!(in alloc; "failed")?,
-    })
+// Whether the data directory stands for this held text in this format.
+fn stands_for(alloc: Global, disk: &mut MemoryDisk, text: &str, format: u8) -> Result<bool, Fail> {
+    let dir = directory(alloc, PRESENT)?;
+    let loaded = load(alloc, disk, &dir)?;
+    Ok(loaded.format == format && loaded.held.print()?.as_str() == text)
 }
 
 #[test]
 fn reads_a_data_directory(rt: HostRuntime) -> Result<(), Fail> {
-    let mut disk = store(rt.alloc())?;
-    let text = stands_for(rt.alloc(), &mut disk)?;
-    assert!(rt; text.as_str().strip_prefix(HELD) == Some(" 2"));
+    let mut disk = store(rt.alloc(), FILES)?;
+    assert!(rt; stands_for(rt.alloc(), &mut disk, HELD, 2)?);
     Ok(())
+}
+
+#[test]
+fn reads_the_first_format(rt: HostRuntime) -> Result<(), Fail> {
+    let mut disk = store(rt.alloc(), FIRST_FILES)?;
+    assert!(rt; stands_for(rt.alloc(), &mut disk, FIRST_HELD, 1)?);
+    Ok(())
+}
+
+// The place of the damage, where that is why the directory was not read.
+fn damage_of(error: LoadError) -> Option<Path> {
+    match error {
+        LoadError::Damaged { path } => Some(path),
+        LoadError::Failed => None,
+        LoadError::Memory => None,
+    }
+}
+
+// Whether the data directory is damaged at this place.
+fn is_damaged_at(alloc: Global, disk: &mut MemoryDisk, place: &str) -> Result<bool, Fail> {
+    let wanted = file_path(alloc, place)?;
+    let dir = directory(alloc, PRESENT)?;
+    let damage = match load(alloc, disk, &dir) {
+        Ok(_loaded) => None,
+        Err(error) => damage_of(error),
+    };
+    match damage {
+        Some(path) => Ok(path == wanted),
+        None => Ok(false),
+    }
 }
 
 // Whether the store is damaged at the place named second, when the first has these bytes or is taken away.
 fn is_damaged(alloc: Global, name: &str, bytes: Option<&[u8]>, place: &str) -> Result<bool, Fail> {
-    let mut disk = store(alloc)?;
+    let mut disk = store(alloc, FILES)?;
     put(alloc, &mut disk, name, bytes)?;
-    let wanted = format!(in alloc; "!{DIRECTORY}/{place}")?;
-    let text = stands_for(alloc, &mut disk)?;
-    Ok(text == wanted)
+    is_damaged_at(alloc, &mut disk, place)
 }
+
+// Files with bytes that they can't have.
+const DAMAGES: &[(&str, &str)] = &[
+    ("live/settings/motd%2e", "1"),
+    ("live/settings/%6D", "1"),
+    ("live/settings/motd/x", "1"),
+    ("live/settings/b", "1.5"),
+    ("live/settings/motd.", "1"),
+    ("live/x.y.z", "1"),
+    ("pending/t1", "1"),
+    ("pending/t1/settings/n", "{}"),
+    ("pending/t1/settings/n/m", "1"),
+    ("pending/t.1/settings/n", "1"),
+    ("foo", "1"),
+    ("format", "1"),
+    ("owed", r#"["settings.b","settings.a"]"#),
+    ("owed", r#" "all""#),
+    ("weak", r#""all""#),
+    ("weak", r#"["settings.none"]"#),
+    ("journal", "end"),
+];
 
 #[test]
 fn is_damaged_where_bytes_are(rt: HostRuntime) -> Result<(), Fail> {
-    for (name, bytes) in [
-        ("live/settings/motd%2e", "1"),
-        ("live/settings/%6D", "1"),
-        ("live/settings/motd/x", "1"),
-        ("live/settings/b", "1.5"),
-        ("live/settings/motd.", "1"),
-        ("live/x.y.z", "1"),
-        ("pending/t1", "1"),
-        ("pending/t1/settings/n", "{}"),
-        ("pending/t1/settings/n/m", "1"),
-        ("pending/t.1/settings/n", "1"),
-        ("foo", "1"),
-        ("format", "1"),
-        ("owed", r#"["settings.b","settings.a"]"#),
-        ("owed", r#" "all""#),
-        ("weak", r#""all""#),
-        ("weak", r#"["settings.none"]"#),
-        ("journal", "end"),
-    ] {
+    for (name, bytes) in DAMAGES {
         let damaged = is_damaged(rt.alloc(), name, Some(bytes.as_bytes()), name)?;
         assert!(rt; damaged, "{name} with {bytes}");
     }
     Ok(())
 }
 
+// Files that can't be missing.
+const SINGLE: &[&str] = &["image", "owed", "weak"];
+
 #[test]
 fn is_damaged_where_a_file_is_missing(rt: HostRuntime) -> Result<(), Fail> {
-    for name in ["image", "owed", "weak"] {
+    for name in SINGLE {
         let damaged = is_damaged(rt.alloc(), name, None, name)?;
         assert!(rt; damaged, "{name}");
     }
@@ -172,20 +225,9 @@ fn is_damaged_by_each_prefix(rt: HostRuntime) -> Result<(), Fail> {
 
 #[test]
 fn is_damaged_by_a_link(rt: HostRuntime) -> Result<(), Fail> {
-    let mut disk = store(rt.alloc())?;
+    let mut disk = store(rt.alloc(), FILES)?;
     disk.relink(&file_path(rt.alloc(), "live/settings/motd")?, b"x")?;
-    let text = stands_for(rt.alloc(), &mut disk)?;
-    assert!(rt; text.as_str().strip_suffix("live/settings/motd").is_some());
-    Ok(())
-}
-
-#[test]
-fn reads_the_first_format(rt: HostRuntime) -> Result<(), Fail> {
-    let mut disk = store(rt.alloc())?;
-    put(rt.alloc(), &mut disk, "format", None)?;
-    put(rt.alloc(), &mut disk, "weak", None)?;
-    let text = stands_for(rt.alloc(), &mut disk)?;
-    assert!(rt; text.as_str().strip_suffix(r#""weak":[]} 1"#).is_some());
+    assert!(rt; is_damaged_at(rt.alloc(), &mut disk, "live/settings/motd")?);
     Ok(())
 }
 
@@ -193,15 +235,54 @@ fn reads_the_first_format(rt: HostRuntime) -> Result<(), Fail> {
 fn made(alloc: Global) -> Result<MemoryDisk, Fail> {
     let mut disk = MemoryDisk::new(alloc)?;
     let held = Held::read(alloc, HELD.as_bytes())?;
-    let version = Version {
-        major: 1,
-        minor: 5,
-        patch: 2,
-    };
-    let names = fresh_dir(alloc, &mut disk, &version)?;
+    let names = fresh_dir(alloc, &mut disk, &VERSION)?;
     save_all(alloc, &mut disk, names.directory(), &held)?;
     flip(&mut disk, &names)?;
     Ok(disk)
+}
+
+// Makes the disk stop after so many more calls, or fail once at the next one.
+fn cut_off(
+    alloc: Global,
+    disk: &mut MemoryDisk,
+    calls: u64,
+    stops: bool,
+) -> Result<(), AllocError> {
+    let made = disk.calls().saturating_add(calls);
+    if stops {
+        disk.stop_after(made);
+        return Ok(());
+    }
+    disk.fail_calls(vec![in alloc; made.saturating_add(1)]?);
+    Ok(())
+}
+
+// Whether a save beside the data directory answers Ok.
+fn saves_beside(alloc: Global, disk: &mut MemoryDisk) -> Result<bool, Fail> {
+    let dir = directory(alloc, NEXT)?;
+    let held = Held::read(alloc, PENDING.as_bytes())?;
+    Ok(save_all(alloc, disk, &dir, &held).is_ok())
+}
+
+// Whether such a save fails when it is cut off after so many calls, and leaves the store as it was after a crash.
+fn stays(alloc: Global, calls: u64, stops: bool) -> Result<bool, Fail> {
+    let mut disk = made(alloc)?;
+    cut_off(alloc, &mut disk, calls, stops)?;
+    if saves_beside(alloc, &mut disk)? {
+        return Ok(false);
+    }
+    let mut left = disk.crash(&[Pick::New, Pick::Old, Pick::Gone])?;
+    stands_for(alloc, &mut left, HELD, 2)
+}
+
+#[test]
+fn a_save_that_is_cut_off_leaves_the_store(rt: HostRuntime) -> Result<(), Fail> {
+    for calls in 0..6 {
+        let failed = stays(rt.alloc(), calls, false)?;
+        let stopped = stays(rt.alloc(), calls, true)?;
+        assert!(rt; failed && stopped, "{calls} calls");
+    }
+    Ok(())
 }
 
 // The path with what stands there: the text of a link behind an arrow, the bytes of a file behind a `=`.

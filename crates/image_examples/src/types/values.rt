@@ -1,6 +1,6 @@
 //! The values that each word takes.
 use crate::types::answers::answers;
-use std::alloc::Global;
+use std::alloc::{AllocError, Global};
 use std::test::Fail;
 
 // The word takes the one value, and refuses the other.
@@ -52,6 +52,22 @@ fn takes_base64(rt: HostRuntime) -> Result<(), Fail> {
         ("base64", "\"YWJj\"", "\"YWJj!WJj\""),
     ];
     decide(rt.alloc(), rows)
+}
+
+// A JSON text of so many letters and a byte that no base64 has.
+fn long_text(alloc: Global, letters: u64) -> Result<String, AllocError> {
+    let mut text = String::from_str(alloc, "\"")?;
+    for _ in 0..letters {
+        text.push('A')?;
+    }
+    text.push_str("!\"")?;
+    Ok(text)
+}
+
+#[test]
+fn refuses_long_base64(rt: HostRuntime) -> Result<(), Fail> {
+    let text = long_text(rt.alloc(), 8192)?;
+    answers(rt.alloc(), "settings.a base64", text.as_str(), "not base64")
 }
 
 #[test]

@@ -1,5 +1,5 @@
 //! The sink, the door, the link and the spawner.
-use crate::{Input, MemoryDoor, MemoryLink, MemorySink, MemorySpawner};
+use disk_memory::{Input, MemoryDoor, MemoryLink, MemorySink, MemorySpawner};
 use outside::{Answer, Asker, Door, Link, Sink, Spawner};
 use std::alloc::{AllocError, Global};
 use std::test::Fail;
@@ -17,33 +17,26 @@ fn input(alloc: Global, pieces: &[&str]) -> Result<Input, AllocError> {
 }
 
 #[test]
-fn a_sink_takes_its_bytes_and_then_fails(rt: HostRuntime) -> Result<(), Fail> {
+fn a_sink_takes_its_bytes_and_then_fails(rt: HostRuntime) {
     let mut sink = MemorySink::fail_from(rt.alloc(), 3);
-    assert!(rt; sink.write(b"ab")? == 2);
-    assert!(rt; sink.write(b"cd")? == 1);
-    assert!(rt; sink.write(b"d").is_err());
-    assert!(rt; sink.write(b"").is_err());
+    assert!(rt; sink.write(b"ab") == Ok(2) && sink.write(b"cd") == Ok(1));
+    assert!(rt; sink.write(b"d").is_err() && sink.write(b"").is_err());
     assert!(rt; sink.written() == b"abc".as_slice());
     let mut sink = MemorySink::new(rt.alloc());
-    assert!(rt; sink.write(b"abcd")? == 4);
-    Ok(())
+    assert!(rt; sink.write(b"abcd") == Ok(4));
 }
 
 #[test]
 fn a_door_gives_one_piece_a_read(rt: HostRuntime) -> Result<(), Fail> {
     let alloc = rt.alloc();
-    let inputs = vec![in alloc; input(alloc, &["", "abc", "", "d"])?]?;
-    let mut door = MemoryDoor::of_inputs(alloc, inputs);
+    let mut door = MemoryDoor::of_inputs(alloc, vec![in alloc; input(alloc, &["", "abc"])?]?);
     let mut room = [0u8; 2];
     assert!(rt; door.accept()?);
-    assert!(rt; door.read(&mut room)? == 2);
-    assert!(rt; door.read(&mut room)? == 1);
-    assert!(rt; door.read(&mut room)? == 1);
-    assert!(rt; door.read(&mut room)? == 0);
-    assert!(rt; door.write(b"yes")? == 3);
+    assert!(rt; door.read(&mut room) == Ok(2) && door.read(&mut room) == Ok(1));
+    assert!(rt; door.read(&mut room) == Ok(0) && door.write(b"yes") == Ok(3));
     door.finish();
-    assert!(rt; !door.accept()?);
     assert!(rt; door.output(0) == Some(b"yes".as_slice()) && door.output(1).is_none());
+    assert!(rt; door.accept() == Ok(false));
     Ok(())
 }
 
@@ -58,10 +51,8 @@ fn a_door_fails_where_it_is_told(rt: HostRuntime) -> Result<(), Fail> {
     let mut room = [0u8; 2];
     assert!(rt; door.accept().is_err());
     assert!(rt; door.accept()?);
-    assert!(rt; door.read(&mut room).is_err());
-    assert!(rt; door.read(&mut room)? == 1);
-    assert!(rt; door.write(b"no")? == 2);
-    assert!(rt; door.write(b"no").is_err());
+    assert!(rt; door.read(&mut room).is_err() && door.read(&mut room) == Ok(1));
+    assert!(rt; door.write(b"no") == Ok(2) && door.write(b"no").is_err());
     Ok(())
 }
 
@@ -73,9 +64,8 @@ fn a_link_connects_and_reads(rt: HostRuntime) -> Result<(), Fail> {
     assert!(rt; link.connect().is_err());
     link.connect()?;
     let mut room = [0u8; 8];
-    assert!(rt; link.write(b"ask")? == 3);
-    assert!(rt; link.read(&mut room)? == 2);
-    assert!(rt; link.read(&mut room)? == 0);
+    assert!(rt; link.write(b"ask") == Ok(3));
+    assert!(rt; link.read(&mut room) == Ok(2) && link.read(&mut room) == Ok(0));
     assert!(rt; link.output() == b"ask".as_slice());
     Ok(())
 }
@@ -86,10 +76,10 @@ fn a_spawner_runs_as_planned(rt: HostRuntime) -> Result<(), Fail> {
     let words = vec![in alloc; String::from_str(alloc, "restart")?]?;
     assert!(rt; words.len() == 1);
     let mut spawner = MemorySpawner::of_statuses(alloc, vec![in alloc; Some(3), None, Some(300)]?);
-    assert!(rt; spawner.run(&words)? == 3);
+    assert!(rt; spawner.run(&words) == Ok(3));
     assert!(rt; spawner.run(&words).is_err());
-    assert!(rt; spawner.run(&words)? == 256);
-    assert!(rt; spawner.run(&words)? == 0);
+    assert!(rt; spawner.run(&words) == Ok(256));
+    assert!(rt; spawner.run(&words) == Ok(0));
     assert!(rt; spawner.runs().len() == 3);
     Ok(())
 }

@@ -1,11 +1,8 @@
 //! Files that are read one after another.
-ghost use Rattle.store_files.specs.FoundFiles.{KeepsRules};
-
-use crate::{Absent, Found};
 use outside::Path;
 use std::alloc::Global;
-use std::process::Abort;
 use std::test::Fail;
+use store_files::Found;
 
 // Whether the file may stand alone.
 fn stands_alone(alloc: Global, path: &[u8], bytes: &[u8]) -> Result<bool, Fail> {

@@ -1,0 +1,13 @@
+//! Folders for tests.
+use std::{env, fs, io, process};
+
+// A new folder for this test.
+pub fn new_folder(rt: &HostRuntime, name: &str) -> io::Result<String> {
+    let base = env::temp_dir(rt)?;
+    let base = base.as_str();
+    let id = process::id(rt.process());
+    let folder = format!(in rt.alloc(); "{base}/settings_{name}_{id}")?;
+    let _ = fs::remove_dir_all(rt, folder.as_str());
+    fs::create_dir(rt, folder.as_str())?;
+    Ok(folder)
+}

@@ -1,0 +1,9 @@
+//! Tests of the disk of the real system, in folders of their own, with each call to the file system watched.
+#![tactic(auto)]
+
+#[cfg(test)]
+mod disks;
+#[cfg(test)]
+mod syncs;
+#[cfg(test)]
+mod watched;

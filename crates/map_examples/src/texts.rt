@@ -1,0 +1,27 @@
+//! Texts, owned and compared.
+use key_names::{Key, Text};
+use std::alloc::{AllocError, Global};
+use std::test::Fail;
+
+/// The text, owned.
+pub fn text(alloc: Global, text: &str) -> Result<Text, AllocError> {
+    Ok(Text::of(String::from_str(alloc, text)?))
+}
+
+/// The key that the text is.
+pub fn key(alloc: Global, text: &str) -> Result<Key, Fail> {
+    Ok(Key::read(alloc, text.as_bytes())?)
+}
+
+/// The text is the wanted one.
+pub fn same(shown: &str, wanted: &str, at: &str) -> Result<(), Fail> {
+    if shown == wanted {
+        return Ok(());
+    }
+    Err(Fail::new(format_args!("{shown}, not {wanted}, at {at}")))
+}
+
+/// What was answered of the text is the wanted text.
+pub fn answers(shown: Result<Text, Fail>, wanted: &str, at: &str) -> Result<(), Fail> {
+    same(shown?.as_str(), wanted, at)
+}

@@ -1,0 +1,95 @@
+//! Held texts of their members, and texts compared.
+use held_text::HeldText;
+use key_names::Key;
+use settings_tree::{Held, Scalar};
+use std::alloc::{AllocError, Global};
+use std::test::Fail;
+
+/// The key that the text is.
+pub fn key(alloc: Global, text: &str) -> Result<Key, Fail> {
+    Ok(Key::read(alloc, text.as_bytes())?)
+}
+
+/// The text is the wanted one.
+pub fn same(shown: &str, wanted: &str, at: &str) -> Result<(), Fail> {
+    if shown == wanted {
+        return Ok(());
+    }
+    Err(Fail::new(format_args!("{shown}, not {wanted}, at {at}")))
+}
+
+/// What was answered is the wanted text.
+pub fn answers(shown: Result<String, Fail>, wanted: &str, at: &str) -> Result<(), Fail> {
+    same(shown?.as_str(), wanted, at)
+}
+
+// The value of the member: an empty list, where it is left out.
+fn value_of<'a>(members: &'a str, member: &str) -> &'a str {
+    match members.split_once(member) {
+        Some((_, rest)) => match rest.split_once(' ') {
+            Some((value, _)) => value,
+            None => rest,
+        },
+        None => "[]",
+    }
+}
+
+/// The held text of the members, which have spaces between them. A member that holds nothing may be
+/// left out, and the image text is `hello`.
+pub fn held_text(alloc: Global, members: &str) -> Result<String, AllocError> {
+    let live = value_of(members, "live:");
+    let meta = value_of(members, "meta:");
+    let owed = value_of(members, "owed:");
+    let pending = value_of(members, "pending:");
+    let weak = value_of(members, "weak:");
+    format!(in alloc;
+        "{{\"image\":\"aGVsbG8=\",\"live\":{live},\"meta\":{meta},\"owed\":{owed},\"pending\":{pending},\"weak\":{weak}}}"
+    )
+}
+
+/// What the members are.
+pub fn held(alloc: Global, members: &str) -> Result<Held, Fail> {
+    let text = held_text(alloc, members)?;
+    Ok(Held::read(alloc, text.as_bytes())?)
+}
+
+/// Adds the key.
+pub fn push_key(text: &mut String, key: &Key) -> Result<(), AllocError> {
+    let printed = key.print()?;
+    text.push_str(printed.as_str())
+}
+
+/// Adds the key, a `=`, the value and a space.
+pub fn push_pair(text: &mut String, key: &Key, value: &str) -> Result<(), AllocError> {
+    push_key(text, key)?;
+    text.push('=')?;
+    text.push_str(value)?;
+    text.push(' ')
+}
+
+/// Adds the pair with a scalar.
+pub fn push_scalar(
+    text: &mut String,
+    alloc: Global,
+    key: &Key,
+    value: &Scalar,
+) -> Result<(), AllocError> {
+    let value = value.print(alloc)?;
+    push_pair(text, key, value.as_str())
+}
+
+/// Adds the keys, each with a space behind it.
+pub fn push_keys(text: &mut String, keys: &[Key]) -> Result<(), AllocError> {
+    for key in keys {
+        push_key(text, key)?;
+        text.push(' ')?;
+    }
+    Ok(())
+}
+
+/// The keys, each with a space behind it.
+pub fn keys(alloc: Global, keys: &[Key]) -> Result<String, AllocError> {
+    let mut text = String::new(alloc);
+    push_keys(&mut text, keys)?;
+    Ok(text)
+}
