@@ -1,0 +1,97 @@
+-- What a client asks of the machine, and what it is answered.
+use Rattle.std.specs.Prelude.{ℕ, Bool, true, false, List, Option}
+use Rattle.json_trees.specs.declared.pending.Pending.{Pending}
+use Rattle.json_trees.specs.declared.scalar.Scalar.{Scalar}
+use Rattle.settings_tree.specs.declared.entry.Owed.{Owed}
+use Rattle.settings_machine.specs.World.{Key, Job}
+
+-- A whole request. A transaction is named by a list of bytes.
+pub data Request : Type 0 where
+  -- all live values
+  Root : Request
+  -- the names of the operating system
+  OsNames : Request
+  -- all settings, those at these keys, those below a key
+  Settings : Request
+  SettingsAt : List Key → Request
+  SettingsBelow : Key → Request
+  -- these pairs are to be pending in a transaction
+  Patch : List ℕ → List (Key × Pending) → Request
+  -- the services, or those of these names
+  Services : Option (List (List ℕ)) → Request
+  -- the configuration files, or those of these names
+  ConfigurationFiles : Option (List (List ℕ)) → Request
+  -- the services that these keys affect
+  Affected : List Key → Request
+  -- what is pending in a transaction
+  Pends : List ℕ → Request
+  -- a transaction is to end without a commit
+  DropTx : List ℕ → Request
+  -- the names of the transactions
+  TxList : Request
+  Commit : List ℕ → Request
+  -- what is owed is to be paid by a job
+  Apply : Request
+  CommitAndApply : List ℕ → Request
+  -- the job, and what is owed
+  JobNow : Request
+
+-- Why a request changes nothing: a pair that the types refuse and what is wanted there, a key without a live value, a name
+-- that isn't there, a transaction that isn't there.
+pub data Refusal : Type 0 where
+  BadType : Key → List ℕ → Refusal
+  NoKey : Key → Refusal
+  NoName : List ℕ → Refusal
+  NoPending : List ℕ → Refusal
+
+-- What the body of an answer says.
+pub data Body : Type 0 where
+  -- the tree of these values, without so many first segments of their keys
+  TreeOf : ℕ → List (Key × Scalar) → Body
+  -- the same of what is pending
+  PendingTreeOf : ℕ → List (Key × Pending) → Body
+  -- texts by name
+  TextsByName : List (List ℕ × List ℕ) → Body
+  -- lists of names by key
+  ListsByKey : List (Key × List (List ℕ)) → Body
+  -- keys
+  KeyList : List Key → Body
+  -- names
+  NameList : List (List ℕ) → Body
+  -- the job, and what is owed
+  JobIs : Job → Owed → Body
+
+-- What a request is answered: a body with status 200, status 204, a refusal, want of memory, a fault of the disk, or that
+-- the store could not be opened again, for what stands there.
+pub data Reply : Type 0 where
+  Said : Body → Reply
+  Empty : Reply
+  Refused : Refusal → Reply
+  NoMemory : Reply
+  DiskFault : Reply
+  NotOpened : List ℕ → Reply
+
+-- The status of a refusal.
+abbrev pub refusal_status : Refusal → ℕ
+refusal_status (BadType key wanted) = 400
+refusal_status (NoKey key) = 404
+refusal_status (NoName name) = 404
+refusal_status (NoPending tx) = 422
+
+-- The status of a reply.
+abbrev pub status : Reply → ℕ
+status (Said body) = 200
+status Empty = 204
+status (Refused refusal) = refusal_status refusal
+status NoMemory = 503
+status DiskFault = 500
+status (NotOpened at) = 500
+
+-- Whether the reply is of success, as those with a status from 200 to 299 are.
+abbrev pub is_success : Reply → Bool
+is_success (Said body) = true
+is_success Empty = true
+is_success (Refused refusal) = false
+is_success NoMemory = false
+is_success DiskFault = false
+is_success (NotOpened at) = false
