@@ -1,0 +1,13 @@
+pub mod Meanings
+pub mod Runs
+pub mod Settled
+pub mod Changed
+pub mod Quiet
+pub mod Handling
+pub mod Turning
+pub mod Apart
+pub mod FromSync
+pub mod Recovering
+pub mod Opened
+pub mod Whole
+pub mod Ending

@@ -1,0 +1,334 @@
+-- How calls follow each other, and what a crash leaves of a run.
+use Rattle.std.proofs.Common.{◌≡◌, ◌⊎◌, inl, inr, ⊎_elim, ℕ, ◌-◌, Bool, true, false, List, [], ◌∷◌, ◌++◌, refl, sym, ◌∙◌, ap, subst}
+use Rattle.std.proofs.Common.{append_assoc}
+use Rattle.std.proofs.lemmas.Bool.{and_parts}
+use Rattle.std.proofs.lemmas.List.{append-nil}
+use Rattle.std.specs.FinMap.{get}
+use Rattle.outside.specs.Tree.{Tree, node_at}
+use Rattle.outside.specs.History.{History, EachImage}
+use Rattle.outside.specs.Since.{EachSince}
+use Rattle.outside.proofs.Since.{since_start, since_joined, since_map}
+use Rattle.settings_tree.specs.declared.held.Held.{Held}
+use Rattle.settings_machine.specs.World.{Image, World, Files, is_running}
+use Rattle.settings_machine.specs.Requests.{Request}
+use Rattle.settings_machine.specs.Step.{Unopened, request_next, turn_next, opened}
+use Rattle.settings_machine.specs.Events.{Event, Succeeded, Failing, Opened, Asked, Unread, Turned, Began, Moved, next, after, acknowledges, acknowledges_any, faulted_next}
+use Rattle.settings_machine.specs.Events.{faulted_after, are_served}
+use Rattle.settings_machine.specs.Paid.{Paid, IsFit, IsGood}
+use Rattle.settings_machine.specs.Laws.{IsKept}
+use Rattle.settings_machine.proofs.Sequences.{faulted-append, or_false, after-append, none_acked, served-append}
+use Rattle.settings_machine.proofs.PaidLaws.{files_stay_paid, crashes_pay}
+use Rattle.version_links.specs.declared.chain.Place.{Place}
+use Rattle.machine_disk.specs.Store.{Recovers, IsReadyAt}
+use Rattle.machine_disk.specs.Kept.{Folder, DiskAt, CoreState, Kept}
+use Rattle.machine_disk.specs.Laws.{IsSameStore}
+use Rattle.machine_disk.proofs.Meanings.{one_store}
+use Rattle.machine_disk.specs.Ran.{AtPrefix, AtLatePrefix, IsLate, Before, Within, OnTheWay, Ran, IsSlice, IsDriven, OpensTo, OpensNot, IsWorldOf, RunsTo, Starts}
+
+-- ---- the format, which openings leave alone
+
+opened_format : (I : Image) (W : World) (boot : Bool) → W.format ≡ 2 → (opened I W boot).format ≡ 2
+unfolding opened
+opened_format I W boot format = format
+
+failing_format : (I : Image) (W : World) (boot taken : Bool) → W.format ≡ 2 → (next I W (Opened boot (Failing taken))).format ≡ 2
+failing_format I W boot true format = opened_format I W boot format
+failing_format I W boot false format = format
+
+module _ (I : Image) where
+  -- ---- prefixes
+
+  -- A prefix of the first events is one of all.
+  pub prefix_of_more : (W : World) (es fs : List Event) (c : Tree) → AtPrefix I W es c → AtPrefix I W (es ++ fs) c
+  prefix_of_more W es fs c at = record {
+    first = at.first;
+    rest = at.rest ++ fs;
+    whole = ap (λ (l : List Event). l ++ fs) at.whole ∙ append_assoc at.first at.rest fs;
+    recovers = at.recovers;
+  }
+
+  -- A prefix of the later events is one of all.
+  pub prefix_after : (W : World) (es fs : List Event) (c : Tree) → AtPrefix I (after I W es) fs c → AtPrefix I W (es ++ fs) c
+  prefix_after W es fs c at = record {
+    first = es ++ at.first;
+    rest = at.rest;
+    whole = ap (λ (l : List Event). es ++ l) at.whole ∙ sym (append_assoc es at.first at.rest);
+    recovers = subst (λ (X : World). Recovers I X c) (sym (after-append I W es at.first)) at.recovers;
+  }
+
+  -- At the start.
+  pub at_start : (W : World) (es : List Event) (c : Tree) → Recovers I W c → AtPrefix I W es c
+  at_start W es c r = record { first = []; rest = es; whole = refl; recovers = r }
+
+  pub late_more : (W V : World) (es fs : List Event) (X Y : World) → IsLate I W V es X → IsLate I (after I W es) X fs Y → IsLate I W V (es ++ fs) Y
+  late_more W V es fs X Y (Before is none) (Before is' none') = Before (is' ∙ is) (none_acked I W es fs none none')
+  late_more W V es fs X Y (Within first rest whole is none) (Before is' none') =
+      Within first (rest ++ fs)
+      (ap (λ (l : List Event). l ++ fs) whole ∙ append_assoc first rest fs)
+      (is' ∙ is)
+      (subst (λ (Z : World). acknowledges_any I Z (rest ++ fs) ≡ false) (sym is')
+      (none_acked I X rest fs none (subst (λ (Z : World). acknowledges_any I Z fs ≡ false)
+      (ap (after I W) whole ∙ after-append I W first rest ∙ ap (λ (Z : World). after I Z rest) (sym is)) none')))
+  late_more W V es fs X Y late (Within first rest whole is none) =
+      Within (es ++ first) rest
+      (ap (λ (l : List Event). es ++ l) whole ∙ sym (append_assoc es first rest))
+      (is ∙ sym (after-append I W es first))
+      none
+
+  -- What recovers to X recovers to V or to a world on the way.
+  pub late_recovers : (W V : World) (es : List Event) (X : World) (c : Tree) → IsLate I W V es X → Recovers I X c → OnTheWay I W V es c
+  late_recovers W V es X c (Before is none) r = inl (subst (λ (Z : World). Recovers I Z c) is r)
+  late_recovers W V es X c (Within first rest whole is none) r = inr (record {
+    first = first;
+    rest = rest;
+    whole = whole;
+    recovers = subst (λ (Z : World). Recovers I Z c) is r;
+  })
+
+  -- What is on the way of the first events is on that of all,
+  pub way_of_more : (W V : World) (es fs : List Event) (c : Tree) → OnTheWay I W V es c → OnTheWay I W V (es ++ fs) c
+  way_of_more W V es fs c (inl r) = inl r
+  way_of_more W V es fs c (inr at) = inr (prefix_of_more W es fs c at)
+
+  -- and so is what is on the way of the later ones.
+  pub way_after : (W V X : World) (es fs : List Event) (c : Tree) → IsLate I W V es X → OnTheWay I (after I W es) X fs c → OnTheWay I W V (es ++ fs) c
+  way_after W V X es fs c late (inl r) = way_of_more W V es fs c (late_recovers W V es X c late r)
+  way_after W V X es fs c late (inr at) = inr (prefix_after W es fs c at)
+
+  -- ---- images now
+
+  -- Each image recovers to W or to V,
+  pub recovers_now : (folder : Folder) (W V : World) (h : History) → DiskAt I folder W V h → EachImage (λ c. Recovers I W c ⊎ Recovers I V c) h
+  recovers_now folder W V h disk c left = ⊎_elim
+      (λ is. inl (record { store = is; etc = λ path below. ⊎_elim (λ same. inl same) (λ due. inr due.0) (disk.unsettled path (node_at c path) below (left path)) }))
+      (λ is. inr (record {
+        store = is;
+        etc = λ path below. ⊎_elim (λ same. inl (same ∙ sym (ap (λ (m : Files). get m path) disk.same_etc))) (λ due. inr due.1)
+            (disk.unsettled path (node_at c path) below (left path));
+      }))
+      (disk.images c left)
+
+  -- and so is on the way.
+  pub way_now : (folder : Folder) (W V : World) (es : List Event) (h : History) → DiskAt I folder W V h → EachImage (OnTheWay I W V es) h
+  way_now folder W V es h disk c left = ⊎_elim (λ r. inr (at_start W es c r)) (λ r. inl r) (recovers_now folder W V h disk c left)
+
+  -- ---- one call after another
+
+  -- Before the first event.
+  pub ran_none : (folder : Folder) (W V : World) (h : History) (core : CoreState) → Kept I folder W V h core → Ran I folder W V [] h h core core
+  ran_none folder W V h core kept = record {
+    other = V;
+    late = Before refl refl;
+    kept = kept;
+    flag = refl;
+    moments = since_start (OnTheWay I W V []) h (way_now folder W V [] h kept.disk);
+  }
+
+  -- One call after another.
+  pub ran_more : (folder : Folder) (W V : World) (es fs : List Event) (old mid new : History) (before between now : CoreState) (one : Ran I folder W V es old mid before between)
+      → Ran I folder (after I W es) one.other fs mid new between now → Ran I folder W V (es ++ fs) old new before now
+  ran_more folder W V es fs old mid new before between now one two = record {
+    other = two.other;
+    late = late_more W V es fs one.other two.other one.late two.late;
+    kept = subst (λ (Z : World). Kept I folder Z two.other new now) (sym (after-append I W es fs)) two.kept;
+    flag = two.flag ∙ ap (λ (b : Bool). faulted_after b fs) one.flag ∙ sym (faulted-append before.faulted es fs);
+    moments = since_joined (OnTheWay I W V (es ++ fs)) old mid new
+        (since_map (OnTheWay I W V es) (OnTheWay I W V (es ++ fs)) old mid (λ c way. way_of_more W V es fs c way) one.moments)
+        (since_map (OnTheWay I (after I W es) one.other fs) (OnTheWay I W V (es ++ fs)) mid new (λ c way. way_after W V one.other es fs c one.late way) two.moments);
+  }
+
+  -- An event that changes nothing and acknowledges nothing.
+  pub ran_idle : (folder : Folder) (W V : World) (e : Event) (h : History) (core : CoreState) → Kept I folder W V h core → next I W e ≡ W
+      → acknowledges I W e ≡ false → faulted_next core.faulted e ≡ core.faulted
+      → Ran I folder W V (e ∷ []) h h core core
+  ran_idle folder W V e h core kept same none flag = record {
+    other = V;
+    late = Before refl (or_false _ _ none refl);
+    kept = subst (λ (Z : World). Kept I folder Z V h core) (sym same) kept;
+    flag = sym flag;
+    moments = since_start (OnTheWay I W V (e ∷ [])) h (way_now folder W V (e ∷ []) h kept.disk);
+  }
+
+  -- A request that was refused in reading.
+  pub ran_unread : (folder : Folder) (W V : World) (h : History) (core : CoreState) → Kept I folder W V h core → Ran I folder W V (Unread ∷ []) h h core core
+  ran_unread folder W V h core kept = ran_idle folder W V Unread h core kept refl refl refl
+
+  -- ---- openings
+
+  -- After an opening the core is kept at the opened world, whose job it has.
+  pub opens_kept : (folder : Folder) (W V : World) (boot : Bool) (place : Place) (held : Held) (old new : History) (core : CoreState)
+      → OpensTo I folder W V boot place held old new
+      → core.place ≡ place → core.held ≡ held → core.job ≡ (opened I W boot).job → core.faulted ≡ false
+      → Kept I folder (opened I W boot) (opened I W boot) new core
+  opens_kept folder W V boot place held old new core opens place_is held_is job calm = record {
+    fit = opens.fit;
+    format = opened_format I W boot opens.format;
+    disk = opens.disk;
+    core = record {
+      job = job;
+      ready = λ _. subst (λ p. IsReadyAt p core.held new) (sym place_is) (subst (λ (h : Held). IsReadyAt place h new) (sym held_is) opens.ready);
+      still = λ faulted. absurd (cc (faulted, calm));
+    };
+  }
+
+  -- A reopening is an event of the run.
+  pub opens_ran : (folder : Folder) (W V : World) (boot : Bool) (place : Place) (held : Held) (old new : History) (before core : CoreState)
+      → OpensTo I folder W V boot place held old new
+      → core.place ≡ place → core.held ≡ held → core.job ≡ (opened I W boot).job → core.faulted ≡ false
+      → Ran I folder W V (Opened boot Succeeded ∷ []) old new before core
+  opens_ran folder W V boot place held old new before core opens place_is held_is job calm = record {
+    other = opened I W boot;
+    late = Within (Opened boot Succeeded ∷ []) [] refl refl refl;
+    kept = opens_kept folder W V boot place held old new core opens place_is held_is job calm;
+    flag = calm;
+    moments = opens.moments;
+  }
+
+  -- And so is one that failed, while a call of the disk has failed before.
+  pub unopened_ran : (folder : Folder) (W V : World) (boot : Bool) (old new : History) (before core : CoreState) (not_opened : OpensNot I folder W V boot old new)
+      → W.format ≡ 2 → IsFit I (after I W (Opened boot (Failing not_opened.taken) ∷ []))
+      → core.job ≡ (after I W (Opened boot (Failing not_opened.taken) ∷ [])).job → core.faulted ≡ true → before.faulted ≡ true → is_running core.job ≡ false
+      → Ran I folder W V (Opened boot (Failing not_opened.taken) ∷ []) old new before core
+  unopened_ran folder W V boot old new before core not_opened format fit job faulted was stopped = record {
+    other = not_opened.other;
+    late = not_opened.late;
+    kept = record {
+      fit = fit;
+      format = failing_format I W boot not_opened.taken format;
+      disk = not_opened.disk;
+      core = record { job = job; ready = λ calm. absurd (cc (faulted, calm)); still = λ _. stopped };
+    };
+    flag = faulted ∙ sym was;
+    moments = not_opened.moments;
+  }
+
+  -- A reopening that was refused adds no opening to the events; it may have carried out a change that was cut off.
+  pub refused_ran : (folder : Folder) (W V : World) (q : Request) (at : List ℕ) (old new : History) (core : CoreState) → core.faulted ≡ true → Kept I folder W V old core
+      → DiskAt I folder W W new → EachSince (OnTheWay I W V []) old new → Ran I folder W V (Asked q (Unopened at) ∷ []) old new core core
+  unfolding request_next
+  refused_ran folder W V q at old new core faulted kept disk moments = record {
+    other = W;
+    late = Within [] (Asked q (Unopened at) ∷ []) refl refl refl;
+    kept = record {
+      fit = kept.fit;
+      format = kept.format;
+      disk = disk;
+      core = record { job = kept.core.job; ready = λ calm. absurd (cc (calm, faulted)); still = kept.core.still };
+    };
+    flag = refl;
+    moments = since_map (OnTheWay I W V []) (OnTheWay I W V (Asked q (Unopened at) ∷ [])) old new (λ t way. way_of_more W V [] (Asked q (Unopened at) ∷ []) t way) moments;
+  }
+
+  -- ---- turns
+
+  -- A slice of turns, and then the rest of them.
+  pub driven_after : (n : ℕ) (W : World) (es fs : List Event) → IsSlice I n W es → IsDriven I (after I W es) fs → IsDriven I W (es ++ fs)
+  driven_after n W [] fs slice rest = rest
+  driven_after n W (Turned a ∷ es) fs slice rest = (slice.1, driven_after (n - 1) (turn_next I W a) es fs slice.2 rest)
+  driven_after n W (Opened boot o ∷ es) fs slice rest = absurd slice
+  driven_after n W (Asked q o ∷ es) fs slice rest = absurd slice
+  driven_after n W (Unread ∷ es) fs slice rest = absurd slice
+  driven_after n W (Began v ∷ es) fs slice rest = absurd slice
+  driven_after n W (Moved v h ∷ es) fs slice rest = absurd slice
+
+  -- The events of a slice are turns.
+  pub slice_served : (n : ℕ) (W : World) (es : List Event) → IsSlice I n W es → are_served es ≡ true
+  slice_served n W [] slice = refl
+  slice_served n W (Turned a ∷ es) slice = slice_served (n - 1) (turn_next I W a) es slice.2
+  slice_served n W (Opened boot o ∷ es) slice = absurd slice
+  slice_served n W (Asked q o ∷ es) slice = absurd slice
+  slice_served n W (Unread ∷ es) slice = absurd slice
+  slice_served n W (Began v ∷ es) slice = absurd slice
+  slice_served n W (Moved v h ∷ es) slice = absurd slice
+
+  pub driven_served : (W : World) (es : List Event) → IsDriven I W es → are_served es ≡ true
+  driven_served W [] driven = refl
+  driven_served W (Turned a ∷ es) driven = driven_served (turn_next I W a) es driven.1
+  driven_served W (Opened boot o ∷ es) driven = absurd driven
+  driven_served W (Asked q o ∷ es) driven = absurd driven
+  driven_served W (Unread ∷ es) driven = absurd driven
+  driven_served W (Began v ∷ es) driven = absurd driven
+  driven_served W (Moved v h ∷ es) driven = absurd driven
+
+  -- ---- a whole run
+
+  pub late_at : (W X : World) (es : List Event) (c : Tree) → IsLate I W W es X → Recovers I X c → AtLatePrefix I W es c
+  late_at W X es c (Before is none) r = record {
+    prefix = record { first = []; rest = es; whole = refl; recovers = subst (λ (Z : World). Recovers I Z c) is r };
+    unacknowledged = none;
+  }
+  late_at W X es c (Within first rest whole is none) r = record {
+    prefix = record { first = first; rest = rest; whole = whole; recovers = subst (λ (Z : World). Recovers I Z c) is r };
+    unacknowledged = subst (λ (Z : World). acknowledges_any I Z rest ≡ false) is none;
+  }
+
+  pub further : (W : World) (e : Event) (es : List Event) (c : Tree) → AtPrefix I (next I W e) es c → AtPrefix I W (e ∷ es) c
+  further W e es c at = record { first = e ∷ at.first; rest = at.rest; whole = ap (λ (l : List Event). e ∷ l) at.whole; recovers = at.recovers }
+
+  pub further_late : (W : World) (e : Event) (es : List Event) (c : Tree) → AtLatePrefix I (next I W e) es c → AtLatePrefix I W (e ∷ es) c
+  further_late W e es c at = record {
+    prefix = record {
+      first = e ∷ at.prefix.first;
+      rest = at.prefix.rest;
+      whole = ap (λ (l : List Event). e ∷ l) at.prefix.whole;
+      recovers = at.prefix.recovers;
+    };
+    unacknowledged = at.unacknowledged;
+  }
+
+module _ (I : Image) (good : IsGood I) where
+  -- The world of an image is paid where the world to which it recovers is.
+  pub recovers_paid : (W X : World) (c : Tree) → Recovers I W c → IsWorldOf c X → Paid I W → Paid I X
+  recovers_paid W X c r is paid = crashes_pay I good W X (let same : IsSameStore W X = one_store W X c r.store is.store in same.held) is.job
+      (λ path below. ⊎_elim (λ same. inl (sym (is.etc.each path below) ∙ same)) (λ due. inr due) (r.etc path below)) paid
+
+  -- An opening, and what came after it.
+  pub runs_to : (folder : Folder) (W : World) (boot : Bool) (es : List Event) (old mid new : History) (place : Place) (held : Held) (core now : CoreState) → Starts I W old
+      → OpensTo I folder W W boot place held old mid
+      → are_served es ≡ true → Ran I folder (opened I W boot) (opened I W boot) es mid new core now → RunsTo I W (Opened boot Succeeded ∷ es) old new
+  runs_to folder W boot es old mid new place held core now starts opens served ran = record {
+    store = ran.kept.disk.store;
+    etc = ran.kept.disk.etc;
+    paid = at_prefix;
+    any_moment = any;
+    at_exit = λ c left. ⊎_elim
+        (λ r. record {
+          prefix = record {
+            first = Opened boot Succeeded ∷ es;
+            rest = [];
+            whole = ap (λ (l : List Event). Opened boot Succeeded ∷ l) (sym (append-nil es));
+            recovers = r;
+          };
+          unacknowledged = refl;
+        })
+        (λ r. further_late I W (Opened boot Succeeded) es c (late_at I (opened I W boot) ran.other es c ran.late r))
+        (recovers_now I folder (after I (opened I W boot) es) ran.other new ran.kept.disk c left);
+    image_paid = since_map (AtPrefix I W (Opened boot Succeeded ∷ es)) (λ c. (X : World) → IsWorldOf c X → Paid I X) old new
+        (λ c at X is. recovers_paid (after I W at.first) X c at.recovers is (at_prefix at.first at.rest at.whole)) any;
+  }
+    where
+      opened_kept : IsKept I (opened I W boot)
+      opened_kept = record { fit = opens.fit; paid = opens.disk.paid }
+
+      first_served : (first rest : List Event) → es ≡ first ++ rest → are_served first ≡ true
+      first_served first rest whole = (and_parts (are_served first) (are_served rest) (sym (served-append first rest) ∙ ap are_served (sym whole) ∙ served)).0
+
+      at_prefix : (first rest : List Event) → Opened boot Succeeded ∷ es ≡ first ++ rest → Paid I (after I W first)
+      at_prefix [] rest whole = starts.paid
+      at_prefix (e ∷ first) rest whole =
+          let head : e ≡ Opened boot Succeeded = cc in
+          let tail : es ≡ first ++ rest = cc in
+          subst (λ (f : Event). Paid I (after I (next I W f) first)) (sym head) (files_stay_paid I good (opened I W boot) opened_kept first (first_served first rest tail)).paid
+
+      begun : (c : Tree) → OnTheWay I W W (Opened boot Succeeded ∷ []) c → AtPrefix I W (Opened boot Succeeded ∷ es) c
+      begun c (inl r) = at_start I W (Opened boot Succeeded ∷ es) c r
+      begun c (inr at) = prefix_of_more I W (Opened boot Succeeded ∷ []) es c at
+
+      later : (c : Tree) → OnTheWay I (opened I W boot) (opened I W boot) es c → AtPrefix I W (Opened boot Succeeded ∷ es) c
+      later c (inl r) = further I W (Opened boot Succeeded) es c (at_start I (opened I W boot) es c r)
+      later c (inr at) = further I W (Opened boot Succeeded) es c at
+
+      any : EachSince (AtPrefix I W (Opened boot Succeeded ∷ es)) old new
+      any = since_joined (AtPrefix I W (Opened boot Succeeded ∷ es)) old mid new
+          (since_map (OnTheWay I W W (Opened boot Succeeded ∷ [])) (AtPrefix I W (Opened boot Succeeded ∷ es)) old mid begun opens.moments)
+          (since_map (OnTheWay I (opened I W boot) (opened I W boot) es) (AtPrefix I W (Opened boot Succeeded ∷ es)) mid new later ran.moments)

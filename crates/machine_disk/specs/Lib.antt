@@ -1,0 +1,4 @@
+pub mod Store
+pub mod Kept
+pub mod Ran
+pub mod Laws

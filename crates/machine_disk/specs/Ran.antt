@@ -1,0 +1,119 @@
+-- A call that makes these events of the machine, crash included.
+use Rattle.std.specs.Prelude.{◌≡◌, ◌⊎◌, ℕ, ◌-◌, ◌≤◌, Bool, true, false, List, [], ◌∷◌, ◌++◌}
+use Rattle.outside.specs.Tree.{Tree}
+use Rattle.outside.specs.History.{History, tree_of, EachImage, IsSettled}
+use Rattle.outside.specs.Since.{EachSince}
+use Rattle.settings_machine.specs.World.{Image, World, is_running}
+use Rattle.settings_machine.specs.Requests.{Request, Reply}
+use Rattle.settings_machine.specs.Step.{Outcome, Answered, WithoutMemory, Unopened, Faulted, request_next, turn_next, opened}
+use Rattle.settings_machine.specs.Events.{Event, Opening, Succeeded, Failing, Opened, Asked, Turned, after, acknowledges_any, faulted_after}
+use Rattle.settings_machine.specs.Paid.{Paid, IsFit}
+use Rattle.version_links.specs.declared.chain.Place.{Place}
+use Rattle.machine_disk.specs.Store.{HasStore, HasFiles, Recovers, IsReadyAt}
+use Rattle.settings_tree.specs.declared.held.Held.{Held}
+use Rattle.machine_disk.specs.Kept.{Folder, DiskAt, CoreState, Kept}
+
+-- A crash that leaves this image recovers to the world after the first of the events.
+pub record AtPrefix (I : Image) (W : World) (events : List Event) (image : Tree) : Type 0 where
+  pub first : List Event
+  pub rest : List Event
+  pub whole : events ≡ first ++ rest
+  pub recovers : Recovers I (after I W first) image
+
+-- The same, and none of the events after it is acknowledged.
+pub record AtLatePrefix (I : Image) (W : World) (events : List Event) (image : Tree) : Type 0 where
+  pub prefix : AtPrefix I W events image
+  pub unacknowledged : acknowledges_any I (after I W prefix.first) prefix.rest ≡ false
+
+-- X is V, or the world after the first of the events, and none of the events after it is acknowledged.
+pub data IsLate (I : Image) (W V : World) (events : List Event) (X : World) : Type 0 where
+  Before : X ≡ V → acknowledges_any I W events ≡ false → IsLate I W V events X
+  Within : (first rest : List Event) → events ≡ first ++ rest → X ≡ after I W first → acknowledges_any I X rest ≡ false → IsLate I W V events X
+
+-- A crash at a moment since the start recovers to V, or to a world on the way.
+abbrev pub OnTheWay : Image → World → World → List Event → Tree → Type 0
+OnTheWay I W V events image = Recovers I V image ⊎ AtPrefix I W events image
+
+-- From W the events lead on, on the disk and in the core.
+pub record Ran (I : Image) (folder : Folder) (W V : World) (events : List Event) (old new : History) (before now : CoreState) : Type 0 where
+  pub other : World
+  pub late : IsLate I W V events other
+  pub kept : Kept I folder (after I W events) other new now
+  pub flag : now.faulted ≡ faulted_after before.faulted events
+  pub moments : EachSince (OnTheWay I W V events) old new
+
+-- ---- the forms of the calls
+
+-- The opening that comes before a request: none where no call of the disk has failed, or where it was refused; else one that
+-- succeeded where the request was answered, and one that failed only where the request was given up.
+abbrev pub Reopens : Bool → Outcome → List Event → Type 0
+Reopens false (Unopened at) first = ⊥
+Reopens false o first = first ≡ []
+Reopens true (Unopened at) first = first ≡ []
+Reopens true Answered first = first ≡ Opened false Succeeded ∷ []
+Reopens true WithoutMemory first = (opening : Opening) × (first ≡ Opened false opening ∷ [])
+Reopens true (Faulted taken) first = (opening : Opening) × (first ≡ Opened false opening ∷ []) × ((opening ≡ Succeeded) ⊎ (taken ≡ false))
+
+-- One request, answered by the machine, with the opening that comes before it.
+pub record Handled (I : Image) (faulted : Bool) (W : World) (q : Request) (reply : Reply) (events : List Event) : Type 0 where
+  pub outcome : Outcome
+  pub first : List Event
+  pub reopens : Reopens faulted outcome first
+  pub made : events ≡ first ++ Asked q outcome ∷ []
+  pub replied : reply ≡ (request_next I (after I W first) q outcome).reply
+
+-- Turns until so many were made or no job runs.
+abbrev pub IsSlice : Image → ℕ → World → List Event → Type 0
+IsSlice I n W [] = (n ≡ 0) ⊎ (is_running W.job ≡ false)
+IsSlice I n W (Turned a ∷ es) = (1 ≤ n) × (is_running W.job ≡ true) × IsSlice I (n - 1) (turn_next I W a) es
+IsSlice I n W (_ ∷ es) = ⊥
+
+-- Turns until no job runs.
+abbrev pub IsDriven : Image → World → List Event → Type 0
+IsDriven I W [] = is_running W.job ≡ false
+IsDriven I W (Turned a ∷ es) = (is_running W.job ≡ true) × IsDriven I (turn_next I W a) es
+IsDriven I W (_ ∷ es) = ⊥
+
+-- ---- openings
+
+-- An opening that succeeded: the disk is at the opened world alone, which is fit and of format 2, and the store is ready at its
+-- place with what is held.
+pub record OpensTo (I : Image) (folder : Folder) (W V : World) (boot : Bool) (place : Place) (held : Held) (old new : History) : Type 0 where
+  pub fit : IsFit I (opened I W boot)
+  pub format : W.format ≡ 2
+  pub disk : DiskAt I folder (opened I W boot) (opened I W boot) new
+  pub ready : IsReadyAt place held new
+  pub moments : EachSince (OnTheWay I W V (Opened boot Succeeded ∷ [])) old new
+
+-- One that failed was taken or not.
+pub record OpensNot (I : Image) (folder : Folder) (W V : World) (boot : Bool) (old new : History) : Type 0 where
+  pub taken : Bool
+  pub other : World
+  pub late : IsLate I W V (Opened boot (Failing taken) ∷ []) other
+  pub disk : DiskAt I folder (after I W (Opened boot (Failing taken) ∷ [])) other new
+  pub moments : EachSince (OnTheWay I W V (Opened boot (Failing taken) ∷ [])) old new
+
+-- ---- a run
+
+-- The tree's world: its store's parts, its configuration files, and an idle job.
+pub record IsWorldOf (image : Tree) (X : World) : Type 0 where
+  pub store : HasStore X image
+  pub etc : HasFiles X.etc image
+  pub job : is_running X.job ≡ false
+
+-- A run of these events, and what a crash at any moment leaves of it.
+pub record RunsTo (I : Image) (W : World) (events : List Event) (old new : History) : Type 0 where
+  pub store : HasStore (after I W events) (tree_of new)
+  pub etc : HasFiles (after I W events).etc (tree_of new)
+  pub paid : (first rest : List Event) → events ≡ first ++ rest → Paid I (after I W first)
+  pub any_moment : EachSince (AtPrefix I W events) old new
+  pub at_exit : EachImage (AtLatePrefix I W events) new
+  pub image_paid : EachSince (λ c. (X : World) → IsWorldOf c X → Paid I X) old new
+
+-- Before an opening: the disk is settled and has W's store and files, no job runs, and W is paid for the image that is there.
+pub record Starts (I : Image) (W : World) (h : History) : Type 0 where
+  pub store : HasStore W (tree_of h)
+  pub etc : HasFiles W.etc (tree_of h)
+  pub job : is_running W.job ≡ false
+  pub paid : Paid I W
+  pub settled : IsSettled h

@@ -1,0 +1,7 @@
+//! The map machine on a disk: what of a world stands there and in the core between two events, and what a call that makes
+//! events of it leaves, crash included.
+#![tactic(auto)]
+
+mod law;
+
+pub use law::laws;
