@@ -1,0 +1,61 @@
+-- The keys of a patch begin with `settings`, and settings are not asked for by both keys and a prefix.
+use Rattle.std.proofs.Common.{◌≡◌, ℕ, List, ◌∷◌, ◌⊎◌, inl, inr, Option, Some, None, Ok, ok_or, take, IsTrue, suc, [], arith, codes, refl, sym, ap, ◌∙◌}
+use Rattle.std.specs.Prelude.{All}
+use Rattle.std.specs.Map.{keys_of}
+use Rattle.std.proofs.lemmas.List.Elements.{All-nil, All-cons}
+use Rattle.key_names.specs.Key.{is_prefix}
+use Rattle.serde_json.specs.Data.{Data}
+use Rattle.json_trees.specs.Json.{data_of}
+use Rattle.json_trees.specs.Tree.{Path, tree_pairs, flattened, pending_leaf}
+use Rattle.json_trees.specs.declared.pending.Pending.{Pending}
+use Rattle.json_trees.specs.declared.tree_error.TreeError.TheVariants.{NotJson}
+use Rattle.json_trees.specs.Collected.{result_and_then}
+use Rattle.json_trees.proofs.Flat.{All_below-tree_pairs}
+use Rattle.settings_tree.specs.Content.{settings_key}
+use Rattle.api_http.specs.Questions.{Question, Spells, at_root, at_os, at_settings, at_patch, at_services, at_files, at_affected, at_pending, at_drop, at_list, at_commit, at_apply, at_commit_and_apply, at_job, GivesKeysOrPrefix, by_keys, by_prefix, by_neither, IsProper}
+use Rattle.api_http.specs.declared.route.Route.{Route}
+use Rattle.api_http.specs.Query.{Pair}
+
+-- a key that begins with the segment `settings` is below it, or is it
+begins : (key : Path) → take 1 key ≡ settings_key → IsTrue (is_prefix settings_key key)
+begins [] e = cc
+begins (name ∷ rest) e = let same : name ∷ [] ≡ settings_key = e in rw (name_is name same) refl
+  where
+    name_is : (name : List ℕ) → name ∷ [] ≡ settings_key → name ≡ codes "settings"
+    name_is name e = cc
+
+-- the keys of the pairs of a text that stands at a path begin with this path
+text_below : (o : Option Data) (body : List ℕ) (pairs : List (Path × Pending)) → data_of body ≡ o → flattened pending_leaf settings_key body ≡ Ok pairs → All (λ key. take 1 key ≡ settings_key) (keys_of pairs)
+text_below (Some d) body pairs is e = All_below-tree_pairs pending_leaf settings_key d pairs (sym (ap (λ r. result_and_then (tree_pairs pending_leaf settings_key) (ok_or r NotJson)) is) ∙ e)
+text_below None body pairs is e = let never = sym (ap (λ r. result_and_then (tree_pairs pending_leaf settings_key) (ok_or r NotJson)) is) ∙ e in cc
+
+-- what holds of the keys holds of the pairs
+All-unmap : (pairs : List (Path × Pending)) → All (λ key. take 1 key ≡ settings_key) (keys_of pairs) → All (λ pair. IsTrue (is_prefix settings_key pair.0)) pairs
+All-unmap [] h = All-nil (λ (pair : Path × Pending). IsTrue (is_prefix settings_key pair.0))
+All-unmap (pair ∷ pairs) h = All-cons (λ (pair : Path × Pending). IsTrue (is_prefix settings_key pair.0)) pair pairs (begins pair.0 (h 0 pair.0 (omega arith))) (All-unmap pairs (λ k d lt. h (suc k) d (omega arith)))
+
+-- the keys of a patch begin with `settings`
+pub patch_proper : (body : List ℕ) (pairs : List (Path × Pending)) → flattened pending_leaf settings_key body ≡ Ok pairs → All (λ pair. IsTrue (is_prefix settings_key pair.0)) pairs
+patch_proper body pairs e = All-unmap pairs (text_below _ body pairs refl e)
+
+either_proper : (pairs : List Pair) (keys : Option (List Path)) (prefix : Option Path) → GivesKeysOrPrefix pairs keys prefix → (keys ≡ None) ⊎ (prefix ≡ None)
+either_proper pairs _ _ (by_keys l a) = inr refl
+either_proper pairs _ _ (by_prefix v k a s) = inl refl
+either_proper pairs _ _ (by_neither a) = inl refl
+
+-- what a query and a body spell is proper
+pub spelled_proper : (pairs : List Pair) (body : List ℕ) (r : Route) (q : Question) → Spells pairs body r q → IsProper q
+spelled_proper pairs body _ _ (at_settings keys prefix a) = either_proper pairs keys prefix a
+spelled_proper pairs body _ _ (at_patch tx changes _ flat) = patch_proper body changes flat
+spelled_proper pairs body _ _ (at_root _) = tt
+spelled_proper pairs body _ _ (at_os _) = tt
+spelled_proper pairs body _ _ (at_services _ _) = tt
+spelled_proper pairs body _ _ (at_files _ _) = tt
+spelled_proper pairs body _ _ (at_affected _ _) = tt
+spelled_proper pairs body _ _ (at_pending _ _) = tt
+spelled_proper pairs body _ _ (at_drop _ _) = tt
+spelled_proper pairs body _ _ (at_list _) = tt
+spelled_proper pairs body _ _ (at_commit _ _) = tt
+spelled_proper pairs body _ _ (at_apply _) = tt
+spelled_proper pairs body _ _ (at_commit_and_apply _ _) = tt
+spelled_proper pairs body _ _ (at_job _) = tt

@@ -1,0 +1,109 @@
+-- A query that spells a question has no fault.
+use Rattle.std.proofs.Common.{◌≡◌, ◌<◌, ◌≤◌, ℕ, zero, suc, true, List, [], ◌∷◌, ◌++◌, length, codes, Contains, Option, refl, sym, ap, ◌∙◌, subst, arith}
+use Rattle.api_http.specs.declared.route.Route.{Route}
+use Rattle.api_http.specs.declared.plan.Plan.{Plan}
+use Rattle.api_http.specs.declared.plan.Plan.TheVariants.{Ready, Patch}
+use Rattle.api_http.specs.Plans.{IsPlan}
+use Rattle.api_http.specs.Query.{Pair, is_among, IsInGrammar, a_transaction, some_keys, a_prefix, some_names, QueryFault, unknown, repeated, outside, both, missing, HasQueryFault}
+use Rattle.api_http.specs.Questions.{Question, NamesTx, named, unnamed, GivesNames, by_names, without_names, GivesKeys, GivesKeysOrPrefix, by_keys, by_prefix, by_neither, Spells, at_root, at_os, at_settings, at_patch, at_services, at_files, at_affected, at_pending, at_drop, at_list, at_commit, at_apply, at_commit_and_apply, at_job}
+
+-- ---- a query without pairs, and one of a single pair
+
+in_none : (p : Pair) → Contains [] p → ⊥
+in_none p (k, within, _) = omega (arith, within)
+
+in_one : (q p : Pair) → Contains (q ∷ []) p → q ≡ p
+in_one q p (zero, within, is) = is
+in_one q p (suc k, within, is) = absurd (omega (arith, within))
+
+never_two : (pairs : List Pair) (p q : Pair) (front middle back : List Pair) → length pairs < 2 → pairs ≡ front ++ p ∷ (middle ++ q ∷ back) → ⊥
+never_two pairs p q front middle back few is = omega (arith, few, ap length is, lengths front)
+  where
+    inner : (xs : List Pair) → 1 ≤ length (xs ++ q ∷ back)
+    inner [] = omega arith
+    inner (x ∷ xs) = omega (arith, inner xs)
+
+    lengths : (xs : List Pair) → 2 ≤ length (xs ++ p ∷ (middle ++ q ∷ back))
+    lengths [] = omega (arith, inner middle)
+    lengths (x ∷ xs) = omega (arith, lengths xs)
+
+-- no pairs are no fault where none are wanted
+pub none_sound : (names : List (List ℕ)) (pairs : List Pair) → pairs ≡ [] → ¬ QueryFault names [] pairs
+none_sound names pairs is (unknown n v has _) = in_none (n, v) (subst (λ l. Contains l (n, v)) is has)
+none_sound names pairs is (repeated n v w front middle back at) = never_two pairs (n, v) (n, w) front middle back (omega (arith, ap length is)) at
+none_sound names pairs is (outside n v has _) = in_none (n, v) (subst (λ l. Contains l (n, v)) is has)
+none_sound names pairs is (both v w has _) = in_none (codes "keys", v) (subst (λ l. Contains l (codes "keys", v)) is has)
+none_sound names pairs is (missing n (k, within, _) _) = omega (arith, within)
+
+name_is : (n v m w : List ℕ) → ◌≡◌ {A = Pair} (n, v) (m, w) → n ≡ m
+name_is n v m w e = ap (λ (p : Pair). p.0) e
+
+-- a pair of an allowed name with a value of its grammar is no fault, if it is the one that is wanted
+pub one_sound : (names needed : List (List ℕ)) (pairs : List Pair) (name value : List ℕ) → pairs ≡ (name, value) ∷ [] → is_among names name ≡ true → IsInGrammar name value
+    → ((n : List ℕ) → Contains needed n → n ≡ name) → ¬ QueryFault names needed pairs
+one_sound names needed pairs name value is among valid only (unknown n v has strange) =
+    let same = in_one (name, value) (n, v) (subst (λ l. Contains l (n, v)) is has) in
+    let never = sym among ∙ ap (λ (p : Pair). is_among names p.0) same ∙ strange in cc
+one_sound names needed pairs name value is among valid only (repeated n v w front middle back at) = never_two pairs (n, v) (n, w) front middle back (omega (arith, ap length is)) at
+one_sound names needed pairs name value is among valid only (outside n v has wrong) =
+    let same = in_one (name, value) (n, v) (subst (λ l. Contains l (n, v)) is has) in
+    wrong (subst (λ (p : Pair). IsInGrammar p.0 p.1) same valid)
+one_sound names needed pairs name value is among valid only (both v w has has') =
+    let first = name_is _ _ _ _ (in_one (name, value) (codes "keys", v) (subst (λ l. Contains l (codes "keys", v)) is has)) in
+    let second = name_is _ _ _ _ (in_one (name, value) (codes "prefix", w) (subst (λ l. Contains l (codes "prefix", w)) is has')) in
+    omega (arith, ap length (sym first ∙ second))
+one_sound names needed pairs name value is among valid only (missing n needs none) =
+    let here : Contains {X = Pair} ((name, value) ∷ []) (name, value) = (0, omega arith, refl) in
+    let there : Contains {X = Pair} ((name, value) ∷ []) (n, value) = subst (λ (m : List ℕ). Contains {X = Pair} ((name, value) ∷ []) (m, value)) (sym (only n needs)) here in
+    none value (subst (λ (l : List Pair). Contains l (n, value)) (sym is) there)
+
+nothing_needed : (name n : List ℕ) → Contains [] n → n ≡ name
+nothing_needed name n (k, within, _) = absurd (omega (arith, within))
+
+one_needed : (name n : List ℕ) → Contains (name ∷ []) n → n ≡ name
+one_needed name n (zero, within, is) = sym is
+one_needed name n (suc k, within, is) = absurd (omega (arith, within))
+
+-- ---- each kind of query
+
+-- a query that names a transaction has no fault
+pub tx_sound : (pairs : List Pair) (tx : List ℕ) → NamesTx pairs tx → ¬ QueryFault (codes "tx" ∷ []) [] pairs
+tx_sound pairs tx (named is valid) = one_sound _ [] pairs (codes "tx") tx is refl (a_transaction refl valid) (nothing_needed (codes "tx"))
+tx_sound pairs tx (unnamed is _) = none_sound _ pairs is
+
+-- a query that gives names has no fault
+pub names_sound : (pairs : List Pair) (names : Option (List (List ℕ))) → GivesNames pairs names → ¬ QueryFault (codes "names" ∷ []) [] pairs
+names_sound pairs _ (by_names value listed is lists) = one_sound _ [] pairs (codes "names") value is refl (some_names refl listed lists) (nothing_needed (codes "names"))
+names_sound pairs _ (without_names is) = none_sound _ pairs is
+
+-- a query that gives keys has no fault
+pub keys_sound : (pairs : List Pair) (keys : List (List (List ℕ))) → GivesKeys pairs keys → ¬ QueryFault (codes "keys" ∷ []) (codes "keys" ∷ []) pairs
+keys_sound pairs keys gives = one_sound _ (codes "keys" ∷ []) pairs (codes "keys") gives.value gives.given refl (some_keys refl keys gives.lists) (one_needed (codes "keys"))
+
+-- a query that gives keys or a prefix has no fault
+pub either_sound : (pairs : List Pair) (keys : Option (List (List (List ℕ)))) (prefix : Option (List (List ℕ))) → GivesKeysOrPrefix pairs keys prefix → ¬ QueryFault (codes "keys" ∷ codes "prefix" ∷ []) [] pairs
+either_sound pairs _ _ (by_keys keys gives) = one_sound _ [] pairs (codes "keys") gives.value gives.given refl (some_keys refl keys gives.lists) (nothing_needed (codes "keys"))
+either_sound pairs _ _ (by_prefix value key is spells) = one_sound _ [] pairs (codes "prefix") value is refl (a_prefix refl key spells) (nothing_needed (codes "prefix"))
+either_sound pairs _ _ (by_neither is) = none_sound _ pairs is
+
+-- a query that spells a question has no fault of its route
+pub spells_sound : (pairs : List Pair) (body : List ℕ) (r : Route) (q : Question) → Spells pairs body r q → ¬ HasQueryFault r pairs
+spells_sound pairs body _ _ (at_root is) = none_sound _ pairs is
+spells_sound pairs body _ _ (at_os is) = none_sound _ pairs is
+spells_sound pairs body _ _ (at_settings keys prefix gives) = either_sound pairs keys prefix gives
+spells_sound pairs body _ _ (at_patch tx changes names _) = tx_sound pairs tx names
+spells_sound pairs body _ _ (at_services names gives) = names_sound pairs names gives
+spells_sound pairs body _ _ (at_files names gives) = names_sound pairs names gives
+spells_sound pairs body _ _ (at_affected keys gives) = keys_sound pairs keys gives
+spells_sound pairs body _ _ (at_pending tx names) = tx_sound pairs tx names
+spells_sound pairs body _ _ (at_drop tx names) = tx_sound pairs tx names
+spells_sound pairs body _ _ (at_list is) = none_sound _ pairs is
+spells_sound pairs body _ _ (at_commit tx names) = tx_sound pairs tx names
+spells_sound pairs body _ _ (at_apply is) = none_sound _ pairs is
+spells_sound pairs body _ _ (at_commit_and_apply tx names) = tx_sound pairs tx names
+spells_sound pairs body _ _ (at_job is) = none_sound _ pairs is
+
+-- nor has one that gives a plan
+pub plan_sound : (pairs : List Pair) (r : Route) (plan : Plan) → IsPlan r pairs plan → ¬ HasQueryFault r pairs
+plan_sound pairs r (Ready ask) is = spells_sound pairs [] r _ (is [])
+plan_sound pairs r (Patch tx) is = rw is.0 (tx_sound pairs tx is.1)

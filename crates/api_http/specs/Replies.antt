@@ -1,0 +1,123 @@
+-- The text of replies.
+use Rattle.std.specs.Prelude.{ℕ, Bool, true, false, List, [], ◌∷◌, ◌++◌, length, codes, decimal, refl}
+use Rattle.std.specs.List.{flat_map}
+use Rattle.std.specs.Coded.{Coded, code_by, coded×, coded_ℕ, coded_list}
+use Rattle.json.specs.Token.{Token}
+use Rattle.json.specs.Token as token
+use Rattle.key_names.specs.Key.{printed}
+use Rattle.serde_json.specs.Data.{Data, string, object, Members, no_members, member}
+use Rattle.serde_json.specs.Written.{compact_text}
+use Rattle.api_http.specs.declared.refusal.Refusal.{Refusal}
+use Rattle.api_http.specs.declared.refusal.Refusal.TheVariants.{HeadTooLong, Head, NoPath, Method, Query, Length, BodyTooLong, Body, BadType, NoKey, NoName, NoPending, Memory, DiskFault, Store}
+use Rattle.api_http.specs.declared.answer.Answer.{Answer}
+use Rattle.api_http.specs.declared.answer.Answer.TheVariants.{Json, Empty, Refused}
+use Rattle.api_http.specs.Routes.{methods_of}
+
+-- A reply as it is sent: its status and its bytes.
+pub record Sent : Type 0 where
+  pub status : ℕ
+  pub bytes : List ℕ
+
+-- How the logic stores it; no clause cites this.
+abbrev pub sent_code : Coded Sent
+sent_code = code_by (ℕ × List ℕ) (coded× coded_ℕ (coded_list coded_ℕ)) (λ s. (s.status, s.bytes)) (λ p. record { status = p.0; bytes = p.1 }) (λ _. refl)
+
+-- A status with its phrase.
+abbrev pub Status : Type 0
+Status = ℕ × List ℕ
+
+-- The status of a refusal.
+abbrev pub status_of : Refusal → Status
+status_of HeadTooLong = (413, codes "Content Too Large")
+status_of Head = (400, codes "Bad Request")
+status_of NoPath = (404, codes "Not Found")
+status_of (Method path) = (405, codes "Method Not Allowed")
+status_of Query = (400, codes "Bad Request")
+status_of Length = (411, codes "Length Required")
+status_of BodyTooLong = (413, codes "Content Too Large")
+status_of Body = (400, codes "Bad Request")
+status_of (BadType key wanted) = (400, codes "Bad Request")
+status_of (NoKey key) = (404, codes "Not Found")
+status_of (NoName name) = (404, codes "Not Found")
+status_of (NoPending tx) = (422, codes "Unprocessable Content")
+status_of Memory = (503, codes "Service Unavailable")
+status_of DiskFault = (500, codes "Internal Server Error")
+status_of (Store place) = (500, codes "Internal Server Error")
+
+-- A name of a body, and its text.
+abbrev pub Entry : Type 0
+Entry = List ℕ × List ℕ
+
+-- What kind of error it is.
+abbrev pub error : List ℕ → Entry
+error word = (codes "error", word)
+
+-- The names of the body of a refusal, with their texts.
+abbrev pub entries_of : Refusal → List Entry
+entries_of HeadTooLong = error (codes "head-too-long") ∷ []
+entries_of Head = error (codes "head") ∷ []
+entries_of NoPath = error (codes "path") ∷ []
+entries_of (Method path) = error (codes "method") ∷ []
+entries_of Query = error (codes "query") ∷ []
+entries_of Length = error (codes "length") ∷ []
+entries_of BodyTooLong = error (codes "body-too-long") ∷ []
+entries_of Body = error (codes "body") ∷ []
+entries_of (BadType key wanted) = error (codes "type") ∷ (codes "key", printed key) ∷ (codes "wanted", wanted) ∷ []
+entries_of (NoKey key) = error (codes "key") ∷ (codes "key", printed key) ∷ []
+entries_of (NoName name) = error (codes "name") ∷ (codes "name", name) ∷ []
+entries_of (NoPending tx) = error (codes "no-pending") ∷ (codes "tx", tx) ∷ []
+entries_of Memory = error (codes "memory") ∷ []
+entries_of DiskFault = error (codes "disk") ∷ []
+entries_of (Store place) = (codes "at", place) ∷ error (codes "store") ∷ []
+
+-- The members of a JSON object with these names and texts.
+abbrev pub members_of : List Entry → Members
+members_of [] = no_members
+members_of (e ∷ es) = member e.0 (string e.1) (members_of es)
+
+-- The body of a refusal: a compact JSON object.
+abbrev pub refusal_text : Refusal → List ℕ
+refusal_text refusal = compact_text (object (members_of (entries_of refusal)))
+
+-- Texts joined by comma and space.
+abbrev pub listed : List (List ℕ) → List ℕ
+listed [] = []
+listed (m ∷ ms) = m ++ flat_map (λ n. codes ", " ++ n) ms
+
+-- The field with the methods that a path has, where another was asked for.
+abbrev pub allow_field : Refusal → List ℕ
+allow_field (Method path) = codes "Allow: " ++ listed (methods_of path) ++ codes "\r\n"
+allow_field _ = []
+
+-- The reply with this status, this further field if any, and this body.
+abbrev pub with_body : Status → List ℕ → List ℕ → Sent
+with_body status field body = record {
+  status = status.0;
+  bytes = codes "HTTP/1.1 " ++ decimal status.0 ++ codes " " ++ status.1 ++ codes "\r\nContent-Type: application/json\r\nContent-Length: " ++ decimal (length body) ++ codes "\r\n" ++ field ++ codes "Connection: close\r\n\r\n" ++ body;
+}
+
+-- The reply of a refusal.
+abbrev pub refused : Refusal → Sent
+refused refusal = with_body (status_of refusal) (allow_field refusal) (refusal_text refusal)
+
+-- The reply of an answer.
+abbrev pub reply_text : Answer → Sent
+reply_text (Json text) = with_body (200, codes "OK") [] text
+reply_text Empty = record { status = 204; bytes = codes "HTTP/1.1 204 No Content\r\nConnection: close\r\n\r\n" }
+reply_text (Refused refusal) = refused refusal
+
+-- ---- for private clauses
+
+-- The texts as they follow, of which the first may be the first of all.
+abbrev pub going_on : Bool → List (List ℕ) → List ℕ
+going_on true ms = listed ms
+going_on false ms = flat_map (λ n. codes ", " ++ n) ms
+
+-- The JSON value that the body of a refusal is.
+abbrev pub refusal_data : Refusal → Data
+refusal_data refusal = object (members_of (entries_of refusal))
+
+-- The tokens that the names and texts are written by.
+abbrev pub tokens_of : List Entry → List Token
+tokens_of [] = []
+tokens_of (e ∷ es) = token.key e.0 ∷ token.string e.1 ∷ tokens_of es

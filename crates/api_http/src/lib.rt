@@ -1,0 +1,30 @@
+//! Requests and replies as bytes: which bytes are one whole request and what it asks for, why others
+//! are refused, and the text of a reply.
+#![tactic(auto)]
+
+mod answer;
+mod ask;
+mod body;
+mod fields;
+mod head;
+mod plan;
+mod query;
+mod query_error;
+mod reading;
+mod refusal;
+mod refusal_body;
+mod reply;
+mod request;
+mod route;
+mod target;
+mod values;
+mod verdict;
+mod wanted;
+
+pub use answer::Answer;
+pub use ask::Ask;
+pub use reading::Reading;
+pub use refusal::Refusal;
+pub use reply::{Reply, print_reply};
+pub use request::read_request;
+pub use wanted::bytes_wanted;

@@ -1,0 +1,62 @@
+//! Why a request is refused.
+
+use key_names::{Key, Text};
+use settings_maps::TxName;
+
+/// Why a request is refused, in the order in which the causes are looked for, each with its status.
+/// Those up to `Body` are told by the bytes of the request alone.
+#[derive(Debug, Drop)]
+pub enum Refusal {
+    /// 413: the first 16,384 bytes hold no whole head, and show no fault.
+    HeadTooLong,
+    /// 400: the bytes don't begin with a head of a request, or it has over 64 fields or 66 lines, or
+    /// more than one Content-Length, or one that is no number.
+    Head,
+    /// 404: there is no such path.
+    NoPath,
+    /// 405: the path has no such method.
+    Method {
+        /// The path, one of those that there are.
+        path: Text,
+    },
+    /// 400: the query has an unknown name, one twice, or a value outside its grammar, gives `keys`
+    /// together with `prefix`, or lacks a name that is wanted.
+    Query,
+    /// 411: there is a Transfer-Encoding, so Content-Length doesn't tell the body's length.
+    Length,
+    /// 413: Content-Length is over 1,048,576 bytes.
+    BodyTooLong,
+    /// 400: the body of a patch is no tree of settings.
+    Body,
+    /// 400: the type of a pending pair refuses its value, or no row of types has the key of a removal.
+    BadType {
+        /// The first such key.
+        key: Key,
+        /// The word of its type, `nothing` where no row has it.
+        wanted: Text,
+    },
+    /// 404: no live setting has the key.
+    NoKey {
+        /// The key.
+        key: Key,
+    },
+    /// 404: no service or configuration file has the name.
+    NoName {
+        /// The name.
+        name: Text,
+    },
+    /// 422: there is no such transaction to commit.
+    NoPending {
+        /// The transaction.
+        tx: TxName,
+    },
+    /// 503: memory was wanting. It says nothing of the request.
+    Memory,
+    /// 500: a call of the disk failed.
+    DiskFault,
+    /// 500: the store could not be opened again after a fault of the disk.
+    Store {
+        /// The path, file or key that was at fault; empty where there is no store.
+        at: Text,
+    },
+}

@@ -1,0 +1,218 @@
+//! Replies.
+ghost use Rattle.std.specs.Prelude.{◌≡◌, ◌++◌, [], IfOk, OnOk, map, codes, decimal};
+ghost use Rattle.api_http.specs.Routes.{row_of, methods_in};
+ghost use Rattle.api_http.specs.Replies.{status_of, listed, allow_field, with_body, refused, reply_text};
+
+use crate::refusal_body::refusal_body;
+use crate::route::{ROWS, Row};
+use crate::{Answer, Refusal};
+use itoa::Buffer;
+use key_names::Text;
+use std::alloc::{AllocError, Global};
+use std::marker::Model;
+
+// The bytes of a reply: fixed ones take no memory.
+#[derive(Debug, Drop)]
+enum ReplyBytes {
+    Fixed(&'static [u8]),
+    Made(Vec<u8>),
+}
+
+/// A reply: its status, and its bytes as they are sent, head and body.
+#[derive(Debug, Drop)]
+pub struct Reply {
+    status: u16,
+    bytes: ReplyBytes,
+}
+
+impl Model for Reply {
+    ghost use Rattle.api_http.specs.Replies.{Sent, sent_code};
+    ghost use Rattle.api_http.specs.ReplyBytes.{bytes_of};
+
+    ghost Value = { Sent };
+
+    ghost coded = { sent_code };
+
+    ghost view = { λ r. record { status = r.status; bytes = bytes_of r.bytes } };
+}
+
+const NO_MEMORY: &[u8; 125] =
+    b"HTTP/1.1 503 Service Unavailable\r\nContent-Type: application/json\r\nContent-Length: 18\r\nConnection: close\r\n\r\n{\"error\":\"memory\"}";
+
+const DISK_FAULT: &[u8; 125] =
+    b"HTTP/1.1 500 Internal Server Error\r\nContent-Type: application/json\r\nContent-Length: 16\r\nConnection: close\r\n\r\n{\"error\":\"disk\"}";
+
+const DONE: &[u8; 46] = b"HTTP/1.1 204 No Content\r\nConnection: close\r\n\r\n";
+
+impl Reply {
+    /// The reply of `Refusal::Memory`, as `print_reply` prints it. It is fixed, and takes no memory.
+    pub fn memory() -> Reply
+        ensures { result ≡ refused Refusal.Memory }
+    {
+        Reply {
+            status: 503,
+            bytes: ReplyBytes::Fixed(NO_MEMORY),
+        }
+    }
+
+    /// The reply of `Refusal::DiskFault`, as `print_reply` prints it. It is fixed, and takes no memory.
+    pub fn disk() -> Reply
+        ensures { result ≡ refused Refusal.DiskFault }
+    {
+        Reply {
+            status: 500,
+            bytes: ReplyBytes::Fixed(DISK_FAULT),
+        }
+    }
+
+    /// The number of its status line. It takes no memory.
+    pub fn status(&self) -> u16
+        ensures { result ≡ self.now.status }
+    {
+        self.status
+    }
+
+    /// All its bytes. It takes no memory.
+    pub fn bytes(&self) -> &[u8]
+        ensures { result.now ≡ self.now.bytes }
+    {
+        match &self.bytes {
+            ReplyBytes::Fixed(bytes) => *bytes,
+            ReplyBytes::Made(bytes) => bytes.as_slice(),
+        }
+    }
+}
+
+fn status_of(refusal: &Refusal) -> (u16, &'static str)
+    ensures number { result.0 ≡ (status_of refusal.now).0 }
+    ensures phrase { result.1.now ≡ (status_of refusal.now).1 }
+{
+    match refusal {
+        Refusal::HeadTooLong => (413, "Content Too Large"),
+        Refusal::Head => (400, "Bad Request"),
+        Refusal::NoPath => (404, "Not Found"),
+        Refusal::Method { .. } => (405, "Method Not Allowed"),
+        Refusal::Query => (400, "Bad Request"),
+        Refusal::Length => (411, "Length Required"),
+        Refusal::BodyTooLong => (413, "Content Too Large"),
+        Refusal::Body => (400, "Bad Request"),
+        Refusal::BadType { .. } => (400, "Bad Request"),
+        Refusal::NoKey { .. } => (404, "Not Found"),
+        Refusal::NoName { .. } => (404, "Not Found"),
+        Refusal::NoPending { .. } => (422, "Unprocessable Content"),
+        Refusal::Memory => (503, "Service Unavailable"),
+        Refusal::DiskFault => (500, "Internal Server Error"),
+        Refusal::Store { .. } => (500, "Internal Server Error"),
+    }
+}
+
+// Adds the methods that the rows give the path, joined by comma and space.
+fn push_methods(out: &mut Vec<u8>, rows: &[Row], path: &[u8]) -> Result<(), AllocError>
+    ensures { OnOk result (out.new.items
+        ≡ out.old.items ++ listed (methods_in (map row_of rows.now) path.now)) }
+{
+    let mut first = true;
+    for (row_path, method, _) in rows {
+        if row_path.as_bytes() == path {
+            if !first {
+                out.extend_from_slice(b", ")?;
+            }
+            out.extend_from_slice(method.as_bytes())?;
+            first = false;
+        }
+    }
+    Ok(())
+}
+
+// Adds the field with the methods that the rows give the path.
+fn push_allowed(out: &mut Vec<u8>, rows: &[Row], path: &[u8]) -> Result<(), AllocError>
+    ensures { OnOk result (out.new.items ≡ out.old.items
+        ++ (codes "Allow: " ++ listed (methods_in (map row_of rows.now) path.now) ++ codes "\r\n")) }
+{
+    out.extend_from_slice(b"Allow: ")?;
+    push_methods(out, rows, path)?;
+    out.extend_from_slice(b"\r\n")
+}
+
+// Adds the field with the methods of a path, where another was asked for.
+fn push_allow(out: &mut Vec<u8>, refusal: &Refusal) -> Result<(), AllocError>
+    ensures { OnOk result (out.new.items ≡ out.old.items ++ allow_field refusal.now) }
+{
+    match refusal {
+        Refusal::Method { path } => push_allowed(out, &ROWS, path.as_str().as_bytes()),
+        _ => Ok(()),
+    }
+}
+
+// The status line, and the fields that tell of the body.
+fn front_of(alloc: Global, status: u16, phrase: &str, size: usize) -> Result<Vec<u8>, AllocError>
+    ensures { IfOk result (λ out. out.items ≡ codes "HTTP/1.1 " ++ decimal status ++ codes " " ++ phrase.now
+        ++ codes "\r\nContent-Type: application/json\r\nContent-Length: " ++ decimal size ++ codes "\r\n") }
+{
+    let mut buffer = Buffer::new();
+    let mut out = Vec::from_slice(alloc, b"HTTP/1.1 ")?;
+    out.extend_from_slice(buffer.format(status).as_bytes())?;
+    out.extend_from_slice(b" ")?;
+    out.extend_from_slice(phrase.as_bytes())?;
+    out.extend_from_slice(b"\r\nContent-Type: application/json\r\nContent-Length: ")?;
+    out.extend_from_slice(buffer.format(size).as_bytes())?;
+    out.extend_from_slice(b"\r\n")?;
+    Ok(out)
+}
+
+// Adds the end of the head, and the body.
+fn push_end(out: &mut Vec<u8>, body: &[u8]) -> Result<(), AllocError>
+    ensures { OnOk result (out.new.items
+        ≡ out.old.items ++ codes "Connection: close\r\n\r\n" ++ body.now) }
+{
+    out.extend_from_slice(b"Connection: close\r\n\r\n")?;
+    out.extend_from_slice(body)
+}
+
+fn json_reply(alloc: Global, text: &Text) -> Result<Reply, AllocError>
+    ensures { IfOk result (λ reply. reply ≡ with_body (200, codes "OK") [] text.now) }
+{
+    let body = text.as_str().as_bytes();
+    let mut out = front_of(alloc, 200, "OK", body.len())?;
+    push_end(&mut out, body)?;
+    Ok(Reply {
+        status: 200,
+        bytes: ReplyBytes::Made(out),
+    })
+}
+
+fn refused_reply(alloc: Global, refusal: &Refusal) -> Result<Reply, AllocError>
+    ensures { IfOk result (λ reply. reply ≡ refused refusal.now) }
+{
+    let (status, phrase) = status_of(refusal);
+    let text = refusal_body(alloc, refusal)?;
+    let body = text.as_str().as_bytes();
+    let mut out = front_of(alloc, status, phrase, body.len())?;
+    push_allow(&mut out, refusal)?;
+    push_end(&mut out, body)?;
+    Ok(Reply {
+        status,
+        bytes: ReplyBytes::Made(out),
+    })
+}
+
+/// The reply of an answer, as HTTP/1.1 (RFC 9112).
+///
+/// With a body it is the status line, `Content-Type: application/json`, `Content-Length` with the
+/// decimal length of the body, for a path without the method `Allow` with the methods that it has,
+/// `Connection: close`, an empty line and the body. A refusal's body is compact JSON whose names rise.
+/// Without a body, 204, it is the status line, `Connection: close` and an empty line.
+///
+/// It takes time and memory linear in the body; the only error is want of memory.
+pub fn print_reply(alloc: Global, answer: &Answer) -> Result<Reply, AllocError>
+    ensures { IfOk result (λ reply. reply ≡ reply_text answer.now) }
+{
+    match answer {
+        Answer::Json { text } => json_reply(alloc, text),
+        Answer::Empty => Ok(Reply {
+            status: 204,
+            bytes: ReplyBytes::Fixed(DONE),
+        }),
+        Answer::Refused { refusal } => refused_reply(alloc, refusal),
+    }
+}

@@ -1,0 +1,64 @@
+//! Requests that are written as lines, and what they are to be read as.
+use crate::lines::line_of;
+use api_http::{Reading, read_request};
+use std::alloc::{AllocError, Global};
+use std::test::Fail;
+
+/// The lines of a head, and what it reads as.
+pub type Row = (&'static str, &'static str);
+
+/// The head with these lines, which stand apart by line feeds: each ends with CR LF, and an empty
+/// one follows.
+pub fn head(alloc: Global, lines: &str) -> Result<Vec<u8>, AllocError> {
+    let mut bytes = Vec::new(alloc);
+    for line in lines.split('\n') {
+        bytes.extend_from_slice(line.as_bytes())?;
+        bytes.extend_from_slice(b"\r\n")?;
+    }
+    bytes.extend_from_slice(b"\r\n")?;
+    Ok(bytes)
+}
+
+fn same(shown: &str, wanted: &str, of: &str) -> Result<(), Fail> {
+    if shown == wanted {
+        return Ok(());
+    }
+    Err(Fail::new(format_args!("{of} reads as {shown}, not {wanted}")))
+}
+
+// Where it is a whole request, it has as many bytes.
+fn has_length(reading: &Reading, wanted: usize, of: &str) -> Result<(), Fail> {
+    match reading {
+        Reading::Whole { length, .. } if *length != wanted => Err(Fail::new(format_args!(
+            "{of} has {length} bytes, not {wanted}"
+        ))),
+        _ => Ok(()),
+    }
+}
+
+/// The first bytes, as many as told, read as wanted, and with the rest behind them.
+pub fn reads(
+    alloc: Global,
+    bytes: &[u8],
+    length: usize,
+    wanted: &str,
+    of: &str,
+) -> Result<(), Fail> {
+    let reading = read_request(alloc, bytes)?;
+    let line = line_of(alloc, &reading)?;
+    has_length(&reading, length, of)?;
+    same(line.as_str(), wanted, of)
+}
+
+fn row_reads(alloc: Global, lines: &str, wanted: &str) -> Result<(), Fail> {
+    let bytes = head(alloc, lines)?;
+    reads(alloc, &bytes, bytes.len(), wanted, lines)
+}
+
+/// Each head reads as its row says.
+pub fn each_reads(alloc: Global, rows: &[Row]) -> Result<(), Fail> {
+    for (lines, wanted) in rows {
+        row_reads(alloc, *lines, *wanted)?;
+    }
+    Ok(())
+}
