@@ -1,0 +1,17 @@
+//! The words of the program: which command they spell, exactly.
+#![tactic(auto)]
+
+mod command;
+mod law;
+mod number;
+mod pair;
+mod reading;
+mod serve;
+mod simple;
+mod single;
+mod taken;
+mod words_error;
+
+pub use command::Command;
+pub use law::laws;
+pub use words_error::WordsError;
