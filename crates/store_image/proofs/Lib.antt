@@ -1,0 +1,10 @@
+pub mod PathMaps
+pub mod Asciis
+pub mod Refusals
+pub mod TemplatePaths
+pub mod SourcesRead
+pub mod TemplatesKept
+pub mod Texts
+pub mod Wholes
+pub mod OneOutcome
+pub mod Sections
