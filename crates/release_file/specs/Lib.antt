@@ -1,0 +1,4 @@
+pub mod Order
+pub mod Release
+pub mod Chain
+pub mod Laws
