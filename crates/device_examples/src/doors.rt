@@ -95,3 +95,19 @@ fn no_client_holds_a_door(rt: HostRuntime) -> Result<(), Fail> {
     fs::remove_dir_all(&rt, folder.as_str())?;
     Ok(())
 }
+
+// It listens and answers nothing: that is borne for ten seconds.
+#[test]
+fn no_server_holds_a_link(rt: HostRuntime) -> Result<(), Fail> {
+    let folder = new_folder(&rt, "silent")?;
+    let mut door = RealDoor::new(rt.clone()?, folder.as_str())?;
+    assert!(rt; door.listen().is_ok());
+    let mut link = RealLink::new(rt.clone()?, folder.as_str())?;
+    link.connect()?;
+    let began = Instant::now(&rt)?;
+    assert!(rt; link.read(&mut [0u8; 2]).is_err());
+    let seconds = began.elapsed(&rt)?.as_secs();
+    assert!(rt; (10..40).contains(&seconds), "{seconds}");
+    fs::remove_dir_all(&rt, folder.as_str())?;
+    Ok(())
+}

@@ -3,23 +3,28 @@ ghost use Rattle.std.specs.Prelude.{None};
 ghost use Rattle.std.specs.Option.{is_some};
 
 use crate::faults::{Faults, written_of};
+use crate::patience::Patience;
 use crate::places::SOCKET;
 use outside::{Failed, Link};
 use std::alloc::AllocError;
-use std::io::{self, Read, Write};
 use std::os::unix::net::UnixStream;
 use std::rt::Net;
+use std::time::Clock;
 
 /// A link to the Unix socket `api.sock` in a folder. Each error of the system is a fault.
+///
+/// So is a server that keeps the calls of the connection waiting for ten seconds in all, those that read or those that
+/// write.
 #[derive(Drop)]
-pub struct RealLink<R: Net + Drop> {
+pub struct RealLink<R: Net + Clock + Drop> {
     rt: R,
     place: String,
     stream: Option<UnixStream>,
+    patience: Patience,
     faults: Faults,
 }
 
-impl<R: Net + AllocGlobal + Drop> RealLink<R> {
+impl<R: Net + Clock + AllocGlobal + Drop> RealLink<R> {
     /// A link to the socket in this folder; `.` is the working folder. Or want of memory.
     pub fn new(rt: R, root: &str) -> Result<RealLink<R>, AllocError> {
         let place = format!(in rt.alloc(); "{root}{SOCKET}")?;
@@ -27,12 +32,13 @@ impl<R: Net + AllocGlobal + Drop> RealLink<R> {
             rt,
             place,
             stream: None,
+            patience: Patience::new(),
             faults: Faults::new(),
         })
     }
 }
 
-impl<R: Net + Drop> Link for RealLink<R> {
+impl<R: Net + Clock + Drop> Link for RealLink<R> {
     ghost faults = { λ link. link.faults.count };
 
     ghost connected = { λ link. is_some link.stream };
@@ -43,6 +49,7 @@ impl<R: Net + Drop> Link for RealLink<R> {
         let answer = UnixStream::connect(&self.rt, self.place.as_str());
         let stream = self.faults.counted(answer)?;
         self.stream = Some(stream);
+        self.patience = Patience::new();
         Ok(())
     }
 
@@ -50,7 +57,7 @@ impl<R: Net + Drop> Link for RealLink<R> {
         let Some(stream) = &mut self.stream else {
             unreachable!()
         };
-        let answer = stream.read(room);
+        let answer = self.patience.read(&self.rt, stream, room);
         self.faults.counted(answer)
     }
 
@@ -58,7 +65,8 @@ impl<R: Net + Drop> Link for RealLink<R> {
         let Some(stream) = &mut self.stream else {
             unreachable!()
         };
-        let answer = written_of(piece, stream.write(piece));
+        let answer = self.patience.write(&self.rt, stream, piece);
+        let answer = written_of(piece, answer);
         self.faults.counted(answer)
     }
 }

@@ -1,4 +1,4 @@
-//! Calls on a client's connection that wait no longer than they may.
+//! Calls on a connection, a client's or that to a server, which wait no longer than they may.
 ghost use Rattle.std.specs.Prelude.{◌≤◌, length, IfOk};
 
 use std::io::{self, ErrorKind, Read, Write};
@@ -6,8 +6,8 @@ use std::net::Shutdown;
 use std::os::unix::net::UnixStream;
 use std::time::{Clock, Duration, Instant};
 
-/// How many seconds the calls that read a connection may wait in all, and how many those that write it. A client that
-/// keeps them waiting longer is parted from.
+/// How many seconds the calls that read a connection may wait in all, and how many those that write it. Who keeps them
+/// waiting longer is parted from.
 const PATIENCE: u64 = 10;
 
 /// How many seconds the end of a finished client is waited for.

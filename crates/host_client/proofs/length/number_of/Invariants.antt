@@ -1,0 +1,7 @@
+use Rattle.std.proofs.Common.{◌≡◌, drop}
+use Rattle.std.specs.Str.Parse.{digits_value, digits_value_after}
+use Rattle.host_client.proofs.length.number_of.Given as goal
+
+-- the digits so far give the number
+abbrev pub invariant-loop-digit : goal.invariant-loop-digit
+invariant-loop-digit l = digits_value 10 l.digits ≡ digits_value_after 10 l.number (drop l.digit-index l.digits)

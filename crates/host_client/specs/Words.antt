@@ -1,0 +1,22 @@
+-- What the words of the command line ask for.
+use Rattle.std.specs.Prelude.{◌≡◌, ℕ, true, List, [], ◌∷◌, map, String, string_bytes, Option, Some, None}
+use Rattle.std.specs.declared.alloc.Global.{Global}
+use Rattle.host_client.specs.Question.{is_question}
+
+-- The bytes of each word.
+abbrev pub texts : List (String Global) → List (List ℕ)
+texts words = map (λ w. string_bytes w) words
+
+-- The words METHOD, TARGET and, where it is given, BODY.
+abbrev pub words_of : List ℕ → List ℕ → Option (List ℕ) → List (List ℕ)
+words_of method target None = method ∷ target ∷ []
+words_of method target (Some body) = method ∷ target ∷ body ∷ []
+
+-- The words are those of a question that can be asked.
+pub record AsksFor (words : List (List ℕ)) (method target : List ℕ) (body : Option (List ℕ)) : Type 0 where
+  pub spelled : words ≡ words_of method target body
+  pub sound : is_question method target body ≡ true
+
+-- The words are those of no question that can be asked.
+pub record AsksNothing (words : List (List ℕ)) : Type 0 where
+  pub nothing : (method target : List ℕ) (body : Option (List ℕ)) → AsksFor words method target body → ⊥

@@ -1,0 +1,40 @@
+//! The program `settingsctl`: it asks the server in the working folder one question, METHOD TARGET [BODY], and prints
+//! the answer.
+#![tactic(auto)]
+
+use host_client::run_client;
+use outside_real::{RealLink, RealSink};
+use std::env;
+use std::io::{self, ErrorKind, Write};
+use std::process::ExitCode;
+use std::rt::Env;
+
+/// The status of a program that could not make its devices for want of memory, as that of a run.
+const OUT_OF_MEMORY: u8 = 1;
+
+fn main(rt: HostRuntime) -> ExitCode {
+    match status_of(&rt) {
+        Ok(status) => ExitCode::from(status),
+        Err(_) => {
+            let _ = rt.stdout().write_all(b"settingsctl: memory\n");
+            ExitCode::from(OUT_OF_MEMORY)
+        }
+    }
+}
+
+// The status of the run.
+fn status_of(rt: &HostRuntime) -> io::Result<u8> {
+    let words = words_of(rt)?;
+    let mut link = RealLink::new(rt.clone()?, ".")?;
+    let mut out = RealSink::new(rt.stdout());
+    Ok(run_client(rt.alloc(), &words, &mut link, &mut out))
+}
+
+/// The words after the program's name. Words that aren't UTF-8 ask nothing, as no words do.
+fn words_of(rt: &(impl Env + AllocGlobal)) -> io::Result<Vec<String>> {
+    match env::args(rt) {
+        Ok(words) => Ok(words.skip(1).collect(rt.alloc())?),
+        Err(e) if e.kind() == ErrorKind::InvalidData => Ok(Vec::new(rt.alloc())),
+        Err(e) => Err(e),
+    }
+}
