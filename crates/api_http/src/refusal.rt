@@ -1,7 +1,11 @@
 //! Why a request is refused.
+ghost use Rattle.std.specs.Prelude.{◌≡◌, IfOk};
+ghost use Rattle.api_http.specs.Replies.{status_of, refusal_text};
 
+use crate::refusal_body::refusal_body;
 use key_names::{Key, Text};
 use settings_maps::TxName;
+use std::alloc::{AllocError, Global};
 
 /// Why a request is refused, in the order in which the causes are looked for, each with its status.
 /// Those up to `Body` are told by the bytes of the request alone.
@@ -59,4 +63,44 @@ pub enum Refusal {
         /// The path, file or key that was at fault; empty where there is no store.
         at: Text,
     },
+}
+
+impl Refusal {
+    /// The status with its phrase. It takes no memory.
+    pub(crate) fn status_line(&self) -> (u16, &'static str)
+        ensures number { result.0 ≡ (status_of self.now).0 }
+        ensures phrase { result.1.now ≡ (status_of self.now).1 }
+    {
+        match self {
+            Refusal::HeadTooLong => (413, "Content Too Large"),
+            Refusal::Head => (400, "Bad Request"),
+            Refusal::NoPath => (404, "Not Found"),
+            Refusal::Method { .. } => (405, "Method Not Allowed"),
+            Refusal::Query => (400, "Bad Request"),
+            Refusal::Length => (411, "Length Required"),
+            Refusal::BodyTooLong => (413, "Content Too Large"),
+            Refusal::Body => (400, "Bad Request"),
+            Refusal::BadType { .. } => (400, "Bad Request"),
+            Refusal::NoKey { .. } => (404, "Not Found"),
+            Refusal::NoName { .. } => (404, "Not Found"),
+            Refusal::NoPending { .. } => (422, "Unprocessable Content"),
+            Refusal::Memory => (503, "Service Unavailable"),
+            Refusal::DiskFault => (500, "Internal Server Error"),
+            Refusal::Store { .. } => (500, "Internal Server Error"),
+        }
+    }
+
+    /// The status of its reply. It takes no memory.
+    pub fn status(&self) -> u16
+        ensures { result ≡ (status_of self.now).0 }
+    {
+        self.status_line().0
+    }
+
+    /// The body of its reply: compact JSON (RFC 8259) whose names rise. The only error is want of memory.
+    pub fn body(&self, alloc: Global) -> Result<Text, AllocError>
+        ensures { IfOk result (λ text. text ≡ refusal_text self.now) }
+    {
+        refusal_body(alloc, self)
+    }
 }

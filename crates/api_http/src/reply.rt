@@ -1,9 +1,8 @@
 //! Replies.
 ghost use Rattle.std.specs.Prelude.{◌≡◌, ◌++◌, [], IfOk, OnOk, map, codes, decimal};
 ghost use Rattle.api_http.specs.Routes.{row_of, methods_in};
-ghost use Rattle.api_http.specs.Replies.{status_of, listed, allow_field, with_body, refused, reply_text};
+ghost use Rattle.api_http.specs.Replies.{listed, allow_field, with_body, refused, reply_text};
 
-use crate::refusal_body::refusal_body;
 use crate::route::{ROWS, Row};
 use crate::{Answer, Refusal};
 use itoa::Buffer;
@@ -80,29 +79,6 @@ impl Reply {
             ReplyBytes::Fixed(bytes) => *bytes,
             ReplyBytes::Made(bytes) => bytes.as_slice(),
         }
-    }
-}
-
-fn status_of(refusal: &Refusal) -> (u16, &'static str)
-    ensures number { result.0 ≡ (status_of refusal.now).0 }
-    ensures phrase { result.1.now ≡ (status_of refusal.now).1 }
-{
-    match refusal {
-        Refusal::HeadTooLong => (413, "Content Too Large"),
-        Refusal::Head => (400, "Bad Request"),
-        Refusal::NoPath => (404, "Not Found"),
-        Refusal::Method { .. } => (405, "Method Not Allowed"),
-        Refusal::Query => (400, "Bad Request"),
-        Refusal::Length => (411, "Length Required"),
-        Refusal::BodyTooLong => (413, "Content Too Large"),
-        Refusal::Body => (400, "Bad Request"),
-        Refusal::BadType { .. } => (400, "Bad Request"),
-        Refusal::NoKey { .. } => (404, "Not Found"),
-        Refusal::NoName { .. } => (404, "Not Found"),
-        Refusal::NoPending { .. } => (422, "Unprocessable Content"),
-        Refusal::Memory => (503, "Service Unavailable"),
-        Refusal::DiskFault => (500, "Internal Server Error"),
-        Refusal::Store { .. } => (500, "Internal Server Error"),
     }
 }
 
@@ -184,8 +160,8 @@ fn json_reply(alloc: Global, text: &Text) -> Result<Reply, AllocError>
 fn refused_reply(alloc: Global, refusal: &Refusal) -> Result<Reply, AllocError>
     ensures { IfOk result (λ reply. reply ≡ refused refusal.now) }
 {
-    let (status, phrase) = status_of(refusal);
-    let text = refusal_body(alloc, refusal)?;
+    let (status, phrase) = refusal.status_line();
+    let text = refusal.body(alloc)?;
     let body = text.as_str().as_bytes();
     let mut out = front_of(alloc, status, phrase, body.len())?;
     push_allow(&mut out, refusal)?;
