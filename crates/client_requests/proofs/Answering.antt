@@ -1,0 +1,257 @@
+-- A reply of the server is a reply for the client.
+use Rattle.std.proofs.Common.{arith, ◌≡◌, ◌≤◌, ◌<◌, ◌^◌, ℕ, zero, suc, Bool, true, false, ◌==◌, IsTrue, List, [], ◌∷◌, ◌++◌, length, map, codes, decimal, Option, Some, None, refl, sym, ap, ◌∙◌, subst, append_assoc, length-append}
+use Rattle.std.specs.Char.{is_ascii_digit}
+use Rattle.std.specs.List.{list_all, flat_map}
+use Rattle.std.specs.Option.{unwrap_or}
+use Rattle.std.specs.Prelude.{All, nat_lt}
+use Rattle.std.specs.Str.{bytes_eq}
+use Rattle.std.specs.Cmp.Derive.{both_true}
+use Rattle.std.proofs.lemmas.Bool.Decides.{nat_tests}
+use Rattle.std.proofs.lemmas.Int.Digits.{digits_value-lt}
+use Rattle.std.proofs.lemmas.List.Elements.{All-nil, All-cons}
+use Rattle.std.proofs.lemmas.List.Folds.{list_all-append}
+use Rattle.std.proofs.lemmas.List.Sums.{AllPass-from_list_all}
+use Rattle.std.proofs.lemmas.Fmt.{decimal_is_IsNumeral, length-decimal-le}
+use Rattle.httparse.specs.Grammar.{crlf, Field, ResponseHead, print_response, IsField, is_value_byte}
+use Rattle.httparse.specs.Spans.{name_and_value}
+use Rattle.httparse.proofs.OnLiterals.{httparse_on_literals}
+use Rattle.httparse.proofs.GrammarLemmas.{print_response-append}
+use Rattle.host_client.specs.Reply.{lengths, is_number, fits, IsReply}
+use Rattle.api_http.specs.declared.answer.Answer.{Answer}
+use Rattle.api_http.specs.declared.answer.Answer.TheVariants.{Json, Empty, Refused}
+use Rattle.api_http.specs.declared.refusal.Refusal.{Refusal}
+use Rattle.api_http.specs.declared.refusal.Refusal.TheVariants.{HeadTooLong, Head, NoPath, Method, Query, Length, BodyTooLong, Body, BadType, NoKey, NoName, NoPending, Memory, DiskFault, Store}
+use Rattle.api_http.specs.Routes.{Row, rows, methods_in, methods_of}
+use Rattle.api_http.specs.Replies.{Status, status_of, listed, allow_field, with_body, refusal_text, reply_text}
+use Rattle.client_requests.specs.Answered.{body_of}
+use Rattle.client_requests.proofs.Heads.{split, kind_field, size_field, close_field, kind, size, close, literal_token, decimal_digits, trimmed}
+
+-- ---- the methods of a path
+
+abbrev AreValues : List (List ℕ) → Type 0
+AreValues ms = list_all (λ m. list_all is_value_byte m) ms ≡ true
+
+joined_values : (a b : List ℕ) → list_all is_value_byte a ≡ true → list_all is_value_byte b ≡ true → list_all is_value_byte (a ++ b) ≡ true
+joined_values a b one two = list_all-append is_value_byte a b ∙ both_true one two
+
+behind_values : (ms : List (List ℕ)) → AreValues ms → list_all is_value_byte (flat_map (λ n. codes ", " ++ n) ms) ≡ true
+behind_values [] h = refl
+behind_values (m ∷ ms) h =
+    let parts = split (list_all is_value_byte m) (list_all (λ m. list_all is_value_byte m) ms) h in
+    joined_values (codes ", " ++ m) (flat_map (λ n. codes ", " ++ n) ms) (joined_values (codes ", ") m refl parts.0) (behind_values ms parts.1)
+
+listed_values : (ms : List (List ℕ)) → AreValues ms → list_all is_value_byte (listed ms) ≡ true
+listed_values [] h = refl
+listed_values (m ∷ ms) h =
+    let parts = split (list_all is_value_byte m) (list_all (λ m. list_all is_value_byte m) ms) h in
+    joined_values m (flat_map (λ n. codes ", " ++ n) ms) parts.0 (behind_values ms parts.1)
+
+methods_values : (table : List Row) (path : List ℕ) → list_all (λ (r : Row). list_all is_value_byte r.1) table ≡ true → AreValues (methods_in table path)
+methods_values [] path h = refl
+methods_values (row ∷ table) path h =
+    let parts = split (list_all is_value_byte row.1) (list_all (λ (r : Row). list_all is_value_byte r.1) table) h in
+    by parts.0 (methods_values table path parts.1) (bytes_eq row.0 path) refl
+  where
+    by : list_all is_value_byte row.1 ≡ true → AreValues (methods_in table path) → (same : Bool) → bytes_eq row.0 path ≡ same → AreValues (methods_in (row ∷ table) path)
+    by here later true is = rw is (both_true here later)
+    by here later false is = rw is later
+
+-- ---- a reply with a body
+
+-- the field of the methods, if there is one
+abbrev allow_fields : Option (List ℕ) → List Field
+allow_fields None = []
+allow_fields (Some value) = record { name = codes "Allow"; raw = 32 ∷ value; end = crlf } ∷ []
+
+abbrev allow_text : Option (List ℕ) → List ℕ
+allow_text None = []
+allow_text (Some value) = codes "Allow: " ++ value ++ codes "\r\n"
+
+abbrev head_of : ℕ → List ℕ → Option (List ℕ) → ℕ → ResponseHead
+head_of status phrase allow n = record {
+  blank = [];
+  minor = 1;
+  digits = decimal status;
+  reason = Some phrase;
+  line_end = crlf;
+  fields = kind_field ∷ size_field n ∷ (allow_fields allow ++ close_field ∷ []);
+  last = crlf;
+}
+
+abbrev text_of : ℕ → List ℕ → Option (List ℕ) → List ℕ → List ℕ
+text_of status phrase allow body =
+    codes "HTTP/1.1 " ++ (decimal status ++ (codes " " ++ (phrase ++ (codes "\r\nContent-Type: application/json\r\nContent-Length: " ++ (decimal (length body) ++ (codes "\r\n" ++ (allow_text allow ++ (codes "Connection: close\r\n\r\n" ++ body))))))))
+
+regroup : (d x y z r : List ℕ) → (((d ++ x) ++ y) ++ z) ++ r ≡ d ++ (x ++ ((y ++ z) ++ r))
+regroup d x y z r = simp append_assoc
+
+regroup_more : (d x a v y z r : List ℕ) → (((d ++ x) ++ ((a ++ (v ++ x)) ++ y)) ++ z) ++ r ≡ d ++ (x ++ (((a ++ v) ++ x) ++ ((y ++ z) ++ r)))
+regroup_more d x a v y z r = simp append_assoc
+
+printed : (status : ℕ) (phrase : List ℕ) (allow : Option (List ℕ)) (body : List ℕ)
+    → print_response (head_of status phrase allow (length body)) ++ body ≡ text_of status phrase allow body
+printed status phrase None body =
+    print_response-append (head_of status phrase None (length body)) body
+    ∙ ap (λ (l : List ℕ). codes "HTTP/1.1 " ++ (decimal status ++ 32 ∷ (phrase ++ (codes "\r\nContent-Type: application/json\r\nContent-Length: " ++ l))))
+    (regroup (decimal (length body)) (codes "\r\n") (codes "Connection: close\r\n") (codes "\r\n") body)
+printed status phrase (Some value) body =
+    print_response-append (head_of status phrase (Some value) (length body)) body
+    ∙ ap (λ (l : List ℕ). codes "HTTP/1.1 " ++ (decimal status ++ 32 ∷ (phrase ++ (codes "\r\nContent-Type: application/json\r\nContent-Length: " ++ l))))
+    (regroup_more (decimal (length body)) (codes "\r\n") (codes "Allow: ") value (codes "Connection: close\r\n") (codes "\r\n") body)
+
+allow_is : (value : List ℕ) → list_all is_value_byte value ≡ true → IsField (record { name = codes "Allow"; raw = 32 ∷ value; end = crlf })
+unfolding httparse_on_literals
+allow_is value pass = record {
+  name = literal_token (codes "Allow") (omega arith) refl;
+  raw = All-cons (λ b. IsTrue (is_value_byte b)) 32 value refl (AllPass-from_list_all is_value_byte value pass);
+}
+
+are_fields : (n : ℕ) (allow : Option (List ℕ)) → n < 2 ^ 64 → list_all is_value_byte (unwrap_or allow []) ≡ true
+    → All IsField (kind_field ∷ size_field n ∷ (allow_fields allow ++ close_field ∷ []))
+are_fields n None below pass =
+    All-cons IsField kind_field (size_field n ∷ close_field ∷ []) kind
+    (All-cons IsField (size_field n) (close_field ∷ []) (size n below) (All-cons IsField close_field [] close (All-nil IsField)))
+are_fields n (Some value) below pass =
+    let allowed : Field = record { name = codes "Allow"; raw = 32 ∷ value; end = crlf } in
+    All-cons IsField kind_field (size_field n ∷ allowed ∷ close_field ∷ []) kind
+    (All-cons IsField (size_field n) (allowed ∷ close_field ∷ []) (size n below)
+    (All-cons IsField allowed (close_field ∷ []) (allow_is value pass) (All-cons IsField close_field [] close (All-nil IsField))))
+
+lengths_are : (n : ℕ) (allow : Option (List ℕ)) → n < 2 ^ 64 → lengths (map name_and_value (kind_field ∷ size_field n ∷ (allow_fields allow ++ close_field ∷ []))) ≡ decimal n ∷ []
+lengths_are n None below = ap (λ (v : List ℕ). v ∷ []) (trimmed (decimal n) (decimal_digits n below))
+lengths_are n (Some value) below = ap (λ (v : List ℕ). v ∷ []) (trimmed (decimal n) (decimal_digits n below))
+
+few : (n : ℕ) (allow : Option (List ℕ)) → length (kind_field ∷ size_field n ∷ (allow_fields allow ++ close_field ∷ [])) ≤ 64
+few n None = omega arith
+few n (Some value) = omega arith
+
+same_number : (n : ℕ) → (n == n) ≡ true
+same_number n = grind (arith, nat_tests)
+
+fitting : (n : ℕ) → n < 2 ^ 64 → fits (decimal n ∷ []) n ≡ true
+fitting n below =
+    let numeral = decimal_is_IsNumeral n below in
+    let some : 0 < length (decimal n) = numeral.0.0 in
+    let is_some : nat_lt 0 (length (decimal n)) ≡ true = grind (arith, nat_tests) in
+    let number : is_number (decimal n) ≡ true = both_true is_some (decimal_digits n below) in
+    both_true number (ap (λ k. k == n) numeral.1 ∙ same_number n)
+
+more_digits : (n k : ℕ) → 100 ≤ n → n < 10 ^ k → 3 ≤ k
+more_digits n zero low h = omega (arith, low, h)
+more_digits n (suc zero) low h = omega (arith, low, h)
+more_digits n (suc (suc zero)) low h = omega (arith, low, h)
+more_digits n (suc (suc (suc k))) low h = omega arith
+
+three_digits : (n : ℕ) → 100 ≤ n → n < 1000 → length (decimal n) ≡ 3
+three_digits n low high =
+    let below : n < 2 ^ 64 = omega arith in
+    let numeral = decimal_is_IsNumeral n below in
+    let value = subst (λ v. v < 10 ^ length (decimal n)) numeral.1 (digits_value-lt 10 (decimal n) numeral.0.1) in
+    omega (arith, more_digits n (length (decimal n)) low value, length-decimal-le 3 n (omega arith) high below)
+
+-- three digits of a status, and a phrase
+record IsStatus (status : Status) : Type 0 where
+  low : 100 ≤ status.0
+  high : status.0 < 1000
+  phrase : list_all is_value_byte status.1 ≡ true
+
+is_reply : (status : Status) (allow : Option (List ℕ)) (body : List ℕ) → IsStatus status → list_all is_value_byte (unwrap_or allow []) ≡ true → length body < 2 ^ 64
+    → IsReply (text_of status.0 status.1 allow body) status.0 body
+is_reply status allow body s pass below = record {
+  head = head_of status.0 status.1 allow (length body);
+  reads = (
+    record {
+      minor = omega arith;
+      digits = (three_digits status.0 s.low s.high, AllPass-from_list_all is_ascii_digit (decimal status.0) (decimal_digits status.0 (omega (arith, s.high))));
+      reason = AllPass-from_list_all is_value_byte status.1 s.phrase;
+      fields = are_fields (length body) allow below pass;
+    },
+    sym (printed status.0 status.1 allow body),
+  );
+  few = few (length body) allow;
+  length_fits = ap (λ vs. fits vs (length body)) (lengths_are (length body) allow below) ∙ fitting (length body) below;
+  status_is = sym (decimal_is_IsNumeral status.0 (omega (arith, s.high))).1;
+}
+
+joined : (a b c d e f g h i j : List ℕ) → a ++ b ++ c ++ d ++ e ++ f ++ g ++ h ++ i ++ j ≡ a ++ (b ++ (c ++ (d ++ (e ++ (f ++ (g ++ (h ++ (i ++ j))))))))
+joined a b c d e f g h i j = simp append_assoc
+
+with_reply : (status : Status) (allow : Option (List ℕ)) (body : List ℕ) → IsStatus status → list_all is_value_byte (unwrap_or allow []) ≡ true → length body < 2 ^ 64
+    → IsReply (with_body status (allow_text allow) body).bytes status.0 body
+with_reply status allow body s pass below =
+    subst (λ (l : List ℕ). IsReply l status.0 body)
+    (sym (joined (codes "HTTP/1.1 ") (decimal status.0) (codes " ") status.1 (codes "\r\nContent-Type: application/json\r\nContent-Length: ") (decimal (length body)) (codes "\r\n") (allow_text allow) (codes "Connection: close\r\n\r\n") body))
+    (is_reply status allow body s pass below)
+
+-- ---- each answer
+
+abbrev allowed : Refusal → Option (List ℕ)
+allowed (Method path) = Some (listed (methods_of path))
+allowed _ = None
+
+allowed_is : (r : Refusal) → allow_field r ≡ allow_text (allowed r)
+allowed_is (Method path) = refl
+allowed_is _ = refl
+
+allowed_values : (r : Refusal) → list_all is_value_byte (unwrap_or (allowed r) []) ≡ true
+allowed_values (Method path) = listed_values (methods_of path) (methods_values rows path refl)
+allowed_values _ = refl
+
+is_status : (r : Refusal) → IsStatus (status_of r)
+is_status HeadTooLong = record { low = omega arith; high = omega arith; phrase = refl }
+is_status Head = record { low = omega arith; high = omega arith; phrase = refl }
+is_status NoPath = record { low = omega arith; high = omega arith; phrase = refl }
+is_status (Method path) = record { low = omega arith; high = omega arith; phrase = refl }
+is_status Query = record { low = omega arith; high = omega arith; phrase = refl }
+is_status Length = record { low = omega arith; high = omega arith; phrase = refl }
+is_status BodyTooLong = record { low = omega arith; high = omega arith; phrase = refl }
+is_status Body = record { low = omega arith; high = omega arith; phrase = refl }
+is_status (BadType key wanted) = record { low = omega arith; high = omega arith; phrase = refl }
+is_status (NoKey key) = record { low = omega arith; high = omega arith; phrase = refl }
+is_status (NoName name) = record { low = omega arith; high = omega arith; phrase = refl }
+is_status (NoPending tx) = record { low = omega arith; high = omega arith; phrase = refl }
+is_status Memory = record { low = omega arith; high = omega arith; phrase = refl }
+is_status DiskFault = record { low = omega arith; high = omega arith; phrase = refl }
+is_status (Store place) = record { low = omega arith; high = omega arith; phrase = refl }
+
+abbrev empty_head : ResponseHead
+empty_head = record { blank = []; minor = 1; digits = codes "204"; reason = Some (codes "No Content"); line_end = crlf; fields = close_field ∷ []; last = crlf }
+
+empty_reply : IsReply (codes "HTTP/1.1 204 No Content\r\nConnection: close\r\n\r\n") 204 []
+unfolding httparse_on_literals
+empty_reply = record {
+  head = empty_head;
+  reads = (
+    record {
+      minor = omega arith;
+      digits = (refl, AllPass-from_list_all is_ascii_digit (codes "204") refl);
+      reason = AllPass-from_list_all is_value_byte (codes "No Content") refl;
+      fields = All-cons IsField close_field [] close (All-nil IsField);
+    },
+    refl,
+  );
+  few = omega arith;
+  length_fits = refl;
+  status_is = refl;
+}
+
+shorter : (status : Status) (field body : List ℕ) → length (with_body status field body).bytes < 2 ^ 64 → length body < 2 ^ 64
+shorter status field body h =
+    let front =
+    codes "HTTP/1.1 " ++ decimal status.0 ++ codes " " ++ status.1 ++ codes "\r\nContent-Type: application/json\r\nContent-Length: " ++ decimal
+    (length body) ++ codes "\r\n" ++ field ++ codes "Connection: close\r\n\r\n" in
+    omega (arith, h, length-append front body)
+
+-- what the server sends is a reply of that status and body
+pub answered : (answer : Answer) → length (reply_text answer).bytes < 2 ^ 64 → IsReply (reply_text answer).bytes (reply_text answer).status (body_of answer)
+answered (Json text) below = with_reply (200, codes "OK") None text (record { low = omega arith; high = omega arith; phrase = refl }) refl (shorter (200, codes "OK") [] text below)
+answered Empty below = empty_reply
+answered (Refused r) below =
+    let fields = ap (λ (l : List ℕ). (with_body (status_of r) l (refusal_text r)).bytes) (allowed_is r) in
+    subst (λ (l : List ℕ). IsReply l (status_of r).0 (refusal_text r)) (sym fields)
+    (with_reply (status_of r) (allowed r) (refusal_text r) (is_status r) (allowed_values r) (shorter (status_of r) (allow_field r) (refusal_text r) below))
+
+-- so are the bytes that it is printed to
+pub read_back : (answer : Answer) (bytes : List ℕ) → bytes ≡ (reply_text answer).bytes → length bytes < 2 ^ 64 → IsReply bytes (reply_text answer).status (body_of answer)
+read_back answer bytes is below =
+    subst (λ (l : List ℕ). IsReply l (reply_text answer).status (body_of answer)) (sym is) (answered answer (subst (λ (l : List ℕ). length l < 2 ^ 64) is below))

@@ -1,0 +1,5 @@
+pub mod Bytes
+pub mod Heads
+pub mod Wholes
+pub mod Agreement
+pub mod Answering
