@@ -1,0 +1,91 @@
+//! The image of a host with a message of the day, a time service and kernel settings.
+ghost use Rattle.std.specs.Prelude.{IfOk};
+ghost use Rattle.model_file.specs.Model.{AreTyped};
+ghost use Rattle.typed_settings.specs.Order.{IsTable};
+
+use crate::texts::{bytes, text};
+use key_names::{Bytes, Text};
+use metadata_links::Manifest;
+use model_file::Model;
+use plain_machine::PlainImage;
+use std::alloc::Global;
+use std::test::Fail;
+use template_reader::Templates;
+
+const MODEL: &str = r#"
+[types]
+"settings.motd" = "line"
+"settings.ntp.time-servers" = "list line"
+"settings.kernel.sysctl.*" = "line"
+[settings]
+motd = "Welcome"
+ntp.time-servers = ["a.example", "b.example"]
+[services.motd]
+configuration-files = ["motd"]
+restart-commands = ["motd-reload"]
+[services.chronyd]
+configuration-files = ["chrony"]
+restart-commands = ["systemctl try-restart chronyd"]
+[services.sysctl]
+configuration-files = ["sysctl"]
+restart-commands = ["sysctl --system"]
+[configuration-files.motd]
+path = "/etc/motd"
+template-path = "motd"
+[configuration-files.chrony]
+path = "/etc/chrony.conf"
+template-path = "chrony"
+[configuration-files.sysctl]
+path = "/etc/sysctl"
+template-path = "sysctl"
+[metadata.settings.motd]
+affected-services = ["motd"]
+[metadata.settings.ntp]
+affected-services = ["chronyd"]
+[metadata.settings.kernel.sysctl]
+affected-services = ["sysctl"]
+"#;
+
+// Adds the source of a file that has none.
+fn add(templates: &mut Templates, file: Text, source: Bytes) -> Result<(), Fail> {
+    match templates.source(file.as_str().as_bytes()) {
+        Some(_) => Err(Fail::new("added twice")),
+        None => Ok(templates.add(file, source)?),
+    }
+}
+
+fn templates(alloc: Global) -> Result<Templates, Fail> {
+    let rows: &[(&str, &str)] = &[
+        ("motd", "{{settings.motd}}\n"),
+        (
+            "chrony",
+            "{{#each settings.ntp.time-servers}}\npool {{this}} iburst\n{{/each}}\n",
+        ),
+        (
+            "sysctl",
+            "{{#if settings.kernel.sysctl}}\n{{#each settings.kernel.sysctl}}\n{{@key}}={{this}}\n{{/each}}\n{{/if}}\n",
+        ),
+    ];
+    let mut templates = Templates::new(alloc);
+    for (file, source) in rows {
+        add(&mut templates, text(alloc, file)?, bytes(alloc, source)?)?;
+    }
+    Ok(templates)
+}
+
+/// The image. Its text is that of the model file.
+pub fn image(alloc: Global) -> Result<PlainImage, Fail>
+    ensures table { IfOk result (λ image. IsTable image.types) }
+    ensures typed { IfOk result (λ image. AreTyped image.types image.defaults.values) }
+{
+    let model = Model::read(alloc, MODEL.as_bytes())?;
+    let _ = model.types.len();
+    Ok(PlainImage {
+        manifest: Manifest::of(alloc, &model.content)?,
+        types: model.types,
+        os: model.os,
+        defaults: model.content,
+        templates: templates(alloc)?,
+        text: bytes(alloc, MODEL)?,
+    })
+}

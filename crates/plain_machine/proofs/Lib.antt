@@ -1,0 +1,5 @@
+pub mod JobSteps
+pub mod PathMaps
+pub mod RequestsAnswered
+pub mod TurnsMade
+pub mod TypedHeld

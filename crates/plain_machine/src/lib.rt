@@ -1,0 +1,20 @@
+//! The map machine as a program without devices: a struct in memory whose every step is the machine's.
+//!
+//! The served program is compared with it, and the worked rows on requests, jobs and coverage run on it.
+#![tactic(auto)]
+
+mod applying;
+mod files;
+mod image;
+mod job_steps;
+mod machine;
+mod ran;
+mod todo;
+mod transactions;
+mod turn_answer;
+mod turns;
+
+pub use image::PlainImage;
+pub use machine::PlainMachine;
+pub use ran::Ran;
+pub use turn_answer::TurnAnswer;
