@@ -1,0 +1,6 @@
+pub mod Sees
+pub mod Work
+pub mod Turning
+pub mod Machine
+pub mod Noting
+pub mod Parts
