@@ -1,0 +1,9 @@
+pub mod World
+pub mod Step
+pub mod Typed
+pub mod Opening
+pub mod Beginning
+pub mod Handing
+pub mod Phases
+pub mod Entries
+pub mod Laws

@@ -1,0 +1,68 @@
+-- For private clauses: an opening, part by part.
+use Rattle.std.specs.Prelude.{◌≡◌, ◌⊎◌, ℕ, List, Result, Err, OnOk, OnErr, IfOk, ⊤}
+use Rattle.outside.specs.Names.{Names}
+use Rattle.outside.specs.Tree.{Tree}
+use Rattle.outside.specs.History.{History, tree_of, IsSettled}
+use Rattle.outside.specs.Since.{EachSince, Touches}
+use Rattle.outside.specs.declared.disk_error.DiskErr.{DiskErr}
+use Rattle.outside.specs.declared.disk_error.DiskErr.TheVariants as device
+use Rattle.commit_journal.specs.Files.{files_below, IsBelow}
+use Rattle.commit_journal.specs.Stands.{IsReady}
+use Rattle.settings_tree.specs.declared.held.Held.{Held}
+use Rattle.store_files.specs.Damage.{IsFaultBelow}
+use Rattle.store_files.specs.Stands.{Stands}
+use Rattle.store_image.specs.Paths.{sources_in}
+use Rattle.store_image.specs.Refused.{IsRefused}
+use Rattle.machine_disk.specs.Store.{HoldsIn}
+use Rattle.store_open.specs.Opening.{Means, MeansIllTyped}
+use Rattle.typed_settings.specs.declared.row.Row.{Row}
+use Rattle.store_open.specs.Typed.{IsIllTyped}
+use Rattle.store_open.specs.declared.open_error.OpenError.{OpenError}
+use Rattle.store_open.specs.declared.open_error.OpenError.TheVariants as refused
+
+-- A refusal of the data directory or of the image tells of what is there.
+abbrev pub AtFault : Names → OpenError → History → Type 0
+AtFault directory refused.NoStore h = ⊥
+AtFault directory (refused.BadLink path) h = ⊥
+AtFault directory (refused.BadJournal path) h = ⊥
+AtFault directory (refused.Damaged path) h = IsFaultBelow directory (tree_of h) path
+AtFault directory (refused.OldFormat path) h = (path ≡ directory) × Means directory 1 (tree_of h)
+AtFault directory (refused.BadImage file kind at) h = Means directory 2 (tree_of h) × IsRefused (sources_in (tree_of h)) file (kind, at)
+AtFault directory (refused.IllTyped key) h = MeansIllTyped directory key (tree_of h)
+AtFault directory refused.Failed h = ⊤
+AtFault directory refused.Memory h = ⊤
+
+-- The directory is ready, and its files stand for this in format 2.
+pub record IsReadyWith (directory : Names) (held : Held) (history : History) : Type 0 where
+  pub ready : IsReady directory history
+  pub means : Stands (files_below directory (tree_of history)) held 2
+  pub settled : IsSettled history
+
+-- The tree's directory holds this in format 2, or that.
+abbrev pub HoldsEither : Names → Held → Held → Tree → Type 0
+HoldsEither directory held after tree = HoldsIn directory held 2 tree ⊎ HoldsIn directory after 2 tree
+
+-- It holds what it held, and so does all that a crash since the start might have left.
+pub record IsKept (directory : Names) (held : Held) (old new : History) : Type 0 where
+  pub tree : HoldsIn directory held 2 (tree_of new)
+  pub images : EachSince (HoldsIn directory held 2) old new
+
+-- What is held in the directory becomes this, at once or not at all.
+pub record Lays (directory : Names) (held after : Held) (result : Result Held DiskErr) (old new : History) : Type 0 where
+  pub any_moment : IsReadyWith directory held old → EachSince (HoldsEither directory held after) old new
+  pub is : IfOk result (λ now. now ≡ after)
+  pub done : OnOk result (IsReadyWith directory held old → IsReadyWith directory after new)
+  pub failed : OnErr result (IsReadyWith directory held old → IsKept directory held old new ⊎ (HoldsIn directory after 2 (tree_of new) × (result ≡ Err device.Failed)))
+  pub touches : Touches (IsBelow directory) old new
+
+-- A refusal for another cause than the disk or memory comes without a failure of the disk.
+abbrev pub IsFaultless : OpenError → ℕ → ℕ → Type 0
+IsFaultless refused.Failed before now = ⊤
+IsFaultless refused.Memory before now = ⊤
+IsFaultless _ before now = now ≡ before
+
+-- The refusal tells of the first ill typed key.
+abbrev pub TellsIllTyped : List Row → Held → OpenError → Type 0
+TellsIllTyped types held (refused.IllTyped key) = IsIllTyped types held key
+TellsIllTyped types held refused.Memory = ⊤
+TellsIllTyped types held _ = ⊥

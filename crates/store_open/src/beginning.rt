@@ -1,0 +1,56 @@
+//! A store is begun.
+ghost use Rattle.std.specs.Prelude.{◌≡◌};
+ghost use Rattle.outside.specs.Told.{Moves};
+ghost use Rattle.outside.specs.Faults.{HasCauseOf};
+ghost use Rattle.settings_machine.specs.Events.{new_held};
+ghost use Rattle.store_open.specs.Beginning.{Begins, Places};
+
+use crate::InitError;
+use fs_datastore::save_all;
+use key_names::Bytes;
+use outside::Disk;
+use settings_tree::{Content, Held, Owed, PendMaps};
+use std::alloc::Global;
+use version_links::{Names, Version, flip, fresh_dir, resolve};
+
+// What a store begins with.
+fn nothing(alloc: Global) -> Held
+    ensures { result ≡ new_held }
+{
+    Held {
+        live: Content::new(alloc),
+        pending: PendMaps::new(alloc),
+        owed: Owed::All,
+        image: Bytes::of(Vec::new(alloc)),
+    }
+}
+
+// Saves the first world into the fresh directory, and points the links there.
+fn put_first<D: Disk>(alloc: Global, disk: &mut D, names: &Names) -> Result<(), InitError>
+    ensures places { Moves (D.told disk.old) (D.told disk.new) (Places names.now result) }
+    ensures cause { HasCauseOf InitError.Failed (D.faults disk.old) (D.faults disk.new) result }
+{
+    let held = nothing(alloc);
+    save_all(alloc, disk, names.directory(), &held)?;
+    flip(disk, names)?;
+    Ok(())
+}
+
+/// Begins a store of this version: saves nothing live or pending, all owed and an empty image text into a fresh data
+/// directory, in format 2, and points the links there.
+///
+/// Where no store is there and the disk is settled, a crash leaves no store or the new one, whole; after Ok it is on the
+/// disk. `AlreadyThere` exactly where the links lead to a data directory, with its version; `BadLink` where a link of the
+/// chain is missing or bad; then nothing is changed. `Failed` where the disk failed, `Memory` where memory is wanting.
+pub fn init<D: Disk>(alloc: Global, disk: &mut D, version: &Version) -> Result<(), InitError>
+    ensures begins { Moves (D.told disk.old) (D.told disk.new) (Begins version.now result) }
+    ensures cause { HasCauseOf InitError.Failed (D.faults disk.old) (D.faults disk.new) result }
+{
+    if let Some(place) = resolve(alloc, disk)? {
+        return Err(InitError::AlreadyThere {
+            version: place.version,
+        });
+    }
+    let names = fresh_dir(alloc, disk, version)?;
+    put_first(alloc, disk, &names)
+}

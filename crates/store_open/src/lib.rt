@@ -1,0 +1,23 @@
+//! The store of a host is begun and opened: its links are followed, a change that was cut off is carried out, what is held
+//! is read, and what the image says is laid over it in one change.
+#![tactic(auto)]
+
+mod begin_error;
+mod beginning;
+mod entries;
+mod law;
+mod open_error;
+mod opened;
+mod opening;
+mod reading;
+mod sections;
+mod step;
+mod typing;
+
+pub use begin_error::InitError;
+pub use beginning::init;
+pub use law::laws;
+pub use open_error::OpenError;
+pub use opened::Opened;
+pub use opening::open_store;
+pub use store_image::{Image, ImageError, read_image};

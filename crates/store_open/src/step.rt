@@ -1,0 +1,87 @@
+//! The opening step, as one change of a data directory.
+ghost use Rattle.std.specs.Prelude.{◌≡◌, length, IfOk};
+ghost use Rattle.outside.specs.Told.{Moves};
+ghost use Rattle.outside.specs.Faults.{HasCauseOf};
+ghost use Rattle.settings_tree.specs.Laid.{laid, KeepsPrefixRule, NamesWeak, TellsWeak};
+ghost use Rattle.store_files.specs.Batches.{Follows};
+ghost use Rattle.store_open.specs.Phases.{Lays};
+ghost use Rattle.store_image.specs.Image.{AreSections};
+ghost use Rattle.store_open.specs.Step.{opened};
+ghost use Rattle.settings_machine.specs.Typed.{IsTypedHeld};
+ghost use Rattle.store_open.specs.Typed.{FitsImage};
+ghost use Rattle.typed_settings.specs.Row.{IsPrefixFree};
+ghost use Rattle.model_file.specs.Model.{AreKnown, AreTyped};
+
+use crate::entries::opening_change;
+use commit_journal::Batch;
+use fs_datastore::batch_of;
+use outside::{Disk, DiskErr, Failed, Path};
+use settings_tree::{Change, Held};
+use std::alloc::{AllocError, Global};
+use store_image::Image;
+
+// Lays the change over what is held, and writes it down as a batch.
+fn laid(alloc: Global, dir: &Path, held: Held, change: Change) -> Result<(Held, Batch), AllocError>
+    requires two_names { length dir.now ≡ 2 }
+    requires rule { KeepsPrefixRule (laid held change) }
+    requires weak { NamesWeak held change }
+    requires told { TellsWeak held change }
+    ensures held { IfOk result (λ both. both.0 ≡ laid held change) }
+    ensures dir { IfOk result (λ both. both.1.dir ≡ dir.now) }
+    ensures follows { IfOk result (λ both. Follows change both.1.entries) }
+{
+    let batch = batch_of(alloc, dir, &change)?;
+    let mut held = held;
+    held.lay(change)?;
+    Ok((held, batch))
+}
+
+// Makes the change, on the disk and in what is held. From the first writing call on it takes no memory.
+fn make<D: Disk>(
+    alloc: Global,
+    disk: &mut D,
+    dir: &Path,
+    held: Held,
+    change: Change,
+) -> Result<Held, DiskErr>
+    requires two_names { length dir.now ≡ 2 }
+    requires rule { KeepsPrefixRule (laid held change) }
+    requires weak { NamesWeak held change }
+    requires told { TellsWeak held change }
+    ensures lays { Moves (D.told disk.old) (D.told disk.new) (Lays dir.now held (laid held change) result) }
+    ensures made { IfOk result (λ now. now ≡ laid held change) }
+    ensures cause { HasCauseOf DiskErr.Failed (D.faults disk.old) (D.faults disk.new) result }
+{
+    let (held, batch) = laid(alloc, dir, held, change)?;
+    match commit_journal::change(disk, &batch) {
+        Ok(()) => Ok(held),
+        Err(Failed) => Err(DiskErr::Failed),
+    }
+}
+
+/// Makes the opening step, as one change of the directory, or none where nothing differs.
+pub fn make_step<D: Disk>(
+    alloc: Global,
+    disk: &mut D,
+    dir: &Path,
+    boot: bool,
+    held: Held,
+    image: &Image,
+) -> Result<Held, DiskErr>
+    requires two_names { length dir.now ≡ 2 }
+    requires free { IsPrefixFree image.now.model.types }
+    requires known { AreKnown image.now.model.types image.now.model.content.values }
+    requires typed { AreTyped image.now.model.types image.now.model.content.values }
+    requires sections { AreSections image.now.model.content.values }
+    requires types { IsTypedHeld image.now.model.types held }
+    ensures lays { Moves (D.told disk.old) (D.told disk.new)
+        (Lays dir.now held (opened boot image.now held) result) }
+    ensures fits { IfOk result (FitsImage image.now.model.types image.now.model.content image.now.text) }
+    ensures cause { HasCauseOf DiskErr.Failed (D.faults disk.old) (D.faults disk.new) result }
+{
+    let change = opening_change(alloc, boot, image, &held)?;
+    if change.as_slice().is_empty() {
+        return Ok(held);
+    }
+    make(alloc, disk, dir, held, change)
+}

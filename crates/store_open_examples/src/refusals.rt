@@ -1,0 +1,144 @@
+//! Each refusal, and which of two is told.
+use crate::stores::{File, host, same, store};
+use crate::words::{begun, opened};
+use outside::{Disk, Path};
+use std::alloc::Global;
+use std::test::Fail;
+
+const AS_IT_IS: File = ("format", Some("2"));
+
+// Without these two files the directory is of format 1.
+const NO_FORMAT: File = ("format", None);
+
+const NO_WEAK: File = ("weak", None);
+
+const NO_MODEL: File = ("image/model.toml", None);
+
+const NO_TYPE: File = ("live/settings/foo", Some("1"));
+
+const NO_NAME: File = ("live/settings/motd%2e", Some("1"));
+
+const CUT_OFF: File = ("journal", Some("set owed 2\n[]\n"));
+
+// Files that a new store is given, and what is told of it then.
+const REFUSALS: &[(&[File], &str)] = &[
+    (
+        &[CUT_OFF],
+        "bad journal store/v1.5.2_0000000000000000/journal",
+    ),
+    (
+        &[NO_NAME],
+        "damaged store/v1.5.2_0000000000000000/live/settings/motd%2e",
+    ),
+    (
+        &[("owed", Some("[\"settings.b\",\"settings.a\"]"))],
+        "damaged store/v1.5.2_0000000000000000/owed",
+    ),
+    (
+        &[
+            ("live/settings/motd", Some("\"hi\"")),
+            ("live/settings/motd/x", Some("1")),
+        ],
+        "damaged store/v1.5.2_0000000000000000/live/settings/motd/x",
+    ),
+    (
+        &[NO_FORMAT, NO_WEAK],
+        "old format store/v1.5.2_0000000000000000",
+    ),
+    (&[NO_MODEL], "bad image model.toml missing -"),
+    (
+        &[("image/templates/motd", Some("{{settings.motd"))],
+        "bad image templates/motd unclosed 0",
+    ),
+    (&[NO_TYPE], "ill typed settings.foo"),
+    (
+        &[("live/settings/motd", Some("7"))],
+        "ill typed settings.motd",
+    ),
+    (
+        &[("pending/t/settings/motd", Some("7"))],
+        "ill typed settings.motd",
+    ),
+    (
+        &[("pending/t/settings/foo", Some("null"))],
+        "ill typed settings.foo",
+    ),
+    (
+        &[("pending/t/services/motd/restart-commands", Some("[]"))],
+        "ill typed services.motd.restart-commands",
+    ),
+    // of two that are wrong
+    (
+        &[NO_NAME, CUT_OFF],
+        "bad journal store/v1.5.2_0000000000000000/journal",
+    ),
+    (
+        &[NO_NAME, ("live", Some("1"))],
+        "damaged store/v1.5.2_0000000000000000/live",
+    ),
+    (
+        &[NO_NAME, NO_FORMAT, NO_WEAK],
+        "damaged store/v1.5.2_0000000000000000/live/settings/motd%2e",
+    ),
+    (
+        &[NO_MODEL, NO_FORMAT, NO_WEAK],
+        "old format store/v1.5.2_0000000000000000",
+    ),
+    (&[NO_TYPE, NO_MODEL], "bad image model.toml missing -"),
+    (
+        &[("pending/a/settings/a", Some("1")), NO_TYPE],
+        "ill typed settings.foo",
+    ),
+    (
+        &[
+            ("pending/b/settings/a", Some("1")),
+            ("pending/a/settings/foo", Some("null")),
+        ],
+        "ill typed settings.foo",
+    ),
+    (
+        &[("live/settings/a", Some("1")), NO_TYPE],
+        "ill typed settings.a",
+    ),
+    // none is
+    (&[("pending/t/settings/motd", Some("null"))], "open"),
+    (&[AS_IT_IS], "open"),
+];
+
+fn tells(alloc: Global, files: &[File], wanted: &str) -> Result<(), Fail> {
+    let mut disk = store(alloc, files)?;
+    let told = opened(alloc, &mut disk, false)?;
+    same(told.as_str(), wanted, "a store")?;
+    let again = opened(alloc, &mut disk, true)?;
+    same(again.as_str(), wanted, "the store again")
+}
+
+#[test]
+fn refuses_stores(rt: HostRuntime) -> Result<(), Fail> {
+    for (files, wanted) in REFUSALS {
+        tells(rt.alloc(), files, wanted)?;
+    }
+    Ok(())
+}
+
+#[test]
+fn refuses_links(rt: HostRuntime) -> Result<(), Fail> {
+    let alloc = rt.alloc();
+    let mut disk = host(alloc)?;
+    same(
+        opened(alloc, &mut disk, false)?.as_str(),
+        "no store",
+        "no links",
+    )?;
+    disk.relink(&Path::read(alloc, b"store/current")?, b"v01")?;
+    same(
+        opened(alloc, &mut disk, false)?.as_str(),
+        "bad link store/current",
+        "an opening",
+    )?;
+    same(
+        begun(alloc, &mut disk)?.as_str(),
+        "bad link store/current",
+        "a beginning",
+    )
+}

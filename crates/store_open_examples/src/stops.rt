@@ -1,0 +1,119 @@
+//! Beginnings and openings that are stopped after each of their disk calls, with what a crash then leaves; and each
+//! call failing once.
+use crate::opens::has;
+use crate::stores::{OPENED, host, same, store};
+use crate::words::{begun, opened};
+use disk_memory::{Bytes, MemoryDisk, Pick};
+use std::alloc::{AllocError, Global};
+use std::test::Fail;
+
+// The calls of a beginning on the disk of the host, and of the first opening.
+const BEGINNING: u64 = 16;
+
+const OPENING: u64 = 27;
+
+// What a crash leaves of the paths that are not on the disk, the first path first: what was there (`o`), what is there
+// now (`n`), torn bytes (`t`) or nothing (`g`).
+const PICKS: &[&str] = &["oooooooooooo", "nnnn", "tttt", "gggg", "nogtnogtnogt"];
+
+fn pick(alloc: Global, kind: u8) -> Result<Pick, AllocError> {
+    Ok(match kind {
+        b'o' => Pick::Old,
+        b'n' => Pick::New,
+        b't' => Pick::Torn(Bytes::of(b"torn".to_vec(alloc)?)),
+        _ => Pick::Gone,
+    })
+}
+
+fn picks(alloc: Global, kinds: &str) -> Result<Vec<Pick>, AllocError> {
+    let mut picks = Vec::new(alloc);
+    for kind in kinds.as_bytes() {
+        picks.push(pick(alloc, *kind)?)?;
+    }
+    Ok(picks)
+}
+
+// What is told where one of the calls is the last, if all of them were made.
+fn ended(whole: bool, word: &'static str) -> &'static str {
+    if whole { word } else { "failed" }
+}
+
+// The disk has a store that opens to the wanted one; it may have none only where a second beginning begins one.
+fn leads_on(alloc: Global, disk: &mut MemoryDisk, may_lack: bool) -> Result<(), Fail> {
+    let told = opened(alloc, disk, false)?;
+    if may_lack && told.as_str() == "no store" {
+        return same(begun(alloc, disk)?.as_str(), "begun", "a second beginning");
+    }
+    same(told.as_str(), "open", "an opening")?;
+    has(alloc, disk, OPENED)
+}
+
+// A beginning is stopped after so many calls, and a crash follows.
+fn begins_again(alloc: Global, calls: u64, kinds: &str) -> Result<(), Fail> {
+    let mut disk = host(alloc)?;
+    disk.stop_after(disk.calls().saturating_add(calls));
+    let whole = calls == BEGINNING;
+    same(
+        begun(alloc, &mut disk)?.as_str(),
+        ended(whole, "begun"),
+        kinds,
+    )?;
+    leads_on(alloc, &mut disk.crash(&picks(alloc, kinds)?)?, !whole)
+}
+
+// An opening is stopped after so many calls, and a crash follows.
+fn opens_again(alloc: Global, calls: u64, kinds: &str) -> Result<(), Fail> {
+    let mut disk = store(alloc, &[])?;
+    disk.stop_after(disk.calls().saturating_add(calls));
+    let wanted = ended(calls == OPENING, "open");
+    same(opened(alloc, &mut disk, false)?.as_str(), wanted, kinds)?;
+    leads_on(alloc, &mut disk.crash(&picks(alloc, kinds)?)?, false)
+}
+
+// Each of them is stopped wherever it may be.
+fn goes_on(alloc: Global, kinds: &str) -> Result<(), Fail> {
+    for calls in 0..=OPENING {
+        begins_again(alloc, calls.min(BEGINNING), kinds)?;
+        opens_again(alloc, calls, kinds)?;
+    }
+    Ok(())
+}
+
+#[test]
+fn goes_on_after_each_stop(rt: HostRuntime) -> Result<(), Fail> {
+    for kinds in PICKS {
+        goes_on(rt.alloc(), kinds)?;
+    }
+    Ok(())
+}
+
+// Makes the call fail that comes after so many more.
+fn fail_after(alloc: Global, disk: &mut MemoryDisk, calls: u64) -> Result<(), AllocError> {
+    let call = disk.calls().saturating_add(calls).saturating_add(1);
+    disk.fail_calls(vec![in alloc; call]?);
+    Ok(())
+}
+
+// A call of a beginning fails, and then one of an opening.
+fn fails_once(alloc: Global, calls: u64) -> Result<(), Fail> {
+    let mut disk = host(alloc)?;
+    fail_after(alloc, &mut disk, calls.min(BEGINNING - 1))?;
+    same(begun(alloc, &mut disk)?.as_str(), "failed", "a beginning")?;
+    leads_on(alloc, &mut disk, true)?;
+    let mut disk = store(alloc, &[])?;
+    fail_after(alloc, &mut disk, calls)?;
+    same(
+        opened(alloc, &mut disk, false)?.as_str(),
+        "failed",
+        "an opening",
+    )?;
+    leads_on(alloc, &mut disk, false)
+}
+
+#[test]
+fn goes_on_after_each_fault(rt: HostRuntime) -> Result<(), Fail> {
+    for calls in 0..OPENING {
+        fails_once(rt.alloc(), calls)?;
+    }
+    Ok(())
+}

@@ -1,0 +1,116 @@
+//! Stores of a small host.
+use disk_memory::MemoryDisk;
+use outside::{Disk, Path};
+use std::alloc::Global;
+use std::test::Fail;
+use store_open::init;
+use version_links::Version;
+
+/// The model of a host with two default settings, one service and one file.
+const MODEL: &str = "[types]
+\"settings.motd\" = \"line\"
+\"settings.ntp.time-servers\" = \"list line\"
+[settings]
+motd = \"Welcome\"
+ntp.time-servers = [\"a.example\", \"b.example\"]
+[services.motd]
+configuration-files = [\"motd\"]
+restart-commands = [\"motd-reload\"]
+[configuration-files.motd]
+path = \"/etc/motd\"
+template-path = \"motd\"
+[metadata.settings.motd]
+affected-services = [\"motd\"]
+";
+
+/// The text of its image: a line for the model, and one for the template.
+pub const IMAGE_TEXT: &str =
+    "model W3R5cGVzXQoic2V0dGluZ3MubW90ZCIgPSAibGluZSIKInNldHRpbmdzLm50cC50aW1lLXNlcnZlcnMiID0gImxpc3QgbGluZSIKW3NldHRpbmdzXQptb3RkID0gIldlbGNvbWUiCm50cC50aW1lLXNlcnZlcnMgPSBbImEuZXhhbXBsZSIsICJiLmV4YW1wbGUiXQpbc2VydmljZXMubW90ZF0KY29uZmlndXJhdGlvbi1maWxlcyA9IFsibW90ZCJdCnJlc3RhcnQtY29tbWFuZHMgPSBbIm1vdGQtcmVsb2FkIl0KW2NvbmZpZ3VyYXRpb24tZmlsZXMubW90ZF0KcGF0aCA9ICIvZXRjL21vdGQiCnRlbXBsYXRlLXBhdGggPSAibW90ZCIKW21ldGFkYXRhLnNldHRpbmdzLm1vdGRdCmFmZmVjdGVkLXNlcnZpY2VzID0gWyJtb3RkIl0K
+template motd e3tzZXR0aW5ncy5tb3RkfX0K
+";
+
+pub const V1_5_2: Version = Version {
+    major: 1,
+    minor: 5,
+    patch: 2,
+};
+
+/// A file of the data directory, or of the image, with the bytes that it has; or it isn't there.
+pub type File = (&'static str, Option<&'static str>);
+
+/// The files of the data directory once the new store was opened.
+pub const OPENED: &[File] = &[
+    ("format", Some("2")),
+    ("image", Some(IMAGE_TEXT)),
+    ("journal", None),
+    ("live/configuration-files/motd/path", Some("\"/etc/motd\"")),
+    (
+        "live/configuration-files/motd/template-path",
+        Some("\"motd\""),
+    ),
+    ("live/services/motd/configuration-files", Some("[\"motd\"]")),
+    (
+        "live/services/motd/restart-commands",
+        Some("[\"motd-reload\"]"),
+    ),
+    ("live/settings/motd", Some("\"Welcome\"")),
+    ("live/settings/motd.affected-services", Some("[\"motd\"]")),
+    (
+        "live/settings/ntp/time-servers",
+        Some("[\"a.example\",\"b.example\"]"),
+    ),
+    ("owed", Some("\"all\"")),
+    (
+        "weak",
+        Some("[\"settings.motd\",\"settings.ntp.time-servers\"]"),
+    ),
+];
+
+/// Where the file is: below `image`, or else below the data directory.
+pub fn place(alloc: Global, name: &str) -> Result<Path, Fail> {
+    if name.starts_with("image/") {
+        return Ok(Path::read(alloc, name.as_bytes())?);
+    }
+    let path = format!(in alloc; "store/v1.5.2_0000000000000000/{name}")?;
+    Ok(Path::read(alloc, path.as_str().as_bytes())?)
+}
+
+fn put(alloc: Global, disk: &mut MemoryDisk, name: &str, bytes: Option<&str>) -> Result<(), Fail> {
+    let path = place(alloc, name)?;
+    match bytes {
+        Some(bytes) => disk.replace(&path, bytes.as_bytes())?,
+        None => disk.remove(&path)?,
+    }
+    Ok(disk.sync()?)
+}
+
+/// A disk with the image of the host, and no store.
+pub fn host(alloc: Global) -> Result<MemoryDisk, Fail> {
+    let mut disk = MemoryDisk::new(alloc)?;
+    put(alloc, &mut disk, "image/model.toml", Some(MODEL))?;
+    put(
+        alloc,
+        &mut disk,
+        "image/templates/motd",
+        Some("{{settings.motd}}\n"),
+    )?;
+    Ok(disk)
+}
+
+/// A disk with the image of the host and a new store at 1.5.2, with these files put or taken away.
+pub fn store(alloc: Global, files: &[File]) -> Result<MemoryDisk, Fail> {
+    let mut disk = host(alloc)?;
+    init(alloc, &mut disk, &V1_5_2)?;
+    for (name, bytes) in files {
+        put(alloc, &mut disk, name, *bytes)?;
+    }
+    Ok(disk)
+}
+
+/// The text is the wanted one.
+pub fn same(shown: &str, wanted: &str, at: &str) -> Result<(), Fail> {
+    if shown == wanted {
+        return Ok(());
+    }
+    Err(Fail::new(format_args!("{shown}, not {wanted}, at {at}")))
+}

@@ -1,0 +1,54 @@
+//! What is told of a store, in words.
+use crate::stores::V1_5_2;
+use disk_memory::MemoryDisk;
+use outside::Path;
+use std::alloc::{AllocError, Global};
+use store_open::{InitError, OpenError, init, open_store};
+
+// A word for the error, and the path at which it is.
+fn at(alloc: Global, word: &str, path: &Path) -> Result<String, AllocError> {
+    let path = path.print()?;
+    let path = String::from_utf8_lossy(alloc, &path)?;
+    let path = path.as_str();
+    format!(in alloc; "{word} {path}")
+}
+
+fn shown(alloc: Global, error: &OpenError) -> Result<String, AllocError> {
+    match error {
+        OpenError::NoStore => String::from_str(alloc, "no store"),
+        OpenError::BadLink { path } => at(alloc, "bad link", path),
+        OpenError::BadJournal { path } => at(alloc, "bad journal", path),
+        OpenError::Damaged { path } => at(alloc, "damaged", path),
+        OpenError::OldFormat { directory } => at(alloc, "old format", directory),
+        OpenError::BadImage { file, kind, at } => {
+            let (file, kind, at) = (file.as_str(), kind.as_str(), at.as_str());
+            format!(in alloc; "bad image {file} {kind} {at}")
+        }
+        OpenError::IllTyped { key } => {
+            let key = key.print()?;
+            let key = key.as_str();
+            format!(in alloc; "ill typed {key}")
+        }
+        OpenError::Failed => String::from_str(alloc, "failed"),
+        OpenError::Memory => String::from_str(alloc, "memory"),
+    }
+}
+
+/// What an opening tells of the store on the disk.
+pub fn opened(alloc: Global, disk: &mut MemoryDisk, boot: bool) -> Result<String, AllocError> {
+    match open_store(alloc, disk, boot) {
+        Ok(_) => String::from_str(alloc, "open"),
+        Err(error) => shown(alloc, &error),
+    }
+}
+
+/// What a beginning at 1.5.2 tells.
+pub fn begun(alloc: Global, disk: &mut MemoryDisk) -> Result<String, AllocError> {
+    match init(alloc, disk, &V1_5_2) {
+        Ok(()) => String::from_str(alloc, "begun"),
+        Err(InitError::AlreadyThere { version }) => format!(in alloc; "already there {version}"),
+        Err(InitError::BadLink { path }) => at(alloc, "bad link", &path),
+        Err(InitError::Failed) => String::from_str(alloc, "failed"),
+        Err(InitError::Memory) => String::from_str(alloc, "memory"),
+    }
+}
