@@ -1,0 +1,5 @@
+pub mod Running
+pub mod Causes
+pub mod CoreTurns
+pub mod CoreEnds
+pub mod Slices
