@@ -14,7 +14,7 @@ use Rattle.release_file.specs.Order.{is_before, is_upto}
 use Rattle.release_file.specs.Release.{leads_on}
 use Rattle.release_file.specs.declared.plan_error.PlanError.{PlanError}
 use Rattle.release_file.specs.declared.plan_error.PlanError.TheVariants.{Missing}
-use Rattle.release_file.specs.Chain.{IsFarthest, Leads, IsChain, IsMissing, is_back, lower, upper, in_order, step_of, IsWay, IsPlan, HasNoPlan}
+use Rattle.release_file.specs.Chain.{IsFarthest, Leads, IsChain, IsMissing, lower, upper, in_order, step_of, IsWay, IsPlan, HasNoPlan}
 use Rattle.release_file.specs.declared.planning.Step.{Step}
 use Rattle.release_file.proofs.Versions.{upto_trans, upto_itself, before_upto, before_back}
 

@@ -1,5 +1,5 @@
 -- A plan is a function of the transitions and the versions.
-use Rattle.std.proofs.Common.{◌≡◌, ◌≢◌, inl, inr, ◌⊎◌, Bool, true, false, List, [], ◌∷◌, ◌++◌, map, get_or, refl, sym, ◌∙◌, ap, subst}
+use Rattle.std.proofs.Common.{◌≡◌, ◌≢◌, Bool, true, false, List, [], ◌∷◌, ◌++◌, map, get_or, refl, sym, ◌∙◌, ap, subst}
 use Rattle.std.specs.Prelude.{IsTrue, Contains, reverse}
 use Rattle.std.specs.List.{list_all}
 use Rattle.std.specs.declared.cmp.Ordering.{Ordering}
@@ -20,7 +20,8 @@ use Rattle.release_file.proofs.Farthest.{all_lead}
 
 -- ---- versions that are not beyond each other
 
-version_same : (v w : Version) → version_cmp v w ≡ Equal → v ≡ w
+-- Versions that tie are one.
+pub version_same : (v w : Version) → version_cmp v w ≡ Equal → v ≡ w
 version_same v w e =
     let same : v.major ∷ v.minor ∷ v.patch ∷ [] ≡ w.major ∷ w.minor ∷ w.patch ∷ [] = bytes_cmp-IsAntisymmetric (v.major ∷ v.minor ∷ v.patch ∷ []) (w.major ∷ w.minor ∷ w.patch ∷ []) e in
     λ i. record { major = get_or (same i) 0 0; minor = get_or (same i) 1 0; patch = get_or (same i) 2 0 }
