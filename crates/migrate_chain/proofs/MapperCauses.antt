@@ -1,0 +1,110 @@
+-- When the mapper may be said to have failed, call by call.
+use Rattle.std.proofs.Common.{◌≡◌, ℕ, ◌≤◌, List, Result, Ok, Err, sym, ◌∙◌, ap, subst, arith}
+use Rattle.std.specs.Prelude.{IsErr, IsErrAnd}
+use Rattle.outside.specs.Faults.{HasCauseOf, Rose}
+use Rattle.outside.specs.declared.disk_error.DiskErr.{DiskErr}
+use Rattle.outside.specs.declared.disk_error.DiskErr.TheVariants as device
+use Rattle.migrate_chain.specs.declared.mapper_error.MapperError.{MapperError}
+use Rattle.migrate_chain.specs.declared.mapper_error.MapperError.TheVariants as mapper
+use Rattle.migrate_chain.specs.declared.move_error.MoveError.{MoveError}
+use Rattle.migrate_chain.specs.declared.move_error.MoveError.TheVariants.{Spawn}
+use Rattle.migrate_chain.specs.Causes.{HasNamedCause}
+use Rattle.migrate_chain.specs.Errors.{of_disk, of_mapper}
+use Rattle.migrate_chain.specs.Moving.{IsRefusal}
+use Rattle.migrate_chain.specs.Tasks.{Names}
+
+same_error : {T E : Type 0} (x y : E) → ◌≡◌ {A = Result T E} (Err x) (Err y) → x ≡ y
+same_error x y e = cc
+
+no_error : {T E : Type 0} (v : T) (x : E) → ◌≡◌ {A = Result T E} (Ok v) (Err x) → ⊥
+no_error v x e = cc
+
+no_ok : {T : Type 0} (E : Type 0) (v : T) → IsErr {T = T} {E = E} (Ok v) → ⊥
+no_ok E v e = cc
+
+-- ---- one task
+
+failed_so : (e : MapperError) (name own : List ℕ) → Names own e → e ≡ mapper.Failed name → name ≡ own
+failed_so e name own names is = subst (Names own) is names
+
+-- A task's failure has the task's name.
+pub cause_task : {S T : Type 0} (r : Result T MapperError) (e : MapperError) (own : List ℕ) (x z y : ℕ) → z ≡ x → IsErrAnd r (λ v. v ≡ e) → Names own e → HasCauseOf {T = S} (mapper.Failed own) z y (Err e) → HasNamedCause mapper.Failed x y r
+cause_task (Ok v) e own x z y same is names cause = absurd is
+cause_task (Err v) e own x z y same is names cause = record {
+  later = subst (λ n. n ≤ y) same cause.later;
+  failed = λ name told.
+      let failed : e ≡ mapper.Failed name = sym is ∙ same_error v (mapper.Failed name) told in
+      subst (λ n. Rose n y) same (cause.failed (ap Err (failed ∙ ap (λ n. mapper.Failed n) (failed_so e name own names failed))));
+  kept = tt;
+  other = λ err none. cause.other err (λ told. none own (ap Err (is ∙ same_error e (mapper.Failed own) told))) ∙ same;
+}
+
+-- ---- a move
+
+-- A failure of the mapper is handed on as `Spawn`.
+spawned : (e : MapperError) (name : List ℕ) → of_mapper e ≡ Spawn name → e ≡ mapper.Failed name
+spawned (mapper.Conflict key) name is = cc
+spawned (mapper.Status at number) name is = cc
+spawned (mapper.BadAnswer at) name is = cc
+spawned (mapper.Failed at) name is = let same : at ≡ name = cc in ap (λ n. mapper.Failed n) same
+spawned mapper.Memory name is = cc
+
+pub cause_mapped : {S T : Type 0} (r : Result T MoveError) (e : MapperError) (x z y : ℕ) → z ≡ x → IsErrAnd r (λ v. v ≡ of_mapper e) → HasNamedCause {T = S} mapper.Failed z y (Err e) → HasNamedCause Spawn x y r
+cause_mapped (Ok v) e x z y same is cause = absurd is
+cause_mapped (Err v) e x z y same is cause = record {
+  later = subst (λ n. n ≤ y) same cause.later;
+  failed = λ name told. subst (λ n. Rose n y) same (cause.failed name (ap Err (spawned e name (sym is ∙ same_error v (Spawn name) told))));
+  kept = tt;
+  other = λ err none. cause.other err (λ name told. none name (ap Err (is ∙ ap of_mapper (same_error e (mapper.Failed name) told)))) ∙ same;
+}
+
+-- The same error is handed on.
+pub cause_handed : {S T : Type 0} (r : Result T MoveError) (e : MoveError) (x y : ℕ) → IsErrAnd r (λ v. v ≡ e) → HasNamedCause {T = S} Spawn x y (Err e) → HasNamedCause Spawn x y r
+cause_handed (Ok v) e x y is cause = absurd is
+cause_handed (Err v) e x y is cause = record {
+  later = cause.later;
+  failed = λ name told. cause.failed name (ap Err (sym is ∙ same_error v (Spawn name) told));
+  kept = tt;
+  other = λ err none. cause.other err (λ name told. none name (ap Err (is ∙ same_error e (Spawn name) told)));
+}
+
+-- The mapper was not asked, or answered all it was asked, and the error is another.
+pub cause_quiet : {T : Type 0} (r : Result T MoveError) (e : MoveError) (x y : ℕ) → y ≡ x → IsErrAnd r (λ v. v ≡ e) → (IsRefusal e → ⊥) → HasNamedCause Spawn x y r
+cause_quiet (Ok v) e x y same is quiet = absurd is
+cause_quiet (Err v) e x y same is quiet = record {
+  later = subst (λ n. x ≤ n) (sym same) (omega arith);
+  failed = λ name told. absurd (quiet (subst IsRefusal (sym (sym is ∙ same_error v (Spawn name) told)) tt));
+  kept = tt;
+  other = λ err none. same;
+}
+
+pub cause_other : {S T : Type 0} (v : S) (r : Result T MoveError) (e : MoveError) (x y : ℕ) → IsErrAnd r (λ w. w ≡ e) → (IsRefusal e → ⊥) → HasNamedCause {E = MoveError} Spawn x y (Ok v) → HasNamedCause Spawn x y r
+cause_other v r e x y is quiet cause = cause_quiet r e x y cause.kept is quiet
+
+-- And so where it ends well.
+pub cause_done : {T : Type 0} (v : T) (x y : ℕ) → y ≡ x → HasNamedCause {E = MoveError} Spawn x y (Ok v)
+cause_done v x y same = record {
+  later = subst (λ n. x ≤ n) (sym same) (omega arith);
+  failed = λ name told. absurd (no_error v (Spawn name) told);
+  kept = same;
+  other = λ err. absurd (no_ok MoveError v err);
+}
+
+pub cause_ok : {S T : Type 0} (v : S) (w : T) (x y : ℕ) → HasNamedCause {E = MoveError} Spawn x y (Ok v) → HasNamedCause {E = MoveError} Spawn x y (Ok w)
+cause_ok v w x y cause = cause_done w x y cause.kept
+
+pub disk_quiet : (e : DiskErr) → IsRefusal (of_disk e) → ⊥
+disk_quiet device.Failed refusal = refusal
+disk_quiet device.Memory refusal = refusal
+
+-- ---- the disk
+
+-- The same error is handed on.
+pub cause_passed : {S T E : Type 0} (r : Result T E) (failure e : E) (x y : ℕ) → IsErrAnd r (λ v. v ≡ e) → HasCauseOf {T = S} failure x y (Err e) → HasCauseOf failure x y r
+cause_passed (Ok v) failure e x y is cause = absurd is
+cause_passed (Err v) failure e x y is cause = record {
+  later = cause.later;
+  failed = λ told. cause.failed (ap Err (sym is ∙ same_error v failure told));
+  kept = tt;
+  other = λ err none. cause.other err (λ told. none (ap Err (is ∙ same_error e failure told)));
+}

@@ -1,0 +1,11 @@
+pub mod Tasks
+pub mod Errors
+pub mod Causes
+pub mod Store
+pub mod Copying
+pub mod Moving
+pub mod Starting
+pub mod Migrating
+pub mod PruneErrors
+pub mod PruningSteps
+pub mod Pruning

@@ -1,0 +1,115 @@
+//! A store is moved to another version.
+ghost use Rattle.std.specs.Prelude.{◌≡◌, ℕ, List, IsTrue, IfOk, IfErr, OnOk, map};
+ghost use Rattle.std.specs.List.{list_all};
+ghost use Rattle.outside.specs.Told.{Moves};
+ghost use Rattle.outside.specs.Faults.{HasCauseOf};
+ghost use Rattle.migrate_chain.specs.Causes.{HasNamedCause};
+ghost use Rattle.settings_tree.specs.declared.held.Held.{Held as World};
+ghost use Rattle.release_file.specs.Release.{names_known};
+ghost use Rattle.migrate_chain.specs.Tasks.{tasks_of};
+ghost use Rattle.migrate_chain.specs.Store.{owing_all, TouchesOthers};
+ghost use Rattle.migrate_chain.specs.Moving.{IsCarried, EndsEarly, Ends, IsSaved, MovesAlong};
+
+use crate::carrying::carry_out;
+use crate::copying::copy_owing_all;
+use crate::mapper::Mapper;
+use crate::move_error::MoveError;
+use crate::start::Start;
+use outside::{Disk, DiskErr, Path};
+use release_file::{Named, Transition};
+use settings_tree::Held;
+use std::alloc::Global;
+use version_links::{Names, Version, flip};
+
+/// A store that was moved.
+#[derive(Drop)]
+pub struct Moved {
+    /// Its version before.
+    pub from: Version,
+    /// Its version now.
+    pub to: Version,
+    /// Its data directory.
+    pub directory: Path,
+}
+
+// The version at which a step begins.
+fn beginning(back: bool, transition: &Transition) -> Version {
+    if back { transition.to } else { transition.from }
+}
+
+// Saves what was reached as a version of its own, unless nothing was done for it.
+fn copy_reached<D: Disk>(
+    alloc: Global,
+    disk: &mut D,
+    first: bool,
+    version: &Version,
+    held: &mut Held,
+) -> Result<(), DiskErr>
+    ensures others { Moves (D.told disk.old) (D.told disk.new) TouchesOthers }
+    ensures held { held.new ≡ held.old }
+    ensures cause { HasCauseOf DiskErr.Failed (D.faults disk.old) (D.faults disk.new) result }
+{
+    if !first {
+        copy_owing_all(alloc, disk, version, held)?;
+    }
+    Ok(())
+}
+
+// Carries out the migrations of the steps, and saves what they make as the last version, and what is reached on the way
+// as the versions between.
+fn copy_along<D: Disk, M: Mapper>(
+    alloc: Global,
+    disk: &mut D,
+    mapper: &mut M,
+    migrations: &[Named],
+    way: &[&Transition],
+    back: bool,
+    to: &Version,
+    mut held: Held,
+) -> Result<Names, MoveError>
+    requires { IsTrue (list_all (names_known migrations.now) (map (λ t. t.now) way.now)) }
+    ensures others { Moves (D.told disk.old) (D.told disk.new) TouchesOthers }
+    ensures copied { IfOk result (λ target. (made : World) × IsCarried (tasks_of migrations.now back (map (λ t. t.now) way.now)) held (M.mapped mapper.old) (M.mapped mapper.new) made
+        × Moves (D.told disk.old) (D.told disk.new) (IsSaved to.now (owing_all made) target)) }
+    ensures not_refused { OnOk result (M.refused mapper.new ≡ M.refused mapper.old) }
+    ensures ends_early { IfErr result (EndsEarly (tasks_of migrations.now back (map (λ t. t.now) way.now)) held (M.mapped mapper.old) (M.mapped mapper.new) (M.refused mapper.old) (M.refused mapper.new)) }
+    ensures disk_cause { HasCauseOf MoveError.Failed (D.faults disk.old) (D.faults disk.new) result }
+    ensures mapper_cause { HasNamedCause (λ name. MoveError.Spawn name) (M.faults mapper.old) (M.faults mapper.new) result }
+{
+    let mut first = true;
+    for transition in way {
+        copy_reached(alloc, disk, first, &beginning(back, transition), &mut held)?;
+        first = false;
+        held = carry_out(mapper, migrations, transition, back, held)?;
+    }
+    Ok(copy_owing_all(alloc, disk, to, &mut held)?)
+}
+
+// Moves the store along these steps.
+pub(crate) fn move_along<D: Disk, M: Mapper>(
+    alloc: Global,
+    disk: &mut D,
+    mapper: &mut M,
+    migrations: &[Named],
+    way: &[&Transition],
+    back: bool,
+    to: &Version,
+    start: Start,
+) -> Result<Moved, MoveError>
+    requires { IsTrue (list_all (names_known migrations.now) (map (λ t. t.now) way.now)) }
+    ensures moves { Moves (D.told disk.old) (D.told disk.new) (MovesAlong start (tasks_of migrations.now back (map (λ t. t.now) way.now)) to.now (M.mapped mapper.old) (M.mapped mapper.new) result) }
+    ensures not_refused { OnOk result (M.refused mapper.new ≡ M.refused mapper.old) }
+    ensures ends { IfErr result (Ends (tasks_of migrations.now back (map (λ t. t.now) way.now)) start.held (M.mapped mapper.old) (M.mapped mapper.new) (M.refused mapper.old) (M.refused mapper.new)) }
+    ensures disk_cause { HasCauseOf MoveError.Failed (D.faults disk.old) (D.faults disk.new) result }
+    ensures mapper_cause { HasNamedCause (λ name. MoveError.Spawn name) (M.faults mapper.old) (M.faults mapper.new) result }
+{
+    let from = start.place.version;
+    let names = copy_along(alloc, disk, mapper, migrations, way, back, to, start.held)?;
+    let directory = names.directory().copy()?;
+    flip(disk, &names)?;
+    Ok(Moved {
+        from,
+        to: *to,
+        directory,
+    })
+}
