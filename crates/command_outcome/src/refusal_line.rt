@@ -1,0 +1,196 @@
+//! The lines of refusals.
+ghost use Rattle.std.specs.Prelude.{◌≡◌, ◌++◌, ◌∷◌, [], IfOk, OnOk, codes, decimal, string_bytes};
+ghost use Rattle.outside.specs.PathText.{joined};
+ghost use Rattle.key_names.specs.Key.{printed};
+ghost use Rattle.version_links.specs.Versions.{version_text};
+ghost use Rattle.api_http.specs.Replies as reply;
+ghost use Rattle.command_outcome.specs.Lines.{status_of, line_of, told, spaced};
+
+use crate::Refusal;
+use itoa::Buffer;
+use key_names::{Key, Text};
+use outside::Path;
+use std::alloc::{AllocError, Global};
+use version_links::Version;
+
+// Adds a space and a text.
+fn push_text(line: &mut Vec<u8>, text: &Text) -> Result<(), AllocError>
+    ensures { OnOk result (line.new.items ≡ line.old.items ++ spaced text.now) }
+{
+    line.push(b' ')?;
+    line.extend_from_slice(text.as_str().as_bytes())
+}
+
+// Adds words, a space and a path.
+fn push_path(line: &mut Vec<u8>, words: &str, path: &Path) -> Result<(), AllocError>
+    ensures { OnOk result (line.new.items ≡ line.old.items ++ (words.now ++ spaced (joined path.now))) }
+{
+    line.extend_from_slice(words.as_bytes())?;
+    line.push(b' ')?;
+    line.extend_from_slice(&path.print()?)
+}
+
+fn push_image(line: &mut Vec<u8>, file: &Text, kind: &Text, at: &Text) -> Result<(), AllocError>
+    ensures { OnOk result (line.new.items
+        ≡ line.old.items ++ (codes "bad image" ++ spaced file.now ++ spaced kind.now ++ spaced at.now)) }
+{
+    line.extend_from_slice(b"bad image")?;
+    push_text(line, file)?;
+    push_text(line, kind)?;
+    push_text(line, at)
+}
+
+// Adds words, a space and a key.
+fn push_key(line: &mut Vec<u8>, words: &str, key: &Key) -> Result<(), AllocError>
+    ensures { OnOk result (line.new.items ≡ line.old.items ++ (words.now ++ spaced (printed key.now))) }
+{
+    line.extend_from_slice(words.as_bytes())?;
+    push_text(line, &key.print()?)
+}
+
+fn text_of(alloc: Global, version: &Version) -> Result<String, AllocError>
+    ensures { IfOk result (λ text. string_bytes text ≡ version_text version.now) }
+{
+    format!(in alloc; "{version}")
+}
+
+// Adds a space and a version.
+fn push_version(alloc: Global, line: &mut Vec<u8>, version: &Version) -> Result<(), AllocError>
+    ensures { OnOk result (line.new.items ≡ line.old.items ++ spaced (version_text version.now)) }
+{
+    let text = text_of(alloc, version)?;
+    line.push(b' ')?;
+    line.extend_from_slice(text.as_bytes())
+}
+
+fn push_there(alloc: Global, line: &mut Vec<u8>, version: &Version) -> Result<(), AllocError>
+    ensures { OnOk result (line.new.items ≡ line.old.items ++ (codes "already there" ++ spaced (version_text version.now))) }
+{
+    line.extend_from_slice(b"already there")?;
+    push_version(alloc, line, version)
+}
+
+fn push_missing(
+    alloc: Global,
+    line: &mut Vec<u8>,
+    at: &Version,
+    target: &Version,
+) -> Result<(), AllocError>
+    ensures { OnOk result (line.new.items ≡ line.old.items
+        ++ (codes "missing" ++ spaced (version_text at.now) ++ spaced (version_text target.now))) }
+{
+    line.extend_from_slice(b"missing")?;
+    push_version(alloc, line, at)?;
+    push_version(alloc, line, target)
+}
+
+// Adds words, a space and a name.
+fn push_name(line: &mut Vec<u8>, words: &str, name: &Text) -> Result<(), AllocError>
+    ensures { OnOk result (line.new.items ≡ line.old.items ++ (words.now ++ spaced name.now)) }
+{
+    line.extend_from_slice(words.as_bytes())?;
+    push_text(line, name)
+}
+
+fn push_status(line: &mut Vec<u8>, name: &Text, number: u16) -> Result<(), AllocError>
+    ensures { OnOk result (line.new.items
+        ≡ line.old.items ++ (codes "migration" ++ spaced name.now ++ codes " status " ++ decimal number)) }
+{
+    let mut buffer = Buffer::new();
+    push_name(line, "migration", name)?;
+    line.extend_from_slice(b" status ")?;
+    line.extend_from_slice(buffer.format(number).as_bytes())
+}
+
+fn push_output(line: &mut Vec<u8>, name: &Text) -> Result<(), AllocError>
+    ensures { OnOk result (line.new.items ≡ line.old.items ++ (codes "migration" ++ spaced name.now ++ codes " output")) }
+{
+    push_name(line, "migration", name)?;
+    line.extend_from_slice(b" output")
+}
+
+fn push_reply(
+    alloc: Global,
+    line: &mut Vec<u8>,
+    refusal: &api_http::Refusal,
+) -> Result<(), AllocError>
+    ensures { OnOk result (line.new.items ≡ line.old.items
+        ++ (codes "refused" ++ spaced (decimal (reply.status_of refusal.now).0) ++ spaced (reply.refusal_text refusal.now))) }
+{
+    let mut buffer = Buffer::new();
+    line.extend_from_slice(b"refused ")?;
+    line.extend_from_slice(buffer.format(refusal.status()).as_bytes())?;
+    push_text(line, &refusal.body(alloc)?)
+}
+
+// Adds what is told of the refusal behind the program's name.
+fn push_told(alloc: Global, line: &mut Vec<u8>, refusal: &Refusal) -> Result<(), AllocError>
+    ensures { OnOk result (line.new.items ≡ line.old.items ++ told refusal.now) }
+{
+    match refusal {
+        Refusal::Memory => line.extend_from_slice(b"memory"),
+        Refusal::Usage => line.extend_from_slice(b"usage"),
+        Refusal::Disk => line.extend_from_slice(b"disk"),
+        Refusal::Spawn { name } => push_name(line, "spawn", name),
+        Refusal::NoStore => line.extend_from_slice(b"no store"),
+        Refusal::Damaged { path } => push_path(line, "damaged", path),
+        Refusal::BadLink { path } => push_path(line, "bad link", path),
+        Refusal::BadJournal { path } => push_path(line, "bad journal", path),
+        Refusal::BadImage { file, kind, at } => push_image(line, file, kind, at),
+        Refusal::IllTyped { key } => push_key(line, "ill typed", key),
+        Refusal::NotCovered { .. } => Ok(()),
+        Refusal::Missing { at, target } => push_missing(alloc, line, at, target),
+        Refusal::Conflict { key } => push_key(line, "conflict", key),
+        Refusal::Refused { refusal } => push_reply(alloc, line, refusal),
+        Refusal::AlreadyThere { version } => push_there(alloc, line, version),
+        Refusal::OldFormat { directory } => push_path(line, "old format", directory),
+        Refusal::MigrationStatus { name, number } => push_status(line, name, *number),
+        Refusal::MigrationOutput { name } => push_output(line, name),
+        Refusal::NotBuilt => line.extend_from_slice(b"not built"),
+    }
+}
+
+// The line that begins with the program's name.
+fn named_line(alloc: Global, refusal: &Refusal) -> Result<Vec<u8>, AllocError>
+    ensures { IfOk result (λ line. line.items ≡ codes "settings: " ++ told refusal.now ++ codes "\n") }
+{
+    let mut line = Vec::from_slice(alloc, b"settings: ")?;
+    push_told(alloc, &mut line, refusal)?;
+    line.push(b'\n')?;
+    Ok(line)
+}
+
+impl Refusal {
+    /// The status of a command that is refused so. It takes no memory.
+    pub fn status(&self) -> u8
+        ensures { result ≡ status_of self.now }
+    {
+        match self {
+            Refusal::Memory => 1,
+            Refusal::Usage => 2,
+            Refusal::Disk => 3,
+            Refusal::Spawn { .. } => 5,
+            Refusal::NoStore => 6,
+            Refusal::Damaged { .. } | Refusal::BadLink { .. } | Refusal::BadJournal { .. } => 7,
+            Refusal::BadImage { .. } | Refusal::IllTyped { .. } => 8,
+            Refusal::NotCovered { .. } => 9,
+            Refusal::Missing { .. } | Refusal::Conflict { .. } => 11,
+            Refusal::Refused { .. } => 13,
+            Refusal::AlreadyThere { .. } => 14,
+            Refusal::OldFormat { .. } => 15,
+            Refusal::MigrationStatus { .. } | Refusal::MigrationOutput { .. } => 18,
+            Refusal::NotBuilt => 20,
+        }
+    }
+
+    /// What is printed of the refusal, with a line feed at its end: a line that begins with `settings: `, or the lines that tell of
+    /// each configuration file. The only error is want of memory.
+    pub fn line(&self, alloc: Global) -> Result<Vec<u8>, AllocError>
+        ensures { IfOk result (λ line. line.items ≡ line_of self.now) }
+    {
+        match self {
+            Refusal::NotCovered { lines } => lines.as_slice().to_vec(alloc),
+            _ => named_line(alloc, self),
+        }
+    }
+}
