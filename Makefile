@@ -1,7 +1,7 @@
 # The two commands of the set-up: `make first-run` and `make test`.
 
 # Builds the program, which `rt run` does only once all of it is proved, and makes the first run in a folder of its own.
-# An earlier build goes first, so what runs is what was proved now. The run without words is refused (status 20) and
+# An earlier build goes first, so what runs is what was proved now. The run without words is refused (status 2) and
 # touches nothing; whether the build went well shows in the program that it leaves.
 first-run:
 	rm -f crates/settings/out/settings

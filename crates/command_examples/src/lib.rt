@@ -2,4 +2,12 @@
 #![tactic(auto)]
 
 #[cfg(test)]
-mod tests;
+mod checks;
+#[cfg(test)]
+mod keeping;
+#[cfg(test)]
+mod runs;
+#[cfg(test)]
+mod stores;
+#[cfg(test)]
+mod words;

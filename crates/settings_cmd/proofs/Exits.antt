@@ -1,5 +1,5 @@
 -- What the exits of `keep` leave.
-use Rattle.std.proofs.Common.{◌≡◌, inl, inr, ℕ, List, Bool, true, false, ◌||◌, is_some, option_map, Option, Some, None, Result, Ok, refl, sym, ◌∙◌, ap, subst}
+use Rattle.std.proofs.Common.{◌≡◌, inl, inr, ℕ, List, Bool, true, false, ◌||◌, is_some, option_map, Option, Some, None, Result, Ok, Err, refl, sym, ◌∙◌, ap, subst}
 use Rattle.outside.specs.Names.{Names}
 use Rattle.outside.specs.Told.{Moves, WhereTold}
 use Rattle.outside.specs.Tree.{Node, Tree, file, link, node_at, file_in, link_in}
@@ -9,6 +9,13 @@ use Rattle.outside.specs.DiskCalls.{Puts, Syncs}
 use Rattle.outside.proofs.Told.{moves_same, moves_then, moves_map, moves_after, moves_where, where_map, where_both}
 use Rattle.outside.proofs.Crash.{settled_image, settled_synced, EachImage-replaced}
 use Rattle.outside.proofs.Since.{since_start, since_map, since_puts, since_syncs}
+use Rattle.outside.specs.Faults.{HandsOn}
+use Rattle.outside.specs.declared.disk_error.DiskErr.{DiskErr}
+use Rattle.outside.specs.declared.disk_error.DiskErr.TheVariants as device
+use Rattle.command_outcome.specs.Ends.{Outcome}
+use Rattle.command_outcome.specs.declared.refusal.Refusal.{Refusal}
+use Rattle.command_outcome.specs.declared.refusal.Refusal.TheVariants as refused
+use Rattle.settings_cmd.specs.Carried.{Keeps}
 use Rattle.settings_cmd.specs.Setting.{AsksFor, store_text, IsStoreText}
 use Rattle.settings_cmd.specs.Stored.{store_path, HasStore, HasNoStore, IsTreeOrPut, IsPut, IsKept, IsBeforeOrAfter}
 
@@ -83,5 +90,16 @@ none_there (Some n) e = cc
 -- nothing is found at the store's path
 pub has_no_store : (there : Bool) (a : Option History) → there ≡ false → WhereTold a (λ h. there ≡ is_some (node_at (tree_of h) store_path)) → WhereTold a (λ h. HasNoStore (tree_of h))
 has_no_store there a no_it_is_not found = where_map (λ h is. record { none = none_there (node_at (tree_of h) store_path) (sym no_it_is_not ∙ is) }) found
+
+-- Why a setting was not kept, before anything was written
+pub keeps_failed : (words : List (List ℕ)) (name text bytes : List ℕ) → AsksFor words name text → bytes ≡ store_text name text → (device : DiskErr) (refusal : Refusal) (outcome : Outcome) (d d' : Option History)
+    → HandsOn refused.Disk refused.Memory device refusal → outcome ≡ Err refusal → d' ≡ d → Keeps words outcome d d'
+keeps_failed words name text bytes asks is device.Failed refusal outcome d d' hands told same =
+    subst (λ (o : Outcome). Keeps words o d d') (sym (told ∙ ap (λ (r : Refusal). Err r) hands)) (some_text words name text bytes asks is)
+keeps_failed words name text bytes asks is device.Memory refusal outcome d d' hands told same = subst (λ (o : Outcome). Keeps words o d d') (sym (told ∙ ap (λ (r : Refusal). Err r) hands)) same
+
+-- and once it was begun
+pub keeps_broken : (words : List (List ℕ)) (name text bytes : List ℕ) → AsksFor words name text → bytes ≡ store_text name text → (refusal : Refusal) (outcome : Outcome) (d d' : Option History) → refusal ≡ refused.Disk → outcome ≡ Err refusal → Keeps words outcome d d'
+keeps_broken words name text bytes asks is refusal outcome d d' hands told = subst (λ (o : Outcome). Keeps words o d d') (sym (told ∙ ap (λ (r : Refusal). Err r) hands)) (some_text words name text bytes asks is)
 
 pub ruleset exits = (unchanged, keeps_any, keeps_it, some_text, has_store, has_no_store)

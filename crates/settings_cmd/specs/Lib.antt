@@ -1,4 +1,10 @@
+pub mod Carried
+pub mod Checks
+pub mod Gets
+pub mod Handing
+pub mod Laws
+pub mod Prunes
+pub mod Releases
+pub mod Runs
 pub mod Setting
 pub mod Stored
-pub mod Said
-pub mod Ended

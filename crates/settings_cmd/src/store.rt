@@ -1,51 +1,54 @@
 //! A setting is kept on the disk.
-ghost use Rattle.std.specs.Prelude.{◌≡◌, ◌⊎◌, ◌≤◌, List, ℕ, is_some, string_bytes, IfOk, OnOk, IsErrOf};
+ghost use Rattle.std.specs.Prelude.{◌≡◌, ◌∷◌, ◌++◌, [], is_some, IfOk, OnOk};
 ghost use Rattle.outside.specs.Tree.{node_at};
 ghost use Rattle.outside.specs.History.{tree_of};
 ghost use Rattle.outside.specs.Since.{LeavesOnly};
 ghost use Rattle.outside.specs.Told.{Moves, WhereTold};
-ghost use Rattle.outside.specs.Faults.{Rose, HasCause, HasCauseOf};
-ghost use Rattle.settings_cmd.specs.Setting.{texts, AsksNothing, IsStoreText};
-ghost use Rattle.settings_cmd.specs.Stored.{store_path, HasStore, IsTreeOrPut, IsPut, IsKept, IsBeforeOrAfter};
+ghost use Rattle.outside.specs.Faults.{HasCause, HasCauseOf};
+ghost use Rattle.settings_cmd.specs.Carried.{Keeps};
+ghost use Rattle.settings_cmd.specs.Setting.{texts};
+ghost use Rattle.settings_cmd.specs.Stored.{store_path, IsTreeOrPut, IsPut, IsBeforeOrAfter};
 
-use crate::refusal::Refusal;
 use crate::setting::setting_of;
+use command_outcome::Refusal;
+use key_names::Bytes;
 use outside::{Disk, DiskErr, Failed, Name, Path};
 use std::alloc::{AllocError, Global};
 
-/// Keeps the setting that the words ask for in a store that isn't there yet, and answers the store's text.
+// The text and a line feed.
+fn line_of(alloc: Global, text: &[u8]) -> Result<Bytes, AllocError>
+    ensures { IfOk result (λ line. line ≡ text.now ++ 10 ∷ []) }
+{
+    let mut line = text.to_vec(alloc)?;
+    line.push(b'\n')?;
+    Ok(Bytes::of(line))
+}
+
+/// Keeps the setting that the words ask for in a store that isn't there yet, and answers the store's text and a line feed.
 ///
 /// `NotBuilt` exactly where the words ask for nothing that is built or something stands at the store's path,
 /// `Disk` where the disk fails, and `Memory` where memory is wanting. After `NotBuilt` and `Memory` the disk is as
 /// before; after `Disk` a crash leaves the old tree or the new one.
 #[tactic(auto, using(crate::proofs::Exits::exits))]
-pub fn keep<D: Disk>(alloc: Global, words: &[String], disk: &mut D) -> Result<String, Refusal>
+pub fn keep<D: Disk>(alloc: Global, words: &[String], disk: &mut D) -> Result<Bytes, Refusal>
     // A crash at any moment of the call leaves the tree from before it, or with the setting.
     ensures any_moment { Moves (D.told disk.old) (D.told disk.new) (LeavesOnly (IsBeforeOrAfter (texts words.now))) }
 
     // From then on each crash leaves the tree with the setting.
-    ensures text { IfOk result (λ written. IsStoreText (texts words.now) (string_bytes written)) }
-    ensures kept { IfOk result (λ written. Moves (D.told disk.old) (D.told disk.new)
-        (IsKept (string_bytes written))) }
-
-    ensures not_built { IsErrOf result Refusal.NotBuilt
-        → AsksNothing (texts words.now) ⊎ WhereTold (D.told disk.old) (λ h. HasStore (tree_of h)) }
-    ensures not_built_same { IsErrOf result Refusal.NotBuilt → D.told disk.new ≡ D.told disk.old }
-    ensures memory_same { IsErrOf result Refusal.Memory → D.told disk.new ≡ D.told disk.old }
-
-    ensures disk_words { IsErrOf result Refusal.Disk → (bytes : List ℕ) × IsStoreText (texts words.now) bytes }
+    ensures keeps { Keeps (texts words.now) result (D.told disk.old) (D.told disk.new) }
     ensures cause { HasCauseOf Refusal.Disk (D.faults disk.old) (D.faults disk.new) result }
 {
     let Some(setting) = setting_of(alloc, words)? else {
         return Err(Refusal::NotBuilt);
     };
     let text = setting.store_text(alloc)?;
+    let line = line_of(alloc, text.as_bytes())?;
     let path = store_path(alloc)?;
     if stands(alloc, disk, &path)? {
         return Err(Refusal::NotBuilt);
     }
     put_one(disk, &path, text.as_bytes())?;
-    Ok(text)
+    Ok(line)
 }
 
 // Whether a file or a link stands at the path.

@@ -1,0 +1,112 @@
+//! The command `check`.
+use crate::runs::{disk_of, runs, words_of};
+use disk_memory::MemorySink;
+use settings_cmd::run;
+use std::test::Fail;
+
+// A host whose file chrony is covered, or not: the second part is added to the model.
+const HOST: &str = "[types]
+\"settings.motd\" = \"line\"
+\"settings.ntp.time-servers\" = \"list line\"
+[services.motd]
+configuration-files = [\"motd\"]
+restart-commands = []
+[services.chronyd]
+configuration-files = [\"chrony\"]
+restart-commands = []
+[configuration-files.motd]
+path = \"/etc/motd\"
+template-path = \"motd\"
+[configuration-files.chrony]
+path = \"/etc/chrony.conf\"
+template-path = \"chrony\"
+[metadata.settings.motd]
+affected-services = [\"motd\"]
+[metadata.settings.ntp]
+affected-services = [\"chronyd\"]
+";
+
+const CHRONY: &str = "{{#if settings.ntp}}on{{/if}}";
+
+const MOTD: &str = "{{settings.motd}}\n";
+
+// What is added to the host's model, the template of chrony, and the status and the lines of `check`.
+const ROWS: &[(&str, &str, u8, &str)] = &[
+    ("", CHRONY, 0, "chrony covered\nmotd covered\n"),
+    (
+        "[metadata.settings.ntp.time-servers]\naffected-services = [\"motd\"]\n",
+        CHRONY,
+        9,
+        "chrony uncovered settings.ntp settings.ntp.time-servers chronyd\nmotd covered\n",
+    ),
+    (
+        "[configuration-files.spare]\npath = \"/etc/spare\"\ntemplate-path = \"motd\"\n",
+        CHRONY,
+        9,
+        "chrony covered\nmotd covered\nspare no service\n",
+    ),
+    (
+        "",
+        "{{settings.none}}",
+        9,
+        "chrony not in model settings.none\nmotd covered\n",
+    ),
+    (
+        "",
+        "{{settings.motd",
+        8,
+        "settings: bad image templates/chrony unclosed 0\n",
+    ),
+    (
+        "[",
+        CHRONY,
+        8,
+        "settings: bad image model.toml not-toml -\n",
+    ),
+];
+
+#[test]
+fn images_are_checked(rt: HostRuntime) -> Result<(), Fail> {
+    let alloc = rt.alloc();
+    for (more, chrony, status, printed) in ROWS {
+        let model = format!(in alloc; "{HOST}{more}")?;
+        let files = [
+            ("image/model.toml", model.as_str()),
+            ("image/templates/motd", MOTD),
+            ("image/templates/chrony", *chrony),
+        ];
+        let mut disk = disk_of(alloc, &files)?;
+        runs(alloc, &mut disk, "check", *status, printed)?;
+    }
+    let mut disk = disk_of(alloc, &[])?;
+    runs(
+        alloc,
+        &mut disk,
+        "check",
+        8,
+        "settings: bad image model.toml missing -\n",
+    )
+}
+
+#[test]
+fn devices_fail_in_a_check(rt: HostRuntime) -> Result<(), Fail> {
+    let alloc = rt.alloc();
+    let files = [
+        ("image/model.toml", HOST),
+        ("image/templates/motd", MOTD),
+        ("image/templates/chrony", CHRONY),
+    ];
+    for call in 0..3u64 {
+        let mut disk = disk_of(alloc, &files)?;
+        let mut which = Vec::new(alloc);
+        which.push(call + 5)?;
+        disk.fail_calls(which);
+        runs(alloc, &mut disk, "check", 3, "settings: disk\n")?;
+    }
+    let words = words_of(alloc, "check")?;
+    let mut disk = disk_of(alloc, &files)?;
+    let mut out = MemorySink::fail_from(alloc, 6);
+    assert_eq!(rt; run(alloc, &words, &mut disk, &mut out), 12);
+    assert_eq!(rt; out.written(), b"chrony".as_slice());
+    Ok(())
+}

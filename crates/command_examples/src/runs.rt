@@ -1,0 +1,62 @@
+//! One run over devices in memory.
+use disk_memory::{MemoryDisk, MemorySink};
+use outside::{Disk, Path};
+use settings_cmd::run;
+use std::alloc::{AllocError, Global};
+use std::test::Fail;
+
+/// The words of a command line, split at spaces.
+pub fn words_of(alloc: Global, line: &str) -> Result<Vec<String>, AllocError> {
+    let mut words = Vec::new(alloc);
+    for word in line.split(' ') {
+        if !word.is_empty() {
+            words.push(String::from_str(alloc, word)?)?;
+        }
+    }
+    Ok(words)
+}
+
+/// Runs the words of the line, and compares the status and what was printed.
+pub fn runs(
+    alloc: Global,
+    disk: &mut MemoryDisk,
+    line: &str,
+    status: u8,
+    printed: &str,
+) -> Result<(), Fail> {
+    let words = words_of(alloc, line)?;
+    let mut out = MemorySink::new(alloc);
+    let ended = run(alloc, &words, disk, &mut out);
+    let text = String::from_utf8_lossy(alloc, out.written())?;
+    if ended == status && text.as_str() == printed {
+        return Ok(());
+    }
+    Err(Fail::new(format_args!(
+        "`{line}` ended with {ended}, not {status}, and printed {}",
+        text.as_str()
+    )))
+}
+
+/// Puts a file at the path.
+pub fn put(alloc: Global, disk: &mut MemoryDisk, path: &str, bytes: &str) -> Result<(), Fail> {
+    let path = Path::read(alloc, path.as_bytes())?;
+    disk.replace(&path, bytes.as_bytes())?;
+    Ok(())
+}
+
+/// Removes the file at the path.
+pub fn remove(alloc: Global, disk: &mut MemoryDisk, path: &str) -> Result<(), Fail> {
+    let path = Path::read(alloc, path.as_bytes())?;
+    disk.remove(&path)?;
+    Ok(())
+}
+
+/// A disk with these files, on the disk.
+pub fn disk_of(alloc: Global, files: &[(&str, &str)]) -> Result<MemoryDisk, Fail> {
+    let mut disk = MemoryDisk::new(alloc)?;
+    for (path, bytes) in files {
+        put(alloc, &mut disk, path, bytes)?;
+    }
+    disk.sync()?;
+    Ok(disk)
+}
