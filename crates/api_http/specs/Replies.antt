@@ -13,14 +13,17 @@ use Rattle.api_http.specs.declared.answer.Answer.{Answer}
 use Rattle.api_http.specs.declared.answer.Answer.TheVariants.{Json, Empty, Refused}
 use Rattle.api_http.specs.Routes.{methods_of}
 
--- A reply as it is sent: its status and its bytes.
+-- A reply as it is sent: its status, all its bytes, and its body, which is the end of them.
 pub record Sent : Type 0 where
   pub status : ℕ
   pub bytes : List ℕ
+  pub body : List ℕ
 
 -- How the logic stores it; no clause cites this.
 abbrev pub sent_code : Coded Sent
-sent_code = code_by (ℕ × List ℕ) (coded× coded_ℕ (coded_list coded_ℕ)) (λ s. (s.status, s.bytes)) (λ p. record { status = p.0; bytes = p.1 }) (λ _. refl)
+sent_code =
+    code_by (ℕ × (List ℕ × List ℕ)) (coded× coded_ℕ (coded× (coded_list coded_ℕ) (coded_list coded_ℕ))) (λ s. (s.status, (s.bytes, s.body)))
+    (λ p. record { status = p.0; bytes = p.1.0; body = p.1.1 }) (λ _. refl)
 
 -- A status with its phrase.
 abbrev pub Status : Type 0
@@ -94,6 +97,7 @@ abbrev pub with_body : Status → List ℕ → List ℕ → Sent
 with_body status field body = record {
   status = status.0;
   bytes = codes "HTTP/1.1 " ++ decimal status.0 ++ codes " " ++ status.1 ++ codes "\r\nContent-Type: application/json\r\nContent-Length: " ++ decimal (length body) ++ codes "\r\n" ++ field ++ codes "Connection: close\r\n\r\n" ++ body;
+  body = body;
 }
 
 -- The reply of a refusal.
@@ -103,10 +107,14 @@ refused refusal = with_body (status_of refusal) (allow_field refusal) (refusal_t
 -- The reply of an answer.
 abbrev pub reply_text : Answer → Sent
 reply_text (Json text) = with_body (200, codes "OK") [] text
-reply_text Empty = record { status = 204; bytes = codes "HTTP/1.1 204 No Content\r\nConnection: close\r\n\r\n" }
+reply_text Empty = record { status = 204; bytes = codes "HTTP/1.1 204 No Content\r\nConnection: close\r\n\r\n"; body = [] }
 reply_text (Refused refusal) = refused refusal
 
 -- ---- for private clauses
+
+-- The reply whose head begins with these bytes, and has one more field.
+abbrev pub ended : ℕ → List ℕ → List ℕ → Sent
+ended status front body = record { status = status; bytes = front ++ codes "Connection: close\r\n\r\n" ++ body; body = body }
 
 -- The texts as they follow, of which the first may be the first of all.
 abbrev pub going_on : Bool → List (List ℕ) → List ℕ

@@ -1,7 +1,8 @@
 //! Replies.
-ghost use Rattle.std.specs.Prelude.{◌≡◌, ◌++◌, [], IfOk, OnOk, map, codes, decimal};
+ghost use Rattle.std.specs.Prelude.{◌≡◌, ◌≤◌, ◌++◌, [], length, IfOk, OnOk, map, codes, decimal};
+ghost use Rattle.api_http.specs.ReplyBytes.{bytes_of};
 ghost use Rattle.api_http.specs.Routes.{row_of, methods_in};
-ghost use Rattle.api_http.specs.Replies.{listed, allow_field, with_body, refused, reply_text};
+ghost use Rattle.api_http.specs.Replies.{listed, allow_field, with_body, refused, reply_text, ended};
 
 use crate::route::{ROWS, Row};
 use crate::{Answer, Refusal};
@@ -22,9 +23,13 @@ enum ReplyBytes {
 pub struct Reply {
     status: u16,
     bytes: ReplyBytes,
+    // How long the head is: the body begins there.
+    head: usize,
+    ghost within: { head ≤ length (bytes_of bytes) },
 }
 
 impl Model for Reply {
+    ghost use Rattle.std.specs.Prelude.{drop};
     ghost use Rattle.api_http.specs.Replies.{Sent, sent_code};
     ghost use Rattle.api_http.specs.ReplyBytes.{bytes_of};
 
@@ -32,7 +37,7 @@ impl Model for Reply {
 
     ghost coded = { sent_code };
 
-    ghost view = { λ r. record { status = r.status; bytes = bytes_of r.bytes } };
+    ghost view = { λ r. record { status = r.status; bytes = bytes_of r.bytes; body = drop r.head (bytes_of r.bytes) } };
 }
 
 const NO_MEMORY: &[u8; 125] =
@@ -51,6 +56,7 @@ impl Reply {
         Reply {
             status: 503,
             bytes: ReplyBytes::Fixed(NO_MEMORY),
+            head: 107,
         }
     }
 
@@ -61,6 +67,7 @@ impl Reply {
         Reply {
             status: 500,
             bytes: ReplyBytes::Fixed(DISK_FAULT),
+            head: 109,
         }
     }
 
@@ -79,6 +86,13 @@ impl Reply {
             ReplyBytes::Fixed(bytes) => *bytes,
             ReplyBytes::Made(bytes) => bytes.as_slice(),
         }
+    }
+
+    /// The body of the reply, empty where it has none. It takes no memory.
+    pub fn body(&self) -> &[u8]
+        ensures { result.now ≡ self.now.body }
+    {
+        &self.bytes()[self.head..]
     }
 }
 
@@ -136,25 +150,27 @@ fn front_of(alloc: Global, status: u16, phrase: &str, size: usize) -> Result<Vec
     Ok(out)
 }
 
-// Adds the end of the head, and the body.
-fn push_end(out: &mut Vec<u8>, body: &[u8]) -> Result<(), AllocError>
-    ensures { OnOk result (out.new.items
-        ≡ out.old.items ++ codes "Connection: close\r\n\r\n" ++ body.now) }
+// The reply whose head begins with these bytes: the end of the head is added, and the body.
+fn ended(status: u16, front: Vec<u8>, body: &[u8]) -> Result<Reply, AllocError>
+    ensures { IfOk result (λ reply. reply ≡ ended status front.items body.now) }
 {
-    out.extend_from_slice(b"Connection: close\r\n\r\n")?;
-    out.extend_from_slice(body)
+    let mut bytes = front;
+    bytes.extend_from_slice(b"Connection: close\r\n\r\n")?;
+    let head = bytes.len();
+    bytes.extend_from_slice(body)?;
+    Ok(Reply {
+        status,
+        bytes: ReplyBytes::Made(bytes),
+        head,
+    })
 }
 
 fn json_reply(alloc: Global, text: &Text) -> Result<Reply, AllocError>
     ensures { IfOk result (λ reply. reply ≡ with_body (200, codes "OK") [] text.now) }
 {
     let body = text.as_str().as_bytes();
-    let mut out = front_of(alloc, 200, "OK", body.len())?;
-    push_end(&mut out, body)?;
-    Ok(Reply {
-        status: 200,
-        bytes: ReplyBytes::Made(out),
-    })
+    let front = front_of(alloc, 200, "OK", body.len())?;
+    ended(200, front, body)
 }
 
 fn refused_reply(alloc: Global, refusal: &Refusal) -> Result<Reply, AllocError>
@@ -163,13 +179,9 @@ fn refused_reply(alloc: Global, refusal: &Refusal) -> Result<Reply, AllocError>
     let (status, phrase) = refusal.status_line();
     let text = refusal.body(alloc)?;
     let body = text.as_str().as_bytes();
-    let mut out = front_of(alloc, status, phrase, body.len())?;
-    push_allow(&mut out, refusal)?;
-    push_end(&mut out, body)?;
-    Ok(Reply {
-        status,
-        bytes: ReplyBytes::Made(out),
-    })
+    let mut front = front_of(alloc, status, phrase, body.len())?;
+    push_allow(&mut front, refusal)?;
+    ended(status, front, body)
 }
 
 /// The reply of an answer, as HTTP/1.1 (RFC 9112).
@@ -188,6 +200,7 @@ pub fn print_reply(alloc: Global, answer: &Answer) -> Result<Reply, AllocError>
         Answer::Empty => Ok(Reply {
             status: 204,
             bytes: ReplyBytes::Fixed(DONE),
+            head: DONE.len(),
         }),
         Answer::Refused { refusal } => refused_reply(alloc, refusal),
     }

@@ -3,15 +3,17 @@ use Rattle.std.specs.Prelude.{ℕ, List, [], ◌∷◌, ◌++◌, codes, decimal
 use Rattle.outside.specs.PathText.{joined}
 use Rattle.key_names.specs.Key.{printed}
 use Rattle.version_links.specs.Versions.{version_text}
-use Rattle.api_http.specs.Replies as reply
+use Rattle.template_eval.specs.declared.render_error.RenderError.{RenderError}
+use Rattle.template_eval.specs.declared.render_error.RenderError.TheVariants as render
 use Rattle.command_outcome.specs.declared.refusal.Refusal.{Refusal}
-use Rattle.command_outcome.specs.declared.refusal.Refusal.TheVariants.{Memory, Usage, Disk, Spawn, NoStore, Damaged, BadLink, BadJournal, BadImage, IllTyped, NotCovered, Missing, Conflict, Refused, AlreadyThere, OldFormat, MigrationStatus, MigrationOutput, NotBuilt}
+use Rattle.command_outcome.specs.declared.refusal.Refusal.TheVariants.{Memory, Usage, Disk, Door, Spawn, NoStore, Damaged, BadLink, BadJournal, BadImage, IllTyped, NotCovered, Render, Status, Missing, Conflict, Refused, AlreadyThere, OldFormat, MigrationStatus, MigrationOutput, NotBuilt}
 
 -- The status of a refused command.
 abbrev pub status_of : Refusal → ℕ
 status_of Memory = 1
 status_of Usage = 2
 status_of Disk = 3
+status_of Door = 4
 status_of (Spawn name) = 5
 status_of NoStore = 6
 status_of (Damaged path) = 7
@@ -20,9 +22,11 @@ status_of (BadJournal path) = 7
 status_of (BadImage file kind at) = 8
 status_of (IllTyped key) = 8
 status_of (NotCovered lines) = 9
+status_of (Render file error) = 10
+status_of (Status service number) = 10
 status_of (Missing at target) = 11
 status_of (Conflict key) = 11
-status_of (Refused refusal) = 13
+status_of (Refused status body) = 13
 status_of (AlreadyThere version) = 14
 status_of (OldFormat directory) = 15
 status_of (MigrationStatus name number) = 18
@@ -33,11 +37,28 @@ status_of NotBuilt = 20
 abbrev pub spaced : List ℕ → List ℕ
 spaced text = 32 ∷ text
 
+-- The word for why a template refused; want of memory has none.
+abbrev pub render_word : RenderError → List ℕ
+render_word (render.Missing path) = codes "missing"
+render_word (render.NotScalar path) = codes "not-scalar"
+render_word (render.NotList path) = codes "not-list"
+render_word (render.BadBase64 path) = codes "bad-base64"
+render_word render.Memory = []
+
+-- The path at which it refused, as it is written; want of memory has none.
+abbrev pub render_path : RenderError → List ℕ
+render_path (render.Missing path) = path
+render_path (render.NotScalar path) = path
+render_path (render.NotList path) = path
+render_path (render.BadBase64 path) = path
+render_path render.Memory = []
+
 -- What is told of a refusal behind the program's name.
 abbrev pub told : Refusal → List ℕ
 told Memory = codes "memory"
 told Usage = codes "usage"
 told Disk = codes "disk"
+told Door = codes "door"
 told (Spawn name) = codes "spawn" ++ spaced name
 told NoStore = codes "no store"
 told (Damaged path) = codes "damaged" ++ spaced (joined path)
@@ -46,9 +67,11 @@ told (BadJournal path) = codes "bad journal" ++ spaced (joined path)
 told (BadImage file kind at) = codes "bad image" ++ spaced file ++ spaced kind ++ spaced at
 told (IllTyped key) = codes "ill typed" ++ spaced (printed key)
 told (NotCovered lines) = []
+told (Render file error) = codes "render" ++ spaced file ++ spaced (render_word error) ++ spaced (render_path error)
+told (Status service number) = codes "status" ++ spaced service ++ spaced (decimal number)
 told (Missing at target) = codes "missing" ++ spaced (version_text at) ++ spaced (version_text target)
 told (Conflict key) = codes "conflict" ++ spaced (printed key)
-told (Refused refusal) = codes "refused" ++ spaced (decimal (reply.status_of refusal).0) ++ spaced (reply.refusal_text refusal)
+told (Refused status body) = codes "refused" ++ spaced (decimal status) ++ spaced body
 told (AlreadyThere version) = codes "already there" ++ spaced (version_text version)
 told (OldFormat directory) = codes "old format" ++ spaced (joined directory)
 told (MigrationStatus name number) = codes "migration" ++ spaced name ++ codes " status " ++ decimal number

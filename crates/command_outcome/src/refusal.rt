@@ -3,6 +3,7 @@
 use key_names::{Bytes, Key, Text};
 use outside::{DiskErr, Failed, Path};
 use std::alloc::{AllocError, AllocFailed};
+use template_eval::RenderError;
 use version_links::Version;
 
 /// Why a command is refused.
@@ -14,6 +15,8 @@ pub enum Refusal {
     Usage,
     /// 3: the disk failed: its count of faults rose.
     Disk,
+    /// 4: no connection could be accepted: the door's count of faults rose.
+    Door,
     /// 5: a program could not be asked: the spawner's count of faults rose.
     Spawn {
         /// What the program is for.
@@ -55,6 +58,20 @@ pub enum Refusal {
         /// The lines that tell of each file.
         lines: Bytes,
     },
+    /// 10: a configuration file could not be rendered.
+    Render {
+        /// The name of the file.
+        file: Text,
+        /// Why its template refused.
+        error: RenderError,
+    },
+    /// 10: a restart command ended with another status than 0.
+    Status {
+        /// The service that it restarts.
+        service: Text,
+        /// The status.
+        number: u16,
+    },
     /// 11: no transition of the release leads on.
     Missing {
         /// The version where the chain ends.
@@ -69,8 +86,10 @@ pub enum Refusal {
     },
     /// 13: the machine refuses what is asked for.
     Refused {
-        /// Why, as a client of the socket is told.
-        refusal: api_http::Refusal,
+        /// The status of the reply that a client of the socket would get.
+        status: u16,
+        /// The body of that reply.
+        body: Bytes,
     },
     /// 14: a store is there already.
     AlreadyThere {

@@ -3,14 +3,14 @@ ghost use Rattle.std.specs.Prelude.{◌≡◌, ◌++◌, ◌∷◌, [], IfOk, On
 ghost use Rattle.outside.specs.PathText.{joined};
 ghost use Rattle.key_names.specs.Key.{printed};
 ghost use Rattle.version_links.specs.Versions.{version_text};
-ghost use Rattle.api_http.specs.Replies as reply;
-ghost use Rattle.command_outcome.specs.Lines.{status_of, line_of, told, spaced};
+ghost use Rattle.command_outcome.specs.Lines.{status_of, line_of, told, spaced, render_word, render_path};
 
 use crate::Refusal;
 use itoa::Buffer;
 use key_names::{Key, Text};
 use outside::Path;
 use std::alloc::{AllocError, Global};
+use template_eval::RenderError;
 use version_links::Version;
 
 // Adds a space and a text.
@@ -92,7 +92,55 @@ fn push_name(line: &mut Vec<u8>, words: &str, name: &Text) -> Result<(), AllocEr
     push_text(line, name)
 }
 
-fn push_status(line: &mut Vec<u8>, name: &Text, number: u16) -> Result<(), AllocError>
+// The word for why a template refused; want of memory has none.
+fn render_word(error: &RenderError) -> &'static str
+    ensures { result.now ≡ render_word error.now }
+{
+    match error {
+        RenderError::Missing { .. } => "missing",
+        RenderError::NotScalar { .. } => "not-scalar",
+        RenderError::NotList { .. } => "not-list",
+        RenderError::BadBase64 { .. } => "bad-base64",
+        RenderError::Memory => "",
+    }
+}
+
+// The path at which it refused; want of memory has none.
+fn render_path(error: &RenderError) -> &str
+    ensures { result.now ≡ render_path error.now }
+{
+    match error {
+        RenderError::Missing { path }
+        | RenderError::NotScalar { path }
+        | RenderError::NotList { path }
+        | RenderError::BadBase64 { path } => path.as_str(),
+        RenderError::Memory => "",
+    }
+}
+
+fn push_render(line: &mut Vec<u8>, file: &Text, error: &RenderError) -> Result<(), AllocError>
+    ensures { OnOk result (line.new.items ≡ line.old.items
+        ++ (codes "render" ++ spaced file.now ++ spaced (render_word error.now) ++ spaced (render_path error.now))) }
+{
+    line.extend_from_slice(b"render")?;
+    push_text(line, file)?;
+    line.push(b' ')?;
+    line.extend_from_slice(render_word(error).as_bytes())?;
+    line.push(b' ')?;
+    line.extend_from_slice(render_path(error).as_bytes())
+}
+
+fn push_status(line: &mut Vec<u8>, service: &Text, number: u16) -> Result<(), AllocError>
+    ensures { OnOk result (line.new.items
+        ≡ line.old.items ++ (codes "status" ++ spaced service.now ++ spaced (decimal number))) }
+{
+    let mut buffer = Buffer::new();
+    push_name(line, "status", service)?;
+    line.push(b' ')?;
+    line.extend_from_slice(buffer.format(number).as_bytes())
+}
+
+fn push_migration_status(line: &mut Vec<u8>, name: &Text, number: u16) -> Result<(), AllocError>
     ensures { OnOk result (line.new.items
         ≡ line.old.items ++ (codes "migration" ++ spaced name.now ++ codes " status " ++ decimal number)) }
 {
@@ -109,18 +157,15 @@ fn push_output(line: &mut Vec<u8>, name: &Text) -> Result<(), AllocError>
     line.extend_from_slice(b" output")
 }
 
-fn push_reply(
-    alloc: Global,
-    line: &mut Vec<u8>,
-    refusal: &api_http::Refusal,
-) -> Result<(), AllocError>
+fn push_reply(line: &mut Vec<u8>, status: u16, body: &[u8]) -> Result<(), AllocError>
     ensures { OnOk result (line.new.items ≡ line.old.items
-        ++ (codes "refused" ++ spaced (decimal (reply.status_of refusal.now).0) ++ spaced (reply.refusal_text refusal.now))) }
+        ++ (codes "refused" ++ spaced (decimal status) ++ spaced body.now)) }
 {
     let mut buffer = Buffer::new();
     line.extend_from_slice(b"refused ")?;
-    line.extend_from_slice(buffer.format(refusal.status()).as_bytes())?;
-    push_text(line, &refusal.body(alloc)?)
+    line.extend_from_slice(buffer.format(status).as_bytes())?;
+    line.push(b' ')?;
+    line.extend_from_slice(body)
 }
 
 // Adds what is told of the refusal behind the program's name.
@@ -131,6 +176,7 @@ fn push_told(alloc: Global, line: &mut Vec<u8>, refusal: &Refusal) -> Result<(),
         Refusal::Memory => line.extend_from_slice(b"memory"),
         Refusal::Usage => line.extend_from_slice(b"usage"),
         Refusal::Disk => line.extend_from_slice(b"disk"),
+        Refusal::Door => line.extend_from_slice(b"door"),
         Refusal::Spawn { name } => push_name(line, "spawn", name),
         Refusal::NoStore => line.extend_from_slice(b"no store"),
         Refusal::Damaged { path } => push_path(line, "damaged", path),
@@ -139,12 +185,14 @@ fn push_told(alloc: Global, line: &mut Vec<u8>, refusal: &Refusal) -> Result<(),
         Refusal::BadImage { file, kind, at } => push_image(line, file, kind, at),
         Refusal::IllTyped { key } => push_key(line, "ill typed", key),
         Refusal::NotCovered { .. } => Ok(()),
+        Refusal::Render { file, error } => push_render(line, file, error),
+        Refusal::Status { service, number } => push_status(line, service, *number),
         Refusal::Missing { at, target } => push_missing(alloc, line, at, target),
         Refusal::Conflict { key } => push_key(line, "conflict", key),
-        Refusal::Refused { refusal } => push_reply(alloc, line, refusal),
+        Refusal::Refused { status, body } => push_reply(line, *status, body.as_slice()),
         Refusal::AlreadyThere { version } => push_there(alloc, line, version),
         Refusal::OldFormat { directory } => push_path(line, "old format", directory),
-        Refusal::MigrationStatus { name, number } => push_status(line, name, *number),
+        Refusal::MigrationStatus { name, number } => push_migration_status(line, name, *number),
         Refusal::MigrationOutput { name } => push_output(line, name),
         Refusal::NotBuilt => line.extend_from_slice(b"not built"),
     }
@@ -169,11 +217,13 @@ impl Refusal {
             Refusal::Memory => 1,
             Refusal::Usage => 2,
             Refusal::Disk => 3,
+            Refusal::Door => 4,
             Refusal::Spawn { .. } => 5,
             Refusal::NoStore => 6,
             Refusal::Damaged { .. } | Refusal::BadLink { .. } | Refusal::BadJournal { .. } => 7,
             Refusal::BadImage { .. } | Refusal::IllTyped { .. } => 8,
             Refusal::NotCovered { .. } => 9,
+            Refusal::Render { .. } | Refusal::Status { .. } => 10,
             Refusal::Missing { .. } | Refusal::Conflict { .. } => 11,
             Refusal::Refused { .. } => 13,
             Refusal::AlreadyThere { .. } => 14,
