@@ -76,6 +76,13 @@ pub record IsHeld (h : Held) : Type 0 where
 abbrev pub IsRead : {X : Type 0} → Result X HeldError → X → Type 0
 IsRead result x = MatchResult result (λ found. found ≡ x) (λ e. e ≡ Memory)
 
+-- ---- what is written
+
+-- The tokens of the JSON value were written.
+pub record Wrote (d : Data) (old new : Written) : Type 0 where
+  pub tokens : new.tokens ≡ old.tokens ++ data_tokens d
+  pub before : new.before ≡ old.before
+
 -- ---- for private clauses: reading
 
 -- Where the JSON value is that of some x that keeps to its rules, the answer is x.
@@ -120,11 +127,6 @@ pub record ReadsContent (values metadata weak : Data) (result : Result Contents 
   pub finds : (c : Contents) → IsLive c → values ≡ map_data scalar_data c.values → metadata ≡ metadata_data c.metadata → weak ≡ keys_data c.weak → IsRead result c
 
 -- ---- for private clauses: writing
-
--- The tokens of the JSON value were written.
-pub record Wrote (d : Data) (old new : Written) : Type 0 where
-  pub tokens : new.tokens ≡ old.tokens ++ data_tokens d
-  pub before : new.before ≡ old.before
 
 -- The tokens of each were written, one after another.
 pub record WroteEach {E : Type 0} (as_data : E → Data) (es : List E) (old new : Written) : Type 0 where

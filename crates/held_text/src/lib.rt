@@ -1,5 +1,6 @@
 //! The held text: what a store holds as one line of JSON, printed and read back. It is what a program
-//! that migrates a store is given and answers.
+//! that migrates a store is given and answers. Lists of keys and what is owed are written by themselves
+//! too, for other texts.
 #![tactic(auto)]
 
 mod held_error;
@@ -9,3 +10,4 @@ mod writing;
 
 pub use held_error::HeldError;
 pub use text::HeldText;
+pub use writing::{write_keys, write_owed};

@@ -1,0 +1,84 @@
+-- The texts of bodies.
+use Rattle.std.specs.Prelude.{◌≡◌, ◌++◌, ℕ, List, [], ◌∷◌, map, codes, decimal}
+use Rattle.json.specs.Token.{Token}
+use Rattle.json.specs.Token as token
+use Rattle.json.specs.Written.{Written}
+use Rattle.serde_json.specs.Data.{Data, string, object, Members, no_members, member}
+use Rattle.serde_json.specs.Written.{compact_text}
+use Rattle.key_names.specs.Key.{printed}
+use Rattle.json_trees.specs.Nested.{NestsAs}
+use Rattle.json_trees.specs.Scalar.{scalar_data}
+use Rattle.json_trees.specs.Tree.{pending_data}
+use Rattle.json_trees.specs.Written.{data_tokens}
+use Rattle.held_text.specs.HeldText.{list_data, keys_data, owed_data}
+use Rattle.settings_tree.specs.declared.entry.Owed.{Owed}
+use Rattle.settings_machine.specs.World.{Key, Job, Idle, Failed, Running}
+use Rattle.settings_machine.specs.Requests.{Body, TreeOf, PendingTreeOf, TextsByName, ListsByKey, KeyList, NameList, JobIs}
+use Rattle.settings_machine.specs.declared.cause.Cause.{Cause}
+use Rattle.settings_machine.specs.declared.cause.Cause.TheVariants as cause
+
+-- ---- lists, and values by name
+
+-- Names are a list of texts.
+abbrev pub names_data : List (List ℕ) → Data
+names_data names = list_data (map string names)
+
+-- The members of an object, in this order.
+abbrev pub members_of : List (List ℕ × Data) → Members
+members_of [] = no_members
+members_of (pair ∷ pairs) = member pair.0 pair.1 (members_of pairs)
+
+-- A text by its name.
+abbrev pub text_entry : List ℕ × List ℕ → List ℕ × Data
+text_entry pair = (pair.0, string pair.1)
+
+-- A list of names by its printed key.
+abbrev pub list_entry : Key × List (List ℕ) → List ℕ × Data
+list_entry pair = (printed pair.0, names_data pair.1)
+
+-- ---- the job
+
+-- Why a job failed, in words.
+abbrev pub cause_words : Cause → List ℕ
+cause_words cause.Disk = codes "disk"
+cause_words (cause.Spawn service) = codes "spawn " ++ service
+cause_words (cause.Render file error) = codes "render " ++ file
+cause_words (cause.Status service number) = codes "status " ++ service ++ codes " " ++ decimal number
+cause_words cause.Memory = codes "memory"
+
+-- How the job stands, in a word, and what is owed.
+abbrev pub standing : List ℕ → Owed → List (List ℕ × Data)
+standing word owed = (codes "job", string word) ∷ (codes "owed", owed_data owed) ∷ []
+
+-- That it failed, and why.
+abbrev pub failure : Cause → Owed → List (List ℕ × Data)
+failure c owed = (codes "cause", string (cause_words c)) ∷ standing (codes "failed") owed
+
+-- The job and what is owed.
+abbrev pub job_entries : Job → Owed → List (List ℕ × Data)
+job_entries Idle owed = standing (codes "idle") owed
+job_entries (Failed c) owed = failure c owed
+job_entries (Running work) owed = standing (codes "running") owed
+
+-- ---- bodies
+
+-- The text is that of the body: a tree has exactly these leaves, and any other body is one compact text.
+abbrev pub IsTextOf : Body → List ℕ → Type 0
+IsTextOf (TreeOf skip pairs) text = NestsAs scalar_data skip pairs text
+IsTextOf (PendingTreeOf skip pairs) text = NestsAs pending_data skip pairs text
+IsTextOf (TextsByName texts) text = text ≡ compact_text (object (members_of (map text_entry texts)))
+IsTextOf (ListsByKey lists) text = text ≡ compact_text (object (members_of (map list_entry lists)))
+IsTextOf (KeyList keys) text = text ≡ compact_text (keys_data keys)
+IsTextOf (NameList names) text = text ≡ compact_text (names_data names)
+IsTextOf (JobIs job owed) text = text ≡ compact_text (object (members_of (job_entries job owed)))
+
+-- ---- for private clauses
+
+-- The tokens of a value by its name.
+abbrev pub entry_tokens : List ℕ × Data → List Token
+entry_tokens entry = token.key entry.0 ∷ data_tokens entry.1
+
+-- The tokens of a value by its name were written.
+pub record WroteEntry (entry : List ℕ × Data) (old new : Written) : Type 0 where
+  pub tokens : new.tokens ≡ old.tokens ++ entry_tokens entry
+  pub before : new.before ≡ old.before

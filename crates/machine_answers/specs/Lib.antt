@@ -1,0 +1,5 @@
+pub mod Asks
+pub mod Bodies
+pub mod Answers
+pub mod Shown
+pub mod Replies
