@@ -41,7 +41,7 @@ use Rattle.store_open.specs.World.{HasWorld}
 use Rattle.store_open.specs.Step.{opened}
 use Rattle.store_open.specs.Typed.{IsIllTyped}
 use Rattle.store_open.specs.Opening.{IsImageIn, HasOpened, HasEither, IsNotTaken, IsStep, Means, MeansIllTyped, IsOnlyRecovered, Opens}
-use Rattle.store_open.specs.Laws.{IsImageOfFolder, HoldsImage, IsKeptAt, HasRun, IsMachineStep, OpeningsRun}
+use Rattle.store_open.specs.Laws.{IsImageOfFolder, HoldsImage, IsKeptAt, HasRun, IsMachineStep, OpeningsRun, IsRefusal, RefusalsKeep}
 use Rattle.store_open.specs.declared.opened.Opened.{Opened}
 use Rattle.store_open.specs.declared.open_error.OpenError.{OpenError}
 use Rattle.store_open.specs.declared.open_error.OpenError.TheVariants as refused
@@ -56,6 +56,34 @@ machine_step I image holds boot held = λ i. opened_held (record I { defaults = 
 -- A path behind the folder's name is in the folder of the image.
 in_folder : (name : List ℕ) (rest : Names) → is_image (codes "image" ∷ name ∷ rest) ≡ true
 in_folder name rest = and_from _ _ (lt-ltb 1 _ (omega arith)) refl
+
+-- ---- an opening that was refused
+
+module _ (I : Image) (folder : Folder) (W V : World) (old new : History) (disk_at : DiskAt I folder W V old) where
+  abbrev led_to : (directory : Names) → IsOnlyRecovered directory old new → Place
+  led_to directory only = record { version = only.leads.version; directory = directory }
+
+  only_recovered : (directory : Names) (only : IsOnlyRecovered directory old new) → Recovered I folder W V (led_to directory only) old new
+  only_recovered directory only = recovered I folder W V old new disk_at (led_to directory only) only.leads.links only.journal only.recovers
+
+  kept_at : (directory : Names) → IsOnlyRecovered directory old new → IsKeptAt I folder W V old new
+  kept_at directory only = let now : Recovered I folder W V (led_to directory only) old new = only_recovered directory only in record { disk = now.disk; moments = now.moments }
+
+  refusal_keeps : (boot : Bool) (e : OpenError) → IsRefusal e → Opens boot (Err e) old new → IsKeptAt I folder W V old new
+  refusal_keeps boot refused.Failed is opens = absurd is
+  refusal_keeps boot refused.Memory is opens = absurd is
+  refusal_keeps boot refused.NoStore is opens = absurd (not_nowhere W (tree_of old) disk_at.store opens.told.0)
+  refusal_keeps boot (refused.BadLink path) is opens = absurd (not_bad_link W (tree_of old) disk_at.store path opens.told.0)
+  refusal_keeps boot (refused.BadJournal path) is opens =
+      let t = opens.told in absurd (not_bad_journal W (tree_of old) disk_at.store t.1.version t.0 t.1.links t.3)
+  refusal_keeps boot (refused.Damaged path) is opens = kept_at opens.told.0 opens.told.1
+  refusal_keeps boot (refused.OldFormat directory) is opens = kept_at directory opens.told.0
+  refusal_keeps boot (refused.BadImage file kind at) is opens = kept_at opens.told.0 opens.told.1
+  refusal_keeps boot (refused.IllTyped key) is opens = kept_at opens.told.0 opens.told.1
+
+-- Whatever the image is, all that a refusal has done is that a journal was carried out.
+pub refusals_keep : RefusalsKeep
+refusals_keep I folder W V boot e old new disk_at is opens = refusal_keeps I folder W V old new disk_at boot e is opens
 
 module _ (I : Image) (good : IsGood I) (folder : Folder) (is : IsImageOfFolder I folder) (W V : World) (boot : Bool) (old new : History) (disk_at : DiskAt I folder W V old)
     (idle : is_running W.job ≡ false) where
@@ -189,7 +217,7 @@ module _ (I : Image) (good : IsGood I) (folder : Folder) (is : IsImageOfFolder I
         subst (λ (f : Files). Stands f W.held W.format) (sym (only.recovers.done disk_at.store.holds.files stands_for).files_are) disk_at.store.holds.stands
 
     now : Recovered I folder W V (record { version = only.leads.version; directory = directory }) old new
-    now = recovered I folder W V old new disk_at (record { version = only.leads.version; directory = directory }) only.leads.links only.journal only.recovers
+    now = only_recovered I folder W V old new disk_at directory only
 
     alike : (name : List ℕ) (rest : Names) → sources_in (tree_of new) (name ∷ rest) ≡ sources (name ∷ rest)
     alike name rest = now.disk.image (codes "image" ∷ name ∷ rest) (in_folder name rest)
@@ -198,7 +226,7 @@ module _ (I : Image) (good : IsGood I) (folder : Folder) (is : IsImageOfFolder I
     not_damaged path fault = faultless (files_below directory (tree_of new)) W.held W.format fault.below stands_now fault.fault
 
     kept : IsKeptAt I folder W V old new
-    kept = record { disk = now.disk; moments = now.moments }
+    kept = kept_at I folder W V old new disk_at directory only
 
     of_format_one : Means directory 1 (tree_of new) → W.format ≡ 1
     of_format_one means = (one_meaning (files_below directory (tree_of new)) W.held means.held W.format 1 stands_now means.means).1

@@ -64,3 +64,14 @@ HasRun I folder W V boot (Err _) old new = ⊥
 abbrev pub OpeningsRun : Type 0
 OpeningsRun = (I : Image) → IsGood I → (folder : Folder) → IsImageOfFolder I folder → (W V : World) (boot : Bool) (result : Result Opened OpenError) (old new : History)
     → DiskAt I folder W V old → is_running W.job ≡ false → Opens boot result old new → HasRun I folder W V boot result old new
+
+-- It was refused for what stands there, and neither the disk nor memory failed it.
+abbrev pub IsRefusal : OpenError → Type 0
+IsRefusal refused.Failed = ⊥
+IsRefusal refused.Memory = ⊥
+IsRefusal _ = Unit {0}
+
+-- Where the disk is at W, all that a refusal has done is that a journal was carried out, whatever the image is.
+abbrev pub RefusalsKeep : Type 0
+RefusalsKeep = (I : Image) (folder : Folder) (W V : World) (boot : Bool) (e : OpenError) (old new : History) → DiskAt I folder W V old → IsRefusal e
+    → Opens boot (Err e) old new → IsKeptAt I folder W V old new

@@ -1,5 +1,5 @@
 -- What an opening does to a disk.
-use Rattle.std.specs.Prelude.{◌≡◌, ◌⊎◌, ℕ, List, ◌++◌, Bool, Result, Ok, Err, OnOk, OnErr, IfOk, IfErr, ⊤}
+use Rattle.std.specs.Prelude.{◌≡◌, ◌⊎◌, ℕ, List, length, ◌++◌, Bool, Result, Ok, Err, OnOk, OnErr, IfOk, IfErr, ⊤}
 use Rattle.outside.specs.Names.{Names}
 use Rattle.outside.specs.Tree.{Tree}
 use Rattle.outside.specs.History.{History, next, synced, tree_of}
@@ -50,6 +50,11 @@ pub record IsNotTaken (before : World) (old new : History) : Type 0 where
 pub record IsOpen (result : Opened) (new : History) : Type 0 where
   pub rest : IsAtRest (record { version = result.place.version; directory = result.place.directory; format = 2; held = result.held }) new
   pub image : IsImageIn (tree_of new) result.image
+
+-- The data directory is a folder of the store, and what is held is typed.
+pub record IsSoundOpened (store : Opened) : Type 0 where
+  pub two_names : length store.place.directory ≡ 2
+  pub typed : IsTypedHeld store.image.model.types store.held
 
 -- The world before was typed, of format 2 and at this place, and what is held now is what the opening step makes of it.
 pub record IsStep (boot : Bool) (before : World) (result : Opened) : Type 0 where

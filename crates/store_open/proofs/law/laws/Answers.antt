@@ -1,5 +1,5 @@
 use Rattle.store_open.proofs.EarlierMoments.{since_settled}
-use Rattle.store_open.proofs.MachineRuns.{machine_step, openings_run}
+use Rattle.store_open.proofs.MachineRuns.{machine_step, openings_run, refusals_keep}
 use Rattle.store_open.proofs.law.laws.Goals as goal
 
 pub returns-clause-step : goal.returns-clause-step
@@ -10,3 +10,6 @@ returns-clause-settled c boot result old new before opens settled has = since_se
 
 pub returns-clause-runs : goal.returns-clause-runs
 returns-clause-runs c = openings_run
+
+pub returns-clause-refusals : goal.returns-clause-refusals
+returns-clause-refusals c = refusals_keep

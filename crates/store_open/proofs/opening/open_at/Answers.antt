@@ -51,5 +51,8 @@ returns-clause-opens g c =
     (moves_where c.requires.led (moves_ends c.in_ok-recover.ensures.recovers (where_both c.in_ok-stored.ensures.held c.in_ok-stored.ensures.image)))
     (moves_after c.read_store.ensures.same c.in_ok-held.ensures.lays)
 
+pub returns-clause-sound : goal.returns-clause-sound
+returns-clause-sound g c = record { two_names = c.requires.two_names; typed = c.in_ok-held.ensures.fits.typed }
+
 pub invariant_of-result : goal.invariant_of-result
 invariant_of-result g c = record { fits = merely c.in_ok-held.ensures.fits }
