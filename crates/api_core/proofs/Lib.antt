@@ -1,0 +1,13 @@
+pub mod Layings
+pub mod Bytes
+pub mod Refusing
+pub mod Handlings
+pub mod Reopenings
+pub mod Soundness
+pub mod Turnings
+pub mod Settings
+pub mod Gathering
+pub mod Names
+pub mod Nesting
+pub mod Statuses
+pub mod NearLists

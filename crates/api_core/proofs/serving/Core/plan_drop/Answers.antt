@@ -1,0 +1,7 @@
+use Rattle.api_core.proofs.Layings.{may_drop}
+use Rattle.api_core.proofs.serving.Core.plan_drop.Goals as goal
+
+pub returns-clause-may : goal.returns-clause-may
+returns-clause-may c =
+    let p = c.in_ok-keys.ensures in
+    may_drop c.args.self.now.image.model.types c.args.self.now.held c.requires.sound c.in_ok-keys.field-0.change p.weak p.told c.args.tx.now p.laid p.rule

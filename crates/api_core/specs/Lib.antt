@@ -1,0 +1,9 @@
+pub mod Jobs
+pub mod Asks
+pub mod Prints
+pub mod Plans
+pub mod Cores
+pub mod Carried
+pub mod Handled
+pub mod Turned
+pub mod Gathered
