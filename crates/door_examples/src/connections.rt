@@ -1,0 +1,86 @@
+//! Connections of a door in memory.
+use api_http::Ask;
+use disk_memory::{Input, MemoryDoor};
+use door_requests::{Heard, hear, say};
+use outside::Door;
+use std::alloc::{AllocError, Global};
+use std::test::Fail;
+
+const PATCH: &[u8; 75] =
+    b"PATCH /settings?tx=default HTTP/1.1\r\nContent-Length: 15\r\n\r\n{\"motd\":\"curl\"} ";
+
+// An input of these bytes, in pieces of 1 byte or in one.
+fn input(alloc: Global, bytes: &[u8], whole: bool) -> Result<Input, AllocError> {
+    let mut pieces = Vec::new(alloc);
+    if whole {
+        pieces.push(bytes.to_vec(alloc)?)?;
+    } else {
+        for byte in bytes {
+            pieces.push([*byte].to_vec(alloc)?)?;
+        }
+    }
+    Ok(Input {
+        pieces,
+        read_fails: None,
+        write_fails: None,
+    })
+}
+
+// What a connection with this input comes to, in a word.
+fn heard(alloc: Global, input: Input) -> Result<&'static str, Fail> {
+    let mut door = MemoryDoor::of_inputs(alloc, vec![in alloc; input]?);
+    if !door.accept()? {
+        return Ok("no connection");
+    }
+    Ok(match hear(alloc, &mut door) {
+        Heard::Asked {
+            ask: Ask::Patch { .. },
+        } => "patch",
+        Heard::Asked { .. } => "asked",
+        Heard::Refused { .. } => "refused",
+        Heard::Ended => "ended",
+        Heard::Memory => "memory",
+    })
+}
+
+// The first bytes, the number of the read that fails, and what they come to.
+fn rows() -> [(usize, Option<u64>, &'static str); 7] {
+    [
+        (75, None, "patch"),
+        (74, None, "patch"),
+        (73, None, "ended"),
+        (57, None, "ended"),
+        (0, None, "ended"),
+        (74, Some(1), "ended"),
+        (60, Some(2), "ended"),
+    ]
+}
+
+#[test]
+fn requests_come_in_any_pieces(rt: HostRuntime) -> Result<(), Fail> {
+    let alloc = rt.alloc();
+    for (size, read_fails, word) in rows() {
+        for whole in [false, true] {
+            let mut input = input(alloc, PATCH.get(..size).unwrap_or(&[]), whole)?;
+            input.read_fails = read_fails;
+            assert!(rt; heard(alloc, input)? == word);
+        }
+    }
+    let refused = input(alloc, b"GET /none HTTP/1.1\r\n\r\n", false)?;
+    assert!(rt; heard(alloc, refused)? == "refused");
+    Ok(())
+}
+
+#[test]
+fn what_is_said_is_written_until_a_write_fails(rt: HostRuntime) -> Result<(), Fail> {
+    let alloc = rt.alloc();
+    for (write_fails, output) in [(None, b"yes".as_slice()), (Some(1), b"".as_slice())] {
+        let mut input = input(alloc, PATCH, true)?;
+        input.write_fails = write_fails;
+        let mut door = MemoryDoor::of_inputs(alloc, vec![in alloc; input]?);
+        assert!(rt; door.accept()?);
+        say(&mut door, b"yes");
+        assert!(rt; door.output(0) == Some(output));
+    }
+    Ok(())
+}
