@@ -1,0 +1,172 @@
+-- Connections one after another, from their parts.
+use Rattle.std.proofs.Common.{◌≡◌, ◌≤◌, ◌+◌, ℕ, Bool, List, [], ◌∷◌, ◌++◌, Option, Ok, true, refl, sym, ◌∙◌, ap, subst, append_assoc, arith}
+use Rattle.std.proofs.lemmas.List.{append-nil}
+use Rattle.outside.specs.Exchange.{Exchange, fresh}
+use Rattle.outside.specs.declared.disk_error.Failed.{Failed}
+use Rattle.outside.specs.Door.{DoorState, LastBy, Accepts, Opens}
+use Rattle.outside.specs.History.{History}
+use Rattle.outside.specs.Spawner.{Run}
+use Rattle.outside.specs.Told.{Moves}
+use Rattle.outside.proofs.Told.{moves_stay, moves_then, moves_map}
+use Rattle.settings_machine.specs.World.{Image, World}
+use Rattle.settings_machine.specs.Events.{Event, after, faulted_after}
+use Rattle.settings_machine.specs.Paid.{IsGood}
+use Rattle.settings_machine.proofs.Sequences.{after-append, faulted-append}
+use Rattle.machine_disk.specs.Kept.{Folder, Kept}
+use Rattle.machine_disk.specs.Ran.{Ran}
+use Rattle.machine_disk.proofs.Runs.{ran_none, ran_more}
+use Rattle.store_open.specs.Laws.{HoldsImage, IsImageOfFolder}
+use Rattle.api_core.specs.Cores.{core_state}
+use Rattle.api_core.specs.Turned.{Turns}
+use Rattle.api_core.specs.declared.serving.Core.{Core}
+use Rattle.api_server.specs.Exchanged.{IsServed, IsExchanged}
+use Rattle.api_server.specs.Rounds.{Round, IsRound, AreRounds, AreExchanged, events_of_round, events_of}
+use Rattle.api_server.specs.Answered.{RunsBy, Answers, RoundBy, ServesOne, RoundsBy, ServesAll}
+use Rattle.api_server.proofs.Requested.{asks_runs}
+
+-- ---- programs
+
+-- Those of the first events, and then those of the others.
+pub runs_more : (I : Image) (W : World) (es fs : List Event) (a b c : Option (List Run)) → RunsBy I W es a b → RunsBy I (after I W es) fs b c → RunsBy I W (es ++ fs) a c
+runs_more I W es fs a b c m n = moves_then (λ r s t first rest is. rest (first is) ∙ ap (λ (X : World). X.runs) (sym (after-append I W es fs))) m n
+
+-- Events that run none, and then others.
+pub runs_after : (I : Image) (W : World) (es fs : List Event) (a b : Option (List Run)) → (after I W es).runs ≡ W.runs → RunsBy I (after I W es) fs a b
+    → RunsBy I W (es ++ fs) a b
+runs_after I W es fs a b none m = moves_map (λ r s rest is. rest (is ∙ sym none) ∙ ap (λ (X : World). X.runs) (sym (after-append I W es fs))) m
+
+-- No event.
+pub runs_none : (I : Image) (W : World) (a : Option (List Run)) → RunsBy I W [] a a
+runs_none I W a = moves_stay (λ r is. is)
+
+-- ---- one connection
+
+-- Its request, and then a slice of turns.
+pub one_round : (slice : Option ℕ) (c mid now : Core) (faults faults_mid faults_after : ℕ) (told told_after : Option (List Exchange)) (ran_before ran_after : Option (List Run))
+    (old between new : History) → Answers c mid faults faults_mid told told_after old between → faults_mid ≤ faults_after
+    → Turns mid slice now ran_before ran_after between new
+    → ServesOne slice c now faults faults_after told told_after ran_before ran_after old new
+one_round slice c mid now faults faults_mid faults_after told told_after ran_before ran_after old between new answers later turns = record { each = by } where
+  by : (I : Image) → IsGood I → HoldsImage I c.image → (folder : Folder) → IsImageOfFolder I folder → (W V : World) → Kept I folder W V old (core_state c)
+      → RoundBy I folder W V slice c now faults faults_after told told_after ran_before ran_after old new
+  by I good of folder made W V kept =
+      let one = answers.each I good of folder made W V kept in
+      let two = turns.each I good one.image folder (after I W one.asked) one.made.other one.made.kept in
+      record {
+        round = record { said = one.said; asked = one.asked; turned = two.turns.events };
+        is = record { asks = one.asks; turns = two.turns.form };
+        served = one.served;
+        cause = λ q is. omega (arith, one.cause q is, later);
+        made = ran_more I folder W V one.asked two.turns.events old between new (core_state c) (core_state mid) (core_state now) one.made two.turns.ran;
+        runs = runs_after I W one.asked two.turns.events ran_before ran_after (asks_runs I c.faulted W one.said one.asked one.asks) two.turns.runs;
+        image = two.image;
+      }
+
+-- ---- one more connection
+
+-- The events of one more.
+events_push : (rs : List Round) (r : Round) → events_of (rs ++ r ∷ []) ≡ events_of rs ++ events_of_round r
+events_push [] r = append-nil (events_of_round r)
+events_push (q ∷ rs) r = ap (λ (l : List Event). events_of_round q ++ l) (events_push rs r) ∙ sym (append_assoc (events_of_round q) (events_of rs) (events_of_round r))
+
+-- It begins where those before it have led.
+rounds_push : (I : Image) (slice : Option ℕ) (b : Bool) (W : World) (rs : List Round) (r : Round) → AreRounds I slice b W rs
+    → IsRound I slice (faulted_after b (events_of rs)) (after I W (events_of rs)) r → AreRounds I slice b W (rs ++ r ∷ [])
+rounds_push I slice b W [] r are is = (is, tt)
+rounds_push I slice b W (q ∷ rs) r are is = (
+  are.0,
+  rounds_push I slice (faulted_after b (events_of_round q)) (after I W (events_of_round q)) rs r are.1
+      (subst (λ (f : Bool). IsRound I slice f (after I (after I W (events_of_round q)) (events_of rs)) r) (faulted-append b (events_of_round q) (events_of rs))
+      (subst (λ (X : World). IsRound I slice (faulted_after b (events_of_round q ++ events_of rs)) X r) (after-append I W (events_of_round q) (events_of rs)) is)),
+)
+
+-- Its bytes come last.
+exchanged_push : (rs : List Round) (r : Round) (x : Exchange) (old mid : List Exchange) → AreExchanged rs old mid → IsExchanged r.said x
+    → AreExchanged (rs ++ r ∷ []) old (x ∷ mid)
+exchanged_push [] r x old mid are is = (x, is, ap (λ (l : List Exchange). x ∷ l) are)
+exchanged_push (q ∷ rs) r x old mid are is = (are.0, are.1, exchanged_push rs r x (are.0 ∷ old) mid are.2 is)
+
+head_same : (x y : Exchange) (xs ys : List Exchange) → x ∷ xs ≡ y ∷ ys → x ≡ y
+head_same x y xs ys e = cc
+
+tail_same : (x y : Exchange) (xs ys : List Exchange) → x ∷ xs ≡ y ∷ ys → xs ≡ ys
+tail_same x y xs ys e = cc
+
+-- A connection is accepted, and served.
+one_exchanged : (rs : List Round) (r : Round) (first old opened new : List Exchange) → AreExchanged rs first old → Opens {E = Failed} (Ok true) old opened
+    → LastBy (IsServed r.said) opened new → AreExchanged (rs ++ r ∷ []) first new
+one_exchanged rs r first old opened new are opens served =
+    let is : served.before ∷ served.others ≡ fresh opens.0 ∷ old = sym served.old_is ∙ opens.1 in
+    let done = served.moved.from_start opens.0 (head_same served.before (fresh opens.0) served.others old is) in
+    subst (AreExchanged (rs ++ r ∷ []) first)
+    (sym (served.new_is ∙ ap (λ (l : List Exchange). served.now ∷ l) (tail_same served.before (fresh opens.0) served.others old is)))
+    (exchanged_push rs r served.now first old are done.0)
+
+exchanged_more : (rs : List Round) (r : Round) (a b c d : Option (List Exchange)) → Moves a b (AreExchanged rs) → Moves b c (Opens {E = Failed} (Ok true))
+    → Moves c d (LastBy (IsServed r.said)) → Moves a d (AreExchanged (rs ++ r ∷ []))
+exchanged_more rs r a b c d m n o =
+    let accepted : Moves a c (λ first opened. (mid : List Exchange) × AreExchanged rs first mid × Opens {E = Failed} (Ok true) mid opened)
+    = moves_then (λ first mid opened are opens. (mid, are, opens)) m n in
+    moves_then (λ first opened last so_far served. one_exchanged rs r first so_far.0 opened last so_far.1 so_far.2 served) accepted o
+
+-- What is accepted.
+pub one_accepted : (came : Bool) → came ≡ true → (old new : DoorState) → Accepts {E = Failed} (Ok came) old new → new.accepted ≡ old.accepted + 1
+one_accepted came is old new accepts = ap (λ (d : DoorState). d.accepted) (subst (λ (b : Bool). Accepts {E = Failed} (Ok b) old new) is accepts)
+
+-- Before the first connection.
+pub rounds_none : (slice : Option ℕ) (c : Core) (told : Option (List Exchange)) (ran : Option (List Run)) (h : History) → ServesAll slice c c told told ran ran h h
+rounds_none slice c told ran h = record { each = by } where
+  by : (I : Image) → IsGood I → HoldsImage I c.image → (folder : Folder) → IsImageOfFolder I folder → (W V : World) → Kept I folder W V h (core_state c)
+      → RoundsBy I folder W V slice c c told told ran ran h h
+  by I good of folder made W V kept = record {
+    rounds = [];
+    are = tt;
+    exchanged = moves_stay (λ l. refl);
+    made = ran_none I folder W V h (core_state c) kept;
+    runs = runs_none I W ran;
+    image = of;
+  }
+
+-- One connection more, from its accept on.
+pub rounds_more : (came : Bool) → came ≡ true
+    → (slice : Option ℕ) (c mid now : Core) (faults faults_after : ℕ) (told told_mid told_opened told_after : Option (List Exchange))
+    (ran_before ran_mid ran_after : Option (List Run)) (old between new : History)
+    → Moves told_mid told_opened (Opens {E = Failed} (Ok came)) → ServesAll slice c mid told told_mid ran_before ran_mid old between
+    → ServesOne slice mid now faults faults_after told_opened told_after ran_mid ran_after between new → ServesAll slice c now told told_after ran_before ran_after old new
+rounds_more came is slice c mid now faults faults_after told told_mid told_opened told_after ran_before ran_mid ran_after old between new opens all one = record { each = by } where
+  by : (I : Image) → IsGood I → HoldsImage I c.image → (folder : Folder) → IsImageOfFolder I folder → (W V : World) → Kept I folder W V old (core_state c)
+      → RoundsBy I folder W V slice c now told told_after ran_before ran_after old new
+  by I good of folder made W V kept =
+      let was = all.each I good of folder made W V kept in
+      let es = events_of was.rounds in
+      let next = one.each I good was.image folder made (after I W es) was.made.other was.made.kept in
+      let r = next.round in
+      let same = sym (events_push was.rounds r) in
+      record {
+        rounds = was.rounds ++ r ∷ [];
+        are = rounds_push I slice c.faulted W was.rounds r was.are (subst (λ (f : Bool). IsRound I slice f (after I W es) r) was.made.flag next.is);
+        exchanged = exchanged_more was.rounds r told told_mid told_opened told_after was.exchanged
+            (subst (λ (b : Bool). Moves told_mid told_opened (Opens {E = Failed} (Ok b))) is opens) next.served;
+        made = subst (λ (l : List Event). Ran I folder W V l old new (core_state c) (core_state now)) same
+            (ran_more I folder W V es (events_of_round r) old between new (core_state c) (core_state mid) (core_state now) was.made next.made);
+        runs = subst (λ (l : List Event). RunsBy I W l ran_before ran_after) same (runs_more I W es (events_of_round r) ran_before ran_mid ran_after was.runs next.runs);
+        image = next.image;
+      }
+
+-- The door alone has answered, and no connection came.
+pub rounds_same : (slice : Option ℕ) (c now : Core) (told told_mid told_after : Option (List Exchange)) (ran_before ran_after : Option (List Run)) (old new : History)
+    → Moves told_mid told_after (λ l m. m ≡ l) → ServesAll slice c now told told_mid ran_before ran_after old new
+    → ServesAll slice c now told told_after ran_before ran_after old new
+rounds_same slice c now told told_mid told_after ran_before ran_after old new same all = record { each = by } where
+  by : (I : Image) → IsGood I → HoldsImage I c.image → (folder : Folder) → IsImageOfFolder I folder → (W V : World) → Kept I folder W V old (core_state c)
+      → RoundsBy I folder W V slice c now told told_after ran_before ran_after old new
+  by I good of folder made W V kept =
+      let was = all.each I good of folder made W V kept in
+      record {
+        rounds = was.rounds;
+        are = was.are;
+        exchanged = moves_then (λ first mid last are is. subst (AreExchanged was.rounds first) (sym is) are) was.exchanged same;
+        made = was.made;
+        runs = was.runs;
+        image = was.image;
+      }

@@ -1,0 +1,140 @@
+-- A whole run over an opened store, from its parts.
+use Rattle.std.proofs.Common.{◌≡◌, ℕ, Bool, true, false, List, [], ◌++◌, Option, None, refl, subst}
+use Rattle.outside.specs.Exchange.{Exchange}
+use Rattle.outside.specs.History.{History}
+use Rattle.outside.specs.Spawner.{Run}
+use Rattle.outside.specs.Told.{Moves}
+use Rattle.outside.proofs.Told.{moves_then}
+use Rattle.settings_machine.specs.World.{Image, World}
+use Rattle.settings_machine.specs.Requests.{Apply}
+use Rattle.settings_machine.specs.Events.{after}
+use Rattle.settings_machine.specs.Paid.{IsGood}
+use Rattle.machine_disk.specs.Kept.{Folder, Kept}
+use Rattle.machine_disk.proofs.Runs.{ran_none, ran_more}
+use Rattle.store_open.specs.Laws.{HoldsImage, IsImageOfFolder}
+use Rattle.api_http.specs.Replies.{Sent}
+use Rattle.api_core.specs.Cores.{core_state}
+use Rattle.api_core.specs.Turned.{Turns}
+use Rattle.api_core.specs.declared.serving.Core.{Core}
+use Rattle.api_server.specs.Rounds.{AreRounds, events_of}
+use Rattle.api_server.specs.Answered.{ServesAll}
+use Rattle.api_server.specs.Serving.{BootedBy, Boots, EndedBy, Ends, ServedBy, Serves}
+use Rattle.api_server.proofs.Requested.{handled_runs}
+use Rattle.api_server.proofs.Replied.{HandlesFor, opened_again}
+use Rattle.api_server.proofs.Followed.{runs_none, runs_more, runs_after}
+
+-- ---- the beginning
+
+-- `Apply`, and then a slice of turns.
+pub begun : (boot : Bool) → boot ≡ true → (slice : Option ℕ) (sent : Sent) (c mid now : Core) (ran_before ran_after : Option (List Run)) (old between new : History)
+    → HandlesFor c Apply sent mid old between → Turns mid slice now ran_before ran_after between new → Boots boot slice c now ran_before ran_after old new
+begun false is slice sent c mid now ran_before ran_after old between new handles turns = absurd (cc is)
+begun true is slice sent c mid now ran_before ran_after old between new handles turns = record { each = by } where
+  by : (I : Image) → IsGood I → HoldsImage I c.image → (folder : Folder) → IsImageOfFolder I folder → (W V : World) → Kept I folder W V old (core_state c)
+      → BootedBy I folder W V true slice c now ran_before ran_after old new
+  by I good of folder made W V kept =
+      let one = handles.handles.each I good of folder (λ _ _. made) W V kept in
+      let two = turns.each I good one.image folder (after I W one.events) one.ran.other one.ran.kept in
+      record {
+        events = one.events ++ two.turns.events;
+        are = record {
+          asked = one.events;
+          turned = two.turns.events;
+          whole = refl;
+          reply = one.replied;
+          request = record { handled = one.handled; opens = opened_again c Apply sent mid old between handles I good of folder made W V kept one };
+          turns = two.turns.form;
+        };
+        made = ran_more I folder W V one.events two.turns.events old between new (core_state c) (core_state mid) (core_state now) one.ran two.turns.ran;
+        runs = runs_after I W one.events two.turns.events ran_before ran_after (handled_runs I c.faulted W Apply one.replied one.events one.handled) two.turns.runs;
+        image = two.image;
+      }
+
+-- Without boot.
+pub not_begun : (boot : Bool) → boot ≡ false → (slice : Option ℕ) (c : Core) (ran : Option (List Run)) (h : History) → Boots boot slice c c ran ran h h
+not_begun true is slice c ran h = absurd (cc is)
+not_begun false is slice c ran h = record { each = by } where
+  by : (I : Image) → IsGood I → HoldsImage I c.image → (folder : Folder) → IsImageOfFolder I folder → (W V : World) → Kept I folder W V h (core_state c)
+      → BootedBy I folder W V false slice c c ran ran h h
+  by I good of folder made W V kept = record {
+    events = [];
+    are = refl;
+    made = ran_none I folder W V h (core_state c) kept;
+    runs = runs_none I W ran;
+    image = of;
+  }
+
+-- ---- the end
+
+-- Turns until no job runs.
+pub driven : (fine : Bool) → fine ≡ true → (c now : Core) (ran_before ran_after : Option (List Run)) (old new : History) → Turns c None now ran_before ran_after old new
+    → Ends fine c now ran_before ran_after old new
+driven false is c now ran_before ran_after old new turns = absurd (cc is)
+driven true is c now ran_before ran_after old new turns = record { each = by } where
+  by : (I : Image) → IsGood I → HoldsImage I c.image → (folder : Folder) → IsImageOfFolder I folder → (W V : World) → Kept I folder W V old (core_state c)
+      → EndedBy I folder W V true c now ran_before ran_after old new
+  by I good of folder made W V kept =
+      let done = turns.each I good of folder W V kept in
+      record { events = done.turns.events; are = done.turns.form; made = done.turns.ran; runs = done.turns.runs; image = done.image }
+
+-- An accept failed.
+pub not_driven : (fine : Bool) → fine ≡ false → (c : Core) (ran : Option (List Run)) (h : History) → Ends fine c c ran ran h h
+not_driven true is c ran h = absurd (cc is)
+not_driven false is c ran h = record { each = by } where
+  by : (I : Image) → IsGood I → HoldsImage I c.image → (folder : Folder) → IsImageOfFolder I folder → (W V : World) → Kept I folder W V h (core_state c)
+      → EndedBy I folder W V false c c ran ran h h
+  by I good of folder made W V kept = record {
+    events = [];
+    are = refl;
+    made = ran_none I folder W V h (core_state c) kept;
+    runs = runs_none I W ran;
+    image = of;
+  }
+
+-- ---- the whole
+
+-- The beginning, the connections one after another, and the end.
+pub whole : (slice : Option ℕ) (boot fine : Bool) (c up served now : Core) (told told_after : Option (List Exchange)) (ran_before ran_up ran_served ran_after : Option (List Run))
+    (old begun ended new : History) → Boots boot slice c up ran_before ran_up old begun → ServesAll slice up served told told_after ran_up ran_served begun ended
+    → Ends fine served now ran_served ran_after ended new → Serves slice boot fine c now told told_after ran_before ran_after old new
+whole slice boot fine c up served now told told_after ran_before ran_up ran_served ran_after old begun ended new boots serves ends = record { each = by } where
+  by : (I : Image) → IsGood I → HoldsImage I c.image → (folder : Folder) → IsImageOfFolder I folder → (W V : World) → Kept I folder W V old (core_state c)
+      → ServedBy I folder W V slice boot fine c now told told_after ran_before ran_after old new
+  by I good of folder made W V kept =
+      let one = boots.each I good of folder made W V kept in
+      let X = after I W one.events in
+      let two = serves.each I good one.image folder made X one.made.other one.made.kept in
+      let Y = after I X (events_of two.rounds) in
+      let three = ends.each I good two.image folder made Y two.made.other two.made.kept in
+      let last = events_of two.rounds ++ three.events in
+      record {
+        rounds = two.rounds;
+        events = one.events ++ last;
+        are = record {
+          booted = one.events;
+          last = three.events;
+          whole = refl;
+          boots = one.are;
+          are = subst (λ (f : Bool). AreRounds I slice f X two.rounds) one.made.flag two.are;
+          ends = three.are;
+        };
+        exchanged = two.exchanged;
+        made = ran_more I folder W V one.events last old begun new (core_state c) (core_state up) (core_state now) one.made
+            (ran_more I folder X one.made.other (events_of two.rounds) three.events begun ended new (core_state up) (core_state served) (core_state now) two.made three.made);
+        runs = runs_more I W one.events last ran_before ran_up ran_after one.runs
+            (runs_more I X (events_of two.rounds) three.events ran_up ran_served ran_after two.runs three.runs);
+        image = three.image;
+      }
+
+-- The same on a disk.
+pub whole_told : (slice : Option ℕ) (boot fine : Bool) (c up served now : Core) (told told_after : Option (List Exchange))
+    (ran_before ran_up ran_served ran_after : Option (List Run)) (h0 h1 h2 h3 : Option History) → Moves h0 h1 (Boots boot slice c up ran_before ran_up)
+    → Moves h1 h2 (ServesAll slice up served told told_after ran_up ran_served)
+    → Moves h2 h3 (Ends fine served now ran_served ran_after) → Moves h0 h3 (Serves slice boot fine c now told told_after ran_before ran_after)
+whole_told slice boot fine c up served now told told_after ran_before ran_up ran_served ran_after h0 h1 h2 h3 m n o =
+    let begins : Moves h0 h2 (λ old ended. (begun : History) × Boots boot slice c up ran_before ran_up old begun
+    × ServesAll slice up served told told_after ran_up ran_served begun ended)
+    = moves_then (λ old begun ended boots serves. (begun, boots, serves)) m n in
+    moves_then
+    (λ old ended new both ends. whole slice boot fine c up served now told told_after ran_before ran_up ran_served ran_after old both.0 ended new both.1 both.2 ends)
+    begins o

@@ -1,0 +1,18 @@
+use Rattle.std.proofs.Common.{◌≡◌, ◌≤◌, false}
+use Rattle.outside.specs.Told.{Moves}
+use Rattle.api_core.specs.Cores.{IsSound}
+use Rattle.api_server.specs.Answered.{ServesAll}
+use Rattle.api_server.proofs.serving.serve_all.Given as goal
+
+abbrev pub invariant-loop-number : goal.invariant-loop-number
+invariant-loop-number g l = record {
+  serves : Moves (g.D.Disk.told l.initial.disk) (g.D.Disk.told l.disk)
+      (ServesAll l.slice l.initial.core l.core (g.N.Door.told l.initial.door) (g.N.Door.told l.door) (g.S.Spawner.runs l.initial.spawner) (g.S.Spawner.runs l.spawner));
+  sound : IsSound l.core;
+  idle : (g.N.Door.state l.door).busy ≡ false;
+  accepted : (g.N.Door.state l.door).accepted ≡ l._number;
+  disk_later : g.D.Disk.faults l.initial.disk ≤ g.D.Disk.faults l.disk;
+  spawner_later : g.S.Spawner.faults l.initial.spawner ≤ g.S.Spawner.faults l.spawner;
+  door_later : g.N.Door.faults l.initial.door ≤ g.N.Door.faults l.door;
+  asked : g.S.Spawner.asked l.spawner ≡ g.S.Spawner.asked l.initial.spawner;
+}

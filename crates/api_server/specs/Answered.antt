@@ -1,0 +1,80 @@
+-- What a call makes of a core, a disk, a door and the programs that were run.
+use Rattle.std.specs.Prelude.{◌≡◌, ℕ, List, Option}
+use Rattle.outside.specs.Exchange.{Exchange}
+use Rattle.outside.specs.Door.{LastBy}
+use Rattle.outside.specs.Faults.{Rose}
+use Rattle.outside.specs.History.{History}
+use Rattle.outside.specs.Spawner.{Run}
+use Rattle.outside.specs.Told.{Moves}
+use Rattle.api_http.specs.Questions.{Question}
+use Rattle.settings_machine.specs.World.{Image, World}
+use Rattle.settings_machine.specs.Requests.{DiskFault}
+use Rattle.settings_machine.specs.Events.{Event, after}
+use Rattle.settings_machine.specs.Paid.{IsGood}
+use Rattle.machine_disk.specs.Kept.{Folder, Kept}
+use Rattle.machine_disk.specs.Ran.{Ran}
+use Rattle.store_open.specs.Laws.{HoldsImage, IsImageOfFolder}
+use Rattle.api_core.specs.Cores.{core_state}
+use Rattle.api_core.specs.declared.serving.Core.{Core}
+use Rattle.api_server.specs.Exchanged.{Said, Replied, IsServed}
+use Rattle.api_server.specs.Rounds.{AsksFor, Round, IsRound, AreRounds, AreExchanged, events_of_round, events_of}
+
+-- The programs that were run grew by those of the events, where they were those of the world.
+abbrev pub RunsBy : Image → World → List Event → Option (List Run) → Option (List Run) → Type 0
+RunsBy I W events ran_before ran_after = Moves ran_before ran_after (λ r s. r ≡ W.runs → s ≡ (after I W events).runs)
+
+-- ---- a request
+
+-- The request of one connection, by the machine, crash included. It is replied that the disk failed only where its count rose.
+pub record AnsweredBy (I : Image) (folder : Folder) (W V : World) (c now : Core) (faults faults_after : ℕ) (told told_after : Option (List Exchange))
+    (old new : History) : Type 0 where
+  pub said : Said
+  pub asked : List Event
+  pub asks : AsksFor I c.faulted W said asked
+  pub served : Moves told told_after (LastBy (IsServed said))
+  pub cause : (q : Question) → said ≡ Replied q DiskFault → Rose faults faults_after
+  pub made : Ran I folder W V asked old new (core_state c) (core_state now)
+  pub image : HoldsImage I now.image
+
+-- By each image that the core holds, each folder whose files make it, and in each world at which disk and core are.
+pub record Answers (c now : Core) (faults faults_after : ℕ) (told told_after : Option (List Exchange)) (old new : History) : Type 0 where
+  pub each : (I : Image) → IsGood I → HoldsImage I c.image → (folder : Folder) → IsImageOfFolder I folder → (W V : World) → Kept I folder W V old (core_state c)
+      → AnsweredBy I folder W V c now faults faults_after told told_after old new
+
+-- ---- a connection
+
+-- One connection, by the machine, crash included. It is replied that the disk failed only where its count rose.
+pub record RoundBy (I : Image) (folder : Folder) (W V : World) (slice : Option ℕ) (c now : Core) (faults faults_after : ℕ) (told told_after : Option (List Exchange))
+    (ran_before ran_after : Option (List Run))
+    (old new : History) : Type 0 where
+  pub round : Round
+  pub is : IsRound I slice c.faulted W round
+  pub served : Moves told told_after (LastBy (IsServed round.said))
+  pub cause : (q : Question) → round.said ≡ Replied q DiskFault → Rose faults faults_after
+  pub made : Ran I folder W V (events_of_round round) old new (core_state c) (core_state now)
+  pub runs : RunsBy I W (events_of_round round) ran_before ran_after
+  pub image : HoldsImage I now.image
+
+-- By each image that the core holds, each folder whose files make it, and in each world at which disk and core are.
+pub record ServesOne (slice : Option ℕ) (c now : Core) (faults faults_after : ℕ) (told told_after : Option (List Exchange)) (ran_before ran_after : Option (List Run))
+    (old new : History) : Type 0 where
+  pub each : (I : Image) → IsGood I → HoldsImage I c.image → (folder : Folder) → IsImageOfFolder I folder → (W V : World) → Kept I folder W V old (core_state c)
+      → RoundBy I folder W V slice c now faults faults_after told told_after ran_before ran_after old new
+
+-- ---- connections one after another
+
+-- Connections one after another, by the machine, crash included.
+pub record RoundsBy (I : Image) (folder : Folder) (W V : World) (slice : Option ℕ) (c now : Core) (told told_after : Option (List Exchange))
+    (ran_before ran_after : Option (List Run))
+    (old new : History) : Type 0 where
+  pub rounds : List Round
+  pub are : AreRounds I slice c.faulted W rounds
+  pub exchanged : Moves told told_after (AreExchanged rounds)
+  pub made : Ran I folder W V (events_of rounds) old new (core_state c) (core_state now)
+  pub runs : RunsBy I W (events_of rounds) ran_before ran_after
+  pub image : HoldsImage I now.image
+
+-- By each image that the core holds, each folder whose files make it, and in each world at which disk and core are.
+pub record ServesAll (slice : Option ℕ) (c now : Core) (told told_after : Option (List Exchange)) (ran_before ran_after : Option (List Run)) (old new : History) : Type 0 where
+  pub each : (I : Image) → IsGood I → HoldsImage I c.image → (folder : Folder) → IsImageOfFolder I folder → (W V : World) → Kept I folder W V old (core_state c)
+      → RoundsBy I folder W V slice c now told told_after ran_before ran_after old new

@@ -1,0 +1,4 @@
+pub mod Exchanged
+pub mod Rounds
+pub mod Answered
+pub mod Serving

@@ -1,0 +1,54 @@
+-- Connections one after another, and the turns of the job between them, as events of the machine.
+use Rattle.std.specs.Prelude.{◌≡◌, ◌≢◌, ℕ, Bool, List, [], ◌∷◌, ◌++◌, Option}
+use Rattle.outside.specs.Exchange.{Exchange}
+use Rattle.settings_machine.specs.World.{Image, World}
+use Rattle.settings_machine.specs.Requests.{Request, Reply, NotOpened}
+use Rattle.settings_machine.specs.Events as events
+use Rattle.settings_machine.specs.Events.{Event, after, faulted_after}
+use Rattle.machine_disk.specs.Ran.{Handled}
+use Rattle.core_turns.specs.Turned.{AreTurns}
+use Rattle.machine_answers.specs.Asks.{request_of}
+use Rattle.api_server.specs.Exchanged.{Said, Nothing, OutOfMemory, Unread, Replied, IsExchanged}
+
+-- The request was handled, and not given up because the store could not be opened again.
+pub record IsAsked (I : Image) (faulted : Bool) (W : World) (q : Request) (reply : Reply) (asked : List Event) : Type 0 where
+  pub handled : Handled I faulted W q reply asked
+  pub opens : (at : List ℕ) → reply ≢ NotOpened at
+
+-- The events of what one connection came to.
+abbrev pub AsksFor : Image → Bool → World → Said → List Event → Type 0
+AsksFor I faulted W Nothing asked = asked ≡ []
+AsksFor I faulted W OutOfMemory asked = asked ≡ []
+AsksFor I faulted W (Unread r) asked = asked ≡ events.Unread ∷ []
+AsksFor I faulted W (Replied q reply) asked = IsAsked I faulted W (request_of q) reply asked
+
+-- One connection: what it came to, the events of its request, and the turns after it.
+pub record Round : Type 0 where
+  pub said : Said
+  pub asked : List Event
+  pub turned : List Event
+
+-- Its events.
+abbrev pub events_of_round : Round → List Event
+events_of_round r = r.asked ++ r.turned
+
+-- The events of connections one after another.
+abbrev pub events_of : List Round → List Event
+events_of [] = []
+events_of (r ∷ rs) = events_of_round r ++ events_of rs
+
+-- From this world and this flag a connection came to its request and to a slice of turns after it.
+pub record IsRound (I : Image) (slice : Option ℕ) (faulted : Bool) (W : World) (r : Round) : Type 0 where
+  pub asks : AsksFor I faulted W r.said r.asked
+  pub turns : AreTurns I slice (after I W r.asked) r.turned
+
+-- Each connection begins where the one before it has led.
+abbrev pub AreRounds : Image → Option ℕ → Bool → World → List Round → Type 0
+AreRounds I slice faulted W [] = Unit {0}
+AreRounds I slice faulted W (r ∷ rs) =
+    IsRound I slice faulted W r × AreRounds I slice (faulted_after faulted (events_of_round r)) (after I W (events_of_round r)) rs
+
+-- The connections that were accepted, the last one first: one more for each round, with its bytes.
+abbrev pub AreExchanged : List Round → List Exchange → List Exchange → Type 0
+AreExchanged [] old new = new ≡ old
+AreExchanged (r ∷ rs) old new = (x : Exchange) × IsExchanged r.said x × AreExchanged rs (x ∷ old) new

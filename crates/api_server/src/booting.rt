@@ -1,0 +1,32 @@
+//! The beginning of a run.
+ghost use Rattle.std.specs.Prelude.{◌≡◌, ◌≤◌};
+ghost use Rattle.outside.specs.Told.{Moves};
+ghost use Rattle.api_core.specs.Cores.{IsSound};
+ghost use Rattle.api_server.specs.Serving.{Boots};
+
+use api_core::{Ask, Core};
+use outside::{Disk, Spawner};
+use std::alloc::Global;
+
+/// With boot the job is begun by the request `Apply`, and a slice of its turns is made.
+pub(crate) fn boot_up<D: Disk, S: Spawner>(
+    alloc: Global,
+    core: &mut Core,
+    boot: bool,
+    slice: Option<u32>,
+    disk: &mut D,
+    spawner: &mut S,
+)
+    requires { IsSound core.old }
+    ensures boots { Moves (D.told disk.old) (D.told disk.new)
+        (Boots boot slice core.old core.new (S.runs spawner.old) (S.runs spawner.new)) }
+    ensures sound { IsSound core.new }
+    ensures disk_faults { D.faults disk.old ≤ D.faults disk.new }
+    ensures spawner_faults { S.faults spawner.old ≤ S.faults spawner.new }
+    ensures asked { S.asked spawner.new ≡ S.asked spawner.old }
+{
+    if boot {
+        core.handle(alloc, &Ask::Apply, disk);
+        core.turns(alloc, slice, disk, spawner);
+    }
+}

@@ -1,0 +1,30 @@
+//! The end of a run.
+ghost use Rattle.std.specs.Prelude.{◌≡◌, ◌≤◌};
+ghost use Rattle.outside.specs.Told.{Moves};
+ghost use Rattle.api_core.specs.Cores.{IsSound};
+ghost use Rattle.api_server.specs.Serving.{Ends};
+
+use api_core::Core;
+use outside::{Disk, Spawner};
+use std::alloc::Global;
+
+/// Where no accept failed, turns are made until no job runs.
+pub(crate) fn drive<D: Disk, S: Spawner>(
+    alloc: Global,
+    core: &mut Core,
+    fine: bool,
+    disk: &mut D,
+    spawner: &mut S,
+)
+    requires { IsSound core.old }
+    ensures ends { Moves (D.told disk.old) (D.told disk.new)
+        (Ends fine core.old core.new (S.runs spawner.old) (S.runs spawner.new)) }
+    ensures sound { IsSound core.new }
+    ensures disk_faults { D.faults disk.old ≤ D.faults disk.new }
+    ensures spawner_faults { S.faults spawner.old ≤ S.faults spawner.new }
+    ensures asked { S.asked spawner.new ≡ S.asked spawner.old }
+{
+    if fine {
+        core.turns(alloc, None, disk, spawner);
+    }
+}

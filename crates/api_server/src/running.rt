@@ -1,0 +1,49 @@
+//! A whole run over an opened store.
+ghost use Rattle.std.specs.Prelude.{◌≡◌, ◌⊎◌, ◌≤◌, true, false};
+ghost use Rattle.outside.specs.Told.{Moves};
+ghost use Rattle.outside.specs.Faults.{Rose};
+ghost use Rattle.api_core.specs.Cores.{IsSound};
+ghost use Rattle.api_server.specs.Serving.{wanted, Serves};
+
+use crate::booting::boot_up;
+use crate::driving::drive;
+use crate::serving::serve_all;
+use api_core::Core;
+use outside::{Disk, Door, Spawner};
+use std::alloc::Global;
+
+/// Serves over an opened store. With boot the job is begun by the request `Apply` and a slice of its turns is made; then
+/// connections are served one after another, as [`serve_all`](crate::serve_all) serves them; and then, unless an accept failed,
+/// turns are made until no job runs. False exactly where an accept failed; the running job is then left.
+pub fn serve<D: Disk, S: Spawner, N: Door>(
+    alloc: Global,
+    core: &mut Core,
+    boot: bool,
+    slice: Option<u32>,
+    connections: Option<u32>,
+    disk: &mut D,
+    spawner: &mut S,
+    door: &mut N,
+) -> bool
+    requires idle { (N.state door.old).busy ≡ false }
+    requires unused { (N.state door.old).accepted ≡ 0 }
+    requires sound { IsSound core.old }
+
+    // It is a run of the machine: what boot makes, for each connection its request and a slice of turns, and the last turns.
+    ensures serves { Moves (D.told disk.old) (D.told disk.new)
+        (Serves slice boot result core.old core.new (N.told door.old) (N.told door.new) (S.runs spawner.old) (S.runs spawner.new)) }
+    ensures sound { IsSound core.new }
+    ensures idle { (N.state door.new).busy ≡ false }
+    ensures all { result ≡ true → ((N.state door.new).accepted ≡ wanted connections) ⊎ ((N.state door.new).ended ≡ true) }
+    ensures broken { result ≡ false → (N.state door.new).broken ≡ true }
+    ensures cause { result ≡ false → Rose (N.faults door.old) (N.faults door.new) }
+    ensures disk_faults { D.faults disk.old ≤ D.faults disk.new }
+    ensures spawner_faults { S.faults spawner.old ≤ S.faults spawner.new }
+    ensures door_faults { N.faults door.old ≤ N.faults door.new }
+    ensures asked { S.asked spawner.new ≡ S.asked spawner.old }
+{
+    boot_up(alloc, core, boot, slice, disk, spawner);
+    let fine = serve_all(alloc, core, slice, connections, disk, spawner, door);
+    drive(alloc, core, fine, disk, spawner);
+    fine
+}

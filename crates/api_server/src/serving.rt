@@ -1,0 +1,83 @@
+//! Connections one after another.
+ghost use Rattle.std.specs.Prelude.{◌≡◌, ◌⊎◌, ◌≤◌, true, false};
+ghost use Rattle.outside.specs.Told.{Moves};
+ghost use Rattle.outside.specs.Door.{finished};
+ghost use Rattle.outside.specs.Faults.{Rose};
+ghost use Rattle.api_core.specs.Cores.{IsSound};
+ghost use Rattle.api_server.specs.Answered.{ServesOne, ServesAll};
+ghost use Rattle.api_server.specs.Serving.{wanted};
+
+use crate::answering::answer_one;
+use api_core::Core;
+use outside::{Disk, Door, Spawner};
+use std::alloc::Global;
+
+/// Serves one connection, after its accept: its request is read, handled and replied to, the connection is ended, and then a
+/// slice of the job's turns is made: so many, or fewer where the job stops running, or without a number until no job runs.
+///
+/// The request is one step of the machine, made on the disk before the first byte of its reply is written. A read or a write
+/// that fails ends this connection alone, and a request or a turn that fails ends nothing. At most 1,064,960 bytes are read.
+pub fn serve_one<D: Disk, S: Spawner, N: Door>(
+    alloc: Global,
+    core: &mut Core,
+    slice: Option<u32>,
+    disk: &mut D,
+    spawner: &mut S,
+    door: &mut N,
+)
+    requires busy { (N.state door.old).busy ≡ true }
+    requires sound { IsSound core.old }
+
+    // It is one request of the machine, or none, and a slice of its turns, crash included.
+    ensures serves { Moves (D.told disk.old) (D.told disk.new)
+        (ServesOne slice core.old core.new (D.faults disk.old) (D.faults disk.new) (N.told door.old) (N.told door.new)
+        (S.runs spawner.old) (S.runs spawner.new)) }
+    ensures sound { IsSound core.new }
+    ensures done { N.state door.new ≡ finished (N.state door.old) }
+    ensures disk_faults { D.faults disk.old ≤ D.faults disk.new }
+    ensures spawner_faults { S.faults spawner.old ≤ S.faults spawner.new }
+    ensures door_faults { N.faults door.old ≤ N.faults door.new }
+    ensures asked { S.asked spawner.new ≡ S.asked spawner.old }
+{
+    answer_one(alloc, core, disk, door);
+    door.finish();
+    core.turns(alloc, slice, disk, spawner);
+}
+
+/// Serves connections, until so many were accepted, no further one comes, or an accept failed; without a number, so many as a
+/// door may accept. False exactly where an accept failed.
+pub fn serve_all<D: Disk, S: Spawner, N: Door>(
+    alloc: Global,
+    core: &mut Core,
+    slice: Option<u32>,
+    connections: Option<u32>,
+    disk: &mut D,
+    spawner: &mut S,
+    door: &mut N,
+) -> bool
+    requires idle { (N.state door.old).busy ≡ false }
+    requires unused { (N.state door.old).accepted ≡ 0 }
+    requires sound { IsSound core.old }
+
+    // Each connection begins where the one before it has led.
+    ensures serves { Moves (D.told disk.old) (D.told disk.new)
+        (ServesAll slice core.old core.new (N.told door.old) (N.told door.new) (S.runs spawner.old) (S.runs spawner.new)) }
+    ensures sound { IsSound core.new }
+    ensures idle { (N.state door.new).busy ≡ false }
+    ensures all { result ≡ true → ((N.state door.new).accepted ≡ wanted connections) ⊎ ((N.state door.new).ended ≡ true) }
+    ensures broken { result ≡ false → (N.state door.new).broken ≡ true }
+    ensures cause { result ≡ false → Rose (N.faults door.old) (N.faults door.new) }
+    ensures disk_faults { D.faults disk.old ≤ D.faults disk.new }
+    ensures spawner_faults { S.faults spawner.old ≤ S.faults spawner.new }
+    ensures door_faults { N.faults door.old ≤ N.faults door.new }
+    ensures asked { S.asked spawner.new ≡ S.asked spawner.old }
+{
+    for _number in 0..connections.unwrap_or(u32::MAX) {
+        match door.accept() {
+            Ok(true) => serve_one(alloc, core, slice, disk, spawner, door),
+            Ok(false) => return true,
+            Err(_) => return false,
+        }
+    }
+    true
+}
