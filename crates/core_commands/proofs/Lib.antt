@@ -1,0 +1,9 @@
+pub mod Replied
+pub mod Asked
+pub mod Requested
+pub mod Fresh
+pub mod Following
+pub mod Carryings
+pub mod Told
+pub mod Causes
+pub mod Paying

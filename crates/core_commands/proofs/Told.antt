@@ -1,0 +1,38 @@
+-- What commands tell at their end.
+use Rattle.std.proofs.Common.{◌≡◌, List, [], ◌∷◌, All, IsTrue, Option, Ok, Err, IfOk, IfErr, sym, subst}
+use Rattle.std.proofs.lemmas.List.Elements.{All-map}
+use Rattle.outside.specs.History.{History}
+use Rattle.outside.specs.Spawner.{Run}
+use Rattle.key_names.specs.Key.{is_prefix}
+use Rattle.json_trees.specs.declared.pending.Pending.{Pending}
+use Rattle.json_trees.specs.declared.pending.Pending.TheVariants as pending
+use Rattle.json_trees.specs.declared.scalar.Scalar.{Scalar}
+use Rattle.settings_tree.specs.Content.{settings_key}
+use Rattle.settings_tree.specs.declared.held.Held.{Held}
+use Rattle.settings_machine.specs.World.{Key, World}
+use Rattle.settings_machine.specs.Requests.{Request}
+use Rattle.command_outcome.specs.Ends.{Outcome}
+use Rattle.command_outcome.specs.declared.refusal.Refusal.{Refusal}
+use Rattle.command_outcome.specs.declared.refusal.Refusal.TheVariants as refused
+use Rattle.core_commands.specs.Carried.{CarriesOut, puts_of}
+use Rattle.core_commands.specs.Lines.{IsTreeLine, IsSettingsLine}
+use Rattle.core_commands.proofs.Carryings.{carries_said, carries_lost}
+
+-- The keys of what is put are those of the pairs.
+pub settings_put : (pairs : List (Key × Scalar)) (puts : List (Key × Pending)) → puts ≡ puts_of pairs → All (λ pair. IsTrue (is_prefix settings_key pair.0)) pairs
+    → All (λ pair. IsTrue (is_prefix settings_key pair.0)) puts
+settings_put pairs puts is all =
+    subst (λ (l : List (Key × Pending)). All (λ pair. IsTrue (is_prefix settings_key pair.0)) l) (sym is)
+    (All-map (λ (p : Key × Pending). IsTrue (is_prefix settings_key p.0)) (λ (p : Key × Scalar). (p.0, pending.Put p.1)) pairs all)
+
+-- The line of the live settings, or want of memory for it.
+pub settings_told : {A : Type 0} (qs : List Request) (P : World → A → Type 0) (said : A) (held : Held) (outcome : Outcome) (ran_before ran_after : Option (List Run))
+    (told_before told_after : Option History) → ((W : World) → P W said → W.held ≡ held) → IfOk outcome (IsTreeLine held.live.values (settings_key ∷ []))
+    → IfErr outcome (λ refusal. refusal ≡ refused.Memory) → CarriesOut qs P (Ok said) ran_before ran_after told_before told_after
+    → CarriesOut qs IsSettingsLine outcome ran_before ran_after told_before told_after
+settings_told qs P said held (Ok line) ran_before ran_after told_before told_after same tells memory c =
+    carries_said qs P IsSettingsLine ran_before ran_after told_before told_after said line
+    (λ W p. subst (λ (h : Held). IsTreeLine h.live.values (settings_key ∷ []) line) (sym (same W p)) tells) c
+settings_told qs P said held (Err e) ran_before ran_after told_before told_after same tells memory c =
+    subst (λ (x : Refusal). CarriesOut qs IsSettingsLine (Err x) ran_before ran_after told_before told_after) (sym memory)
+    (carries_lost qs P IsSettingsLine ran_before ran_after told_before told_after said c)

@@ -1,0 +1,71 @@
+-- How refusals of lower calls are handed on.
+use Rattle.std.specs.Prelude.{◌≡◌, ◌≢◌, ◌==◌, ◌≤◌, ◌⊎◌, ⊤, ℕ, List, Option, Some, None, Result, Ok, Err, false, if◌then◌else◌}
+use Rattle.std.specs.Result.{IsErrOf}
+use Rattle.outside.specs.Faults.{Rose}
+use Rattle.api_http.specs.Replies.{Sent, status_of, refusal_text}
+use Rattle.settings_machine.specs.World.{Job, Idle, Failed, Running, is_running}
+use Rattle.settings_machine.specs.Requests as machine
+use Rattle.settings_machine.specs.declared.cause.Cause.{Cause}
+use Rattle.settings_machine.specs.declared.cause.Cause.TheVariants as cause
+use Rattle.store_open.specs.declared.open_error.OpenError.{OpenError}
+use Rattle.store_open.specs.declared.open_error.OpenError.TheVariants as opening
+use Rattle.command_outcome.specs.declared.refusal.Refusal.{Refusal}
+use Rattle.command_outcome.specs.declared.refusal.Refusal.TheVariants as refused
+use Rattle.machine_answers.specs.Answers.{refusal_of}
+
+-- Why a store was not opened, as it is.
+abbrev pub not_opened : OpenError → Refusal
+not_opened opening.NoStore = refused.NoStore
+not_opened (opening.BadLink path) = refused.BadLink path
+not_opened (opening.BadJournal path) = refused.BadJournal path
+not_opened (opening.Damaged path) = refused.Damaged path
+not_opened (opening.OldFormat directory) = refused.OldFormat directory
+not_opened (opening.BadImage file kind at) = refused.BadImage file kind at
+not_opened (opening.IllTyped key) = refused.IllTyped key
+not_opened opening.Failed = refused.Disk
+not_opened opening.Memory = refused.Memory
+
+-- The machine's refusal of a request, by the status and the body of the reply that a client of the socket would get.
+abbrev pub as_replied : machine.Refusal → Refusal
+as_replied r = refused.Refused (status_of (refusal_of r)).0 (refusal_text (refusal_of r))
+
+-- Why a job failed, as it is.
+abbrev pub failed_for : Cause → Refusal
+failed_for cause.Disk = refused.Disk
+failed_for (cause.Spawn service) = refused.Spawn service
+failed_for (cause.Render file error) = refused.Render file error
+failed_for (cause.Status service number) = refused.Status service number
+failed_for cause.Memory = refused.Memory
+
+-- A program could not be run only where the count rose, and, but for want of memory, the count rose only there. No door is told of.
+pub record HasSpawnCause {T : Type 0} (before now : ℕ) (result : Result T Refusal) : Type 0 where
+  pub later : before ≤ now
+  pub failed : (name : List ℕ) → IsErrOf result (refused.Spawn name) → Rose before now
+  pub kept : ((name : List ℕ) → IsErrOf result (refused.Spawn name) → ⊥) → (IsErrOf result refused.Memory → ⊥) → now ≡ before
+  pub no_door : IsErrOf result refused.Door → ⊥
+
+-- Why a job failed is told; or memory was wanting for it, and the disk had not failed.
+abbrev pub HandsCause : Cause → Refusal → Type 0
+HandsCause c refusal = (refusal ≡ failed_for c) ⊎ ((refusal ≡ refused.Memory) × (c ≢ cause.Disk))
+
+-- Why the job failed, if it did.
+abbrev pub HandsJob : Job → Option Refusal → Type 0
+HandsJob Idle None = ⊤
+HandsJob (Failed c) (Some refusal) = HandsCause c refusal
+HandsJob (Running work) None = ⊤
+HandsJob _ _ = ⊥
+
+-- What becomes of a job that is driven to its end: it is idle, or no job ran; or why it failed is told, or memory was wanting for that.
+abbrev pub Drives : Job → Job → Result Unit Refusal → Type 0
+Drives before now (Ok done) = ((is_running before ≡ false) × (now ≡ before)) ⊎ (now ≡ Idle)
+Drives before now (Err refusal) = HandsJob now (Some refusal)
+
+-- ---- for private clauses
+
+-- What a reply that isn't of success is told as, where memory serves.
+abbrev pub told_reply : Sent → Refusal
+told_reply sent = if sent.status == 500 then refused.Disk else if sent.status == 503 then refused.Memory else refused.Refused sent.status sent.body
+
+-- It is told so; or memory was wanting for it, and the disk had not failed.
+abbrev pub HandsSent : Sent → Refusal → Type 0
+HandsSent sent refusal = (refusal ≡ told_reply sent) ⊎ ((refusal ≡ refused.Memory) × (sent.status ≢ 500))

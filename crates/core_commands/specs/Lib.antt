@@ -1,0 +1,5 @@
+pub mod Asking
+pub mod Carried
+pub mod Handing
+pub mod Laws
+pub mod Lines

@@ -1,0 +1,67 @@
+//! Requests over a store that is opened, and the job's end.
+ghost use Rattle.std.specs.Prelude.{◌≡◌, All};
+ghost use Rattle.outside.specs.Told.{Moves};
+ghost use Rattle.outside.specs.Faults.{HasCauseOf};
+ghost use Rattle.api_http.specs.Questions.{question, IsProper};
+ghost use Rattle.store_open.specs.Opening.{IsSoundOpened};
+ghost use Rattle.core_commands.specs.Asking.{requests};
+ghost use Rattle.core_commands.specs.Carried.{CarriesOut, GoesOnFrom, HoldsAll};
+ghost use Rattle.core_commands.specs.Handing.{HasSpawnCause};
+
+use crate::asking::ask_each;
+use crate::driving::drive;
+use crate::handing::{not_opened, refused};
+use api_core::Core;
+use api_http::Ask;
+use command_outcome::Refusal;
+use outside::{Disk, Spawner};
+use std::alloc::Global;
+use store_open::{Opened, open_store};
+
+// Asks the requests of a core over a store that was just opened, and makes turns until no job runs.
+fn go_on<D: Disk, S: Spawner>(
+    alloc: Global,
+    store: Opened,
+    asks: &[Ask],
+    disk: &mut D,
+    spawner: &mut S,
+) -> Result<Core, Refusal>
+    requires opened { IsSoundOpened store }
+    requires proper { All (λ ask. IsProper (question ask)) asks.now }
+    ensures goes { Moves (D.told disk.old) (D.told disk.new)
+        (GoesOnFrom (requests asks.now) HoldsAll store result (S.runs spawner.old) (S.runs spawner.new)) }
+    ensures cause { HasCauseOf Refusal.Disk (D.faults disk.old) (D.faults disk.new) result }
+    ensures spawn { HasSpawnCause (S.faults spawner.old) (S.faults spawner.new) result }
+    ensures asked { S.asked spawner.new ≡ S.asked spawner.old }
+{
+    let mut core = Core::new(store);
+    if let Err(reply) = ask_each(alloc, &mut core, asks, disk) {
+        return Err(refused(alloc, &reply));
+    }
+    drive(alloc, &mut core, disk, spawner)?;
+    Ok(core)
+}
+
+/// Opens the store, without boot, asks the requests one after another, and makes turns until no job runs. It answers the core, which
+/// holds what the world holds, and whose job is idle.
+///
+/// Why the store can't be opened comes first; then `Refused` where the machine refuses a request, and none is asked after it; then
+/// `Spawn`, `Render` or `Status` where the job failed so. `Disk` where the disk failed; `Memory` where memory is wanting.
+pub fn carry<D: Disk, S: Spawner>(
+    alloc: Global,
+    asks: &[Ask],
+    disk: &mut D,
+    spawner: &mut S,
+) -> Result<Core, Refusal>
+    requires proper { All (λ ask. IsProper (question ask)) asks.now }
+    ensures carries { CarriesOut (requests asks.now) HoldsAll result
+        (S.runs spawner.old) (S.runs spawner.new) (D.told disk.old) (D.told disk.new) }
+    ensures cause { HasCauseOf Refusal.Disk (D.faults disk.old) (D.faults disk.new) result }
+    ensures spawn { HasSpawnCause (S.faults spawner.old) (S.faults spawner.new) result }
+    ensures asked { S.asked spawner.new ≡ S.asked spawner.old }
+{
+    match open_store(alloc, disk, false) {
+        Ok(store) => go_on(alloc, store, asks, disk, spawner),
+        Err(error) => Err(not_opened(error)),
+    }
+}

@@ -1,0 +1,21 @@
+//! The commands over an open store: requests are asked of the core, the job is driven to its end, and what the last world holds is
+//! told.
+#![tactic(auto)]
+
+mod applying;
+mod asking;
+mod carrying;
+mod driving;
+mod handing;
+mod law;
+mod lines;
+mod setting;
+
+pub use applying::apply;
+pub use asking::ask_each;
+pub use carrying::carry;
+pub use driving::drive;
+pub use handing::not_opened;
+pub use law::laws;
+pub use lines::tree_line;
+pub use setting::set;
