@@ -242,6 +242,7 @@ module _ (to : Version) (transitions : List Transition) (migrations : List Named
     found = tt;
     found_first = λ behind. absurd (not_behind e quiet (λ at target is. starts.no_plan at target (ap Err is)) behind);
     stays = λ place held store same. starts.sync_first place store.led;
+    still = λ place held settled store same. settled_since (HasStore place held 2) old new settled store (starts.keeps place held 2 store);
     not_refused = tt;
     kept = λ other place held format settled store. settled_since (HasStore place held format) old new settled store (starts.keeps place held format store);
     ended = λ place held format store. record { ended = inl (mapped, noted, quiet) };
@@ -269,6 +270,7 @@ module _ (to : Version) (transitions : List Transition) (migrations : List Named
     found = tt;
     found_first = λ behind. some_store start old new starts;
     stays = λ place held store same. starts.sync_first place store.led;
+    still = λ place held settled store same. keeps_since (Ok start) old new starts place held 2 settled store;
     not_refused = tt;
     kept = λ other place held format settled store. keeps_since (Ok start) old new starts place held format settled store;
     ended = λ place held format store. record { ended = inl (mapped, noted, plan_quiet e) };
@@ -301,6 +303,7 @@ module _ (to : Version) (transitions : List Transition) (migrations : List Named
     found = some_store start old new starts;
     found_first = tt;
     stays = λ place held store same. starts.sync_first place store.led;
+    still = λ place held settled store same. keeps_since (Ok start) old new starts place held 2 settled store;
     not_refused = noted;
     kept = tt;
     ended = tt;
@@ -340,6 +343,9 @@ module _ (to : Version) (transitions : List Transition) (migrations : List Named
       found = on_ok_all result (some_store start old mid starts);
       found_first = if_err_all result (λ e behind. some_store start old mid starts);
       stays = λ place held store same.
+          let found = starts.found place held 2 store in
+          absurd (needed (ap (λ (r : Place). r.version) found.place_is ∙ same) found.format_is);
+      still = λ place held settled store same.
           let found = starts.found place held 2 store in
           absurd (needed (ap (λ (r : Place). r.version) found.place_is ∙ same) found.format_is);
       not_refused = noted;

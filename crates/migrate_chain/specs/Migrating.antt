@@ -60,6 +60,8 @@ pub record Migrates (to : Version) (transitions : List Transition) (migrations :
   pub found_first : IfErr result (λ e. IsBehind e → HasSome (tree_of old))
   -- Where it is at the version in format 2, only its journal is carried out.
   pub stays : (place : Place) (held : Held) → HasStore place held 2 (tree_of old) → place.version ≡ to → FromSyncOn (Touches (IsBelow place.directory)) old new
+  -- And so at every moment the store is as it was.
+  pub still : (place : Place) (held : Held) → IsSettled old → HasStore place held 2 (tree_of old) → place.version ≡ to → EachSince (HasStore place held 2) old new
   -- After Ok the mapper has refused nothing.
   pub not_refused : OnOk result (refused_after ≡ refused_before)
   -- After every error but a failure of the disk it is as it was, at every moment.

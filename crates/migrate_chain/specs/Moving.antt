@@ -98,6 +98,10 @@ IsRefusal (Spawn name) = Unit {0}
 IsRefusal Failed = ⊥
 IsRefusal Memory = ⊥
 
+-- Between two states of a mapper: it carried out migrations alone, and the error is not of its making; or it stopped at one that met the error.
+abbrev pub StopsBy : {M : Type 0} → (M → M → Type 0) → (MapperError → M → M → Type 0) → M → M → MoveError → Type 0
+StopsBy carries stops m m' error = ((IsRefusal error → ⊥) × carries m m') ⊎ ((e : MapperError) × (error ≡ of_mapper e) × stops e m m')
+
 -- A data directory of the version stands for what is held, and is on the disk.
 pub record IsSaved (version : Version) (held : Held) (target : Target) (old new : History) : Type 0 where
   pub version_is : target.version ≡ version

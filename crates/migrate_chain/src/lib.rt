@@ -19,6 +19,6 @@ pub use mapper_error::MapperError;
 pub use migrating::migrate_by;
 pub use move_error::MoveError;
 pub use moving::Moved;
-pub use plain::migrate;
+pub use plain::{made_by, migrate};
 pub use prune_error::PruneError;
 pub use pruning::prune;

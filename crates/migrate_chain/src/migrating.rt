@@ -1,9 +1,10 @@
 //! A store is moved to another version by a mapper.
-ghost use Rattle.std.specs.Prelude.{◌≡◌, ◌↔◌, ℕ, List, length, IsTrue};
+ghost use Rattle.std.specs.Prelude.{◌≡◌, ◌↔◌, ℕ, List, length, IsTrue, IfErr, OnOk};
 ghost use Rattle.outside.specs.Told.{Moves};
 ghost use Rattle.outside.specs.Faults.{HasCauseOf};
 ghost use Rattle.migrate_chain.specs.Causes.{HasNamedCause};
 ghost use Rattle.migrate_chain.specs.Migrating.{Migrates};
+ghost use Rattle.migrate_chain.specs.Moving.{StopsBy};
 
 use crate::mapper::Mapper;
 use crate::move_error::MoveError;
@@ -38,6 +39,8 @@ pub fn migrate_by<D: Disk, M: Mapper>(
     mapper: &mut M,
 ) -> Result<Moved, MoveError>
     ensures migrates { Moves (D.told disk.old) (D.told disk.new) (Migrates to.now release.now.transitions.items release.now.migrations.items (M.mapped mapper.old) (M.mapped mapper.new) (M.refused mapper.old) (M.refused mapper.new) result) }
+    ensures carries { OnOk result (M.carries mapper.old mapper.new) }
+    ensures stopped { IfErr result (StopsBy M.carries M.stops mapper.old mapper.new) }
     ensures mapper_cause { HasNamedCause (λ name. MoveError.Spawn name) (M.faults mapper.old) (M.faults mapper.new) result }
     ensures disk_cause { HasCauseOf MoveError.Failed (D.faults disk.old) (D.faults disk.new) result }
 {

@@ -8,7 +8,7 @@ ghost use Rattle.settings_tree.specs.declared.held.Held.{Held as World};
 ghost use Rattle.release_file.specs.Release.{names_known};
 ghost use Rattle.migrate_chain.specs.Tasks.{tasks_of};
 ghost use Rattle.migrate_chain.specs.Store.{owing_all, TouchesOthers};
-ghost use Rattle.migrate_chain.specs.Moving.{IsCarried, EndsEarly, Ends, IsSaved, MovesAlong};
+ghost use Rattle.migrate_chain.specs.Moving.{IsCarried, EndsEarly, Ends, IsSaved, MovesAlong, StopsBy};
 
 use crate::carrying::carry_out;
 use crate::copying::copy_owing_all;
@@ -73,6 +73,8 @@ fn copy_along<D: Disk, M: Mapper>(
         × Moves (D.told disk.old) (D.told disk.new) (IsSaved to.now (owing_all made) target)) }
     ensures not_refused { OnOk result (M.refused mapper.new ≡ M.refused mapper.old) }
     ensures ends_early { IfErr result (EndsEarly (tasks_of migrations.now back (map (λ t. t.now) way.now)) held (M.mapped mapper.old) (M.mapped mapper.new) (M.refused mapper.old) (M.refused mapper.new)) }
+    ensures carries { OnOk result (M.carries mapper.old mapper.new) }
+    ensures stopped { IfErr result (StopsBy M.carries M.stops mapper.old mapper.new) }
     ensures disk_cause { HasCauseOf MoveError.Failed (D.faults disk.old) (D.faults disk.new) result }
     ensures mapper_cause { HasNamedCause (λ name. MoveError.Spawn name) (M.faults mapper.old) (M.faults mapper.new) result }
 {
@@ -100,6 +102,8 @@ pub(crate) fn move_along<D: Disk, M: Mapper>(
     ensures moves { Moves (D.told disk.old) (D.told disk.new) (MovesAlong start (tasks_of migrations.now back (map (λ t. t.now) way.now)) to.now (M.mapped mapper.old) (M.mapped mapper.new) result) }
     ensures not_refused { OnOk result (M.refused mapper.new ≡ M.refused mapper.old) }
     ensures ends { IfErr result (Ends (tasks_of migrations.now back (map (λ t. t.now) way.now)) start.held (M.mapped mapper.old) (M.mapped mapper.new) (M.refused mapper.old) (M.refused mapper.new)) }
+    ensures carries { OnOk result (M.carries mapper.old mapper.new) }
+    ensures stopped { IfErr result (StopsBy M.carries M.stops mapper.old mapper.new) }
     ensures disk_cause { HasCauseOf MoveError.Failed (D.faults disk.old) (D.faults disk.new) result }
     ensures mapper_cause { HasNamedCause (λ name. MoveError.Spawn name) (M.faults mapper.old) (M.faults mapper.new) result }
 {

@@ -36,8 +36,9 @@ fn mapped_by(migration: &Migration, back: bool, held: &Held) -> Result<Held, Map
     }
 }
 
-// What a migration makes of what is held.
-fn made_by(migration: &Migration, back: bool, held: &Held) -> Result<Held, MapperError>
+/// What a migration makes of what is held, forward or back: what its mapping gives. It refuses `Conflict` exactly where the mapping
+/// does, and `Memory` where memory is wanting.
+pub fn made_by(migration: &Migration, back: bool, held: &Held) -> Result<Held, MapperError>
     ensures made { IfOk result (λ made. after_step (step_in (forward_step migration.now) (backward_step migration.now) back) held.now ≡ Ok made) }
     ensures kept { KeepsPrefixRule held.now → IfOk result (Kept held.now) }
     ensures refused { IfErr result (RefusesStep (step_in (forward_step migration.now) (backward_step migration.now) back) held.now) }
@@ -60,6 +61,10 @@ impl Mapper for Mappings {
 
     ghost refused = { λ _. None };
 
+    ghost carries = { λ _ _. Unit {0} };
+
+    ghost stops = { λ _ _ _. Unit {0} };
+
     // A program is never asked: `migrate` has the condition that the release has none.
     fn map(&mut self, _: &Text, work: &Work, back: bool, held: &Held) -> Result<Held, MapperError> {
         match work {
@@ -67,6 +72,12 @@ impl Mapper for Mappings {
             Work::Program { .. } => Err(MapperError::Memory),
         }
     }
+
+    ghost carries_none = { λ _. tt };
+
+    ghost carries_more = { λ _ _ _ _ _. tt };
+
+    ghost stops_later = { λ _ _ _ _ _ _. tt };
 }
 
 /// Moves the store to a version as `migrate_by` does, by a release without programs. Each migration makes what its

@@ -22,6 +22,7 @@ loop-index-preserved g c = record {
   carried = carried_more c.args.migrations.now c.args.back (names_in_order c.args.back c.args.transition.now.names.items) c.loop-index.index c.name_at-name.result.now c.work_named-work.result.now c.args.held _ _ _ c.loop-index.held c.in_ok-held.held
       (subst (λ names. slice_get (names_in_order c.args.back names) c.loop-index.index ≡ Some c.name_at-name.result.now) c.deref.ensures.value c.name_at-name.ensures)
       c.work_named-work.ensures c.loop-index.invariant.carried c.in_ok-held.ensures.mapped c.in_ok-held.ensures.made;
+  carries = g.met.M.Mapper.carries_more _ _ _ c.loop-index.invariant.carries c.in_ok-held.ensures.carries;
   refused = c.in_ok-held.ensures.not_refused ∙ c.loop-index.invariant.refused;
   faults = c.in_ok-held.ensures.cause.kept ∙ c.loop-index.invariant.faults;
 }
@@ -33,3 +34,7 @@ returns-clause-carried g c =
 pub returns-in_err-held-clause-cause : goal.returns-in_err-held-clause-cause
 returns-in_err-held-clause-cause g c =
     cause_task c.from_residual.result c.in_err-held.field-0.0 c.name_at-name.result.now _ _ _ c.loop-index.invariant.faults c.from_residual.ensures.1 c.in_err-held.ensures.named c.in_err-held.ensures.cause
+
+pub returns-in_err-held-clause-stops : goal.returns-in_err-held-clause-stops
+returns-in_err-held-clause-stops g c =
+    handed_on c.from_residual.result c.in_err-held.field-0.0 _ c.from_residual.ensures.1 (g.met.M.Mapper.stops_later _ _ _ _ c.loop-index.invariant.carries c.in_err-held.ensures.stops)

@@ -1,9 +1,10 @@
-use Rattle.std.proofs.Common.{refl, ap, Err, subst, sym, ◌∙◌, length}
+use Rattle.std.proofs.Common.{inl, refl, ap, Err, subst, sym, ◌∙◌, length}
 use Rattle.std.proofs.lemmas.Bool.{false≢true}
 use Rattle.std.proofs.lemmas.List.{length-map}
 use Rattle.release_file.specs.Release.{names_known}
 use Rattle.release_file.specs.Chain.{HasNoPlan}
 use Rattle.migrate_chain.proofs.Started.{error_is}
+use Rattle.migrate_chain.proofs.Carried.{handed_on}
 use Rattle.migrate_chain.specs.Errors.{of_plan}
 use Rattle.migrate_chain.proofs.MapperCauses.{cause_quiet, cause_done}
 use Rattle.migrate_chain.proofs.Migrated.{not_found, no_way, is_there, migrated, way_known, no_steps, no_way_on, none_mapped, plan_quiet}
@@ -46,3 +47,14 @@ returns-in_err-steps-clause-mapper_cause g c = cause_quiet c.from_residual-in_er
 
 pub returns-then-is_there-clause-mapper_cause : goal.returns-then-is_there-clause-mapper_cause
 returns-then-is_there-clause-mapper_cause g c = cause_done _ _ _ refl
+
+pub returns-in_err-start-clause-stopped : goal.returns-in_err-start-clause-stopped
+returns-in_err-start-clause-stopped g c =
+    handed_on c.from_residual.result c.in_err-start.field-0.0 _ c.from_residual.ensures.1 (inl (c.in_err-start.ensures.no_refusal, g.met.M.Mapper.carries_none _))
+
+pub returns-in_err-steps-clause-stopped : goal.returns-in_err-steps-clause-stopped
+returns-in_err-steps-clause-stopped g c =
+    handed_on c.from_residual-in_err-steps.result (of_plan c.in_err-steps.field-0.0) _ c.from_residual-in_err-steps.ensures.1 (inl (plan_quiet c.in_err-steps.field-0.0, g.met.M.Mapper.carries_none _))
+
+pub returns-then-is_there-clause-carries : goal.returns-then-is_there-clause-carries
+returns-then-is_there-clause-carries g c = g.met.M.Mapper.carries_none _

@@ -10,7 +10,7 @@ use Rattle.migrate_chain.proofs.Along.{none_saved, saved_then, copies_others, co
 use Rattle.migrate_chain.proofs.moving.copy_along.Goals as goal
 
 pub loop-transition-init : goal.loop-transition-init
-loop-transition-init g c = record { carried = carried_none c.args.held _; refused = refl; others = none_saved _; disk_faults = refl; mapper_faults = refl }
+loop-transition-init g c = record { carried = carried_none c.args.held _; carries = g.met.M.Mapper.carries_none _; refused = refl; others = none_saved _; disk_faults = refl; mapper_faults = refl }
 
 pub returns-in_err-copy_reached-clause-others : goal.returns-in_err-copy_reached-clause-others
 returns-in_err-copy_reached-clause-others g c = saved_then _ _ _ c.loop-transition.invariant.others c.in_err-copy_reached.ensures.others
@@ -40,6 +40,7 @@ pub loop-transition-preserved : goal.loop-transition-preserved
 loop-transition-preserved g c = record {
   carried = step_carried (λ t. t.now) c.args.migrations.now c.args.back c.args.way.now c.loop-transition.transition-index c.transition-item.result c.args.held _ _ _ c.loop-transition.held c.in_ok-held.held c.loop-transition-test.true c.transition-item.is c.loop-transition.invariant.carried
       (subst (λ h. IsCarried (tasks_in c.args.migrations.now c.args.back c.transition-item.result.now) h (g.M.Mapper.mapped c.loop-transition.mapper) (g.M.Mapper.mapped c.carry_out.new.mapper) c.in_ok-held.held) c.in_ok-copy_reached.ensures.held c.in_ok-held.ensures.carried);
+  carries = g.met.M.Mapper.carries_more _ _ _ c.loop-transition.invariant.carries c.in_ok-held.ensures.carries;
   refused = c.in_ok-held.ensures.not_refused ∙ c.loop-transition.invariant.refused;
   others = saved_then _ _ _ c.loop-transition.invariant.others c.in_ok-copy_reached.ensures.others;
   disk_faults = c.in_ok-copy_reached.ensures.cause.kept ∙ c.loop-transition.invariant.disk_faults;
@@ -78,3 +79,17 @@ returns-in_err-copy_owing_all-clause-mapper_cause g c =
 
 pub returns-clause-mapper_cause : goal.returns-clause-mapper_cause
 returns-clause-mapper_cause g c = cause_done _ _ _ c.loop-transition.invariant.mapper_faults
+
+pub returns-in_err-copy_reached-clause-stopped : goal.returns-in_err-copy_reached-clause-stopped
+returns-in_err-copy_reached-clause-stopped g c =
+    handed_on c.from_residual.result (of_disk c.in_err-copy_reached.field-0.0) _ c.from_residual.ensures.1 (inl (disk_quiet c.in_err-copy_reached.field-0.0, c.loop-transition.invariant.carries))
+
+pub returns-in_err-held-clause-stopped : goal.returns-in_err-held-clause-stopped
+returns-in_err-held-clause-stopped g c =
+    handed_on c.from_residual-in_err-held.result (of_mapper c.in_err-held.field-0.0) _ c.from_residual-in_err-held.ensures.1
+    (inr (c.in_err-held.field-0.0, refl, g.met.M.Mapper.stops_later _ _ _ _ c.loop-transition.invariant.carries c.in_err-held.ensures.stops))
+
+pub returns-in_err-copy_owing_all-clause-stopped : goal.returns-in_err-copy_owing_all-clause-stopped
+returns-in_err-copy_owing_all-clause-stopped g c =
+    handed_on c.from_residual-in_err-copy_owing_all.result (of_disk c.in_err-copy_owing_all.field-0.0) _ c.from_residual-in_err-copy_owing_all.ensures.1
+    (inl (disk_quiet c.in_err-copy_owing_all.field-0.0, c.loop-transition.invariant.carries))

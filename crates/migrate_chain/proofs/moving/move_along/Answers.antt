@@ -48,3 +48,14 @@ returns-in_err-flip-clause-mapper_cause g c = cause_other c.in_ok-names.names c.
 
 pub returns-clause-mapper_cause : goal.returns-clause-mapper_cause
 returns-clause-mapper_cause g c = cause_ok c.in_ok-names.names _ _ _ c.in_ok-names.ensures.mapper_cause
+
+pub returns-in_err-names-clause-stopped : goal.returns-in_err-names-clause-stopped
+returns-in_err-names-clause-stopped g c = handed_on c.from_residual.result c.in_err-names.field-0.0 _ c.from_residual.ensures.1 c.in_err-names.ensures.stopped
+
+pub returns-in_err-directory-clause-stopped : goal.returns-in_err-directory-clause-stopped
+returns-in_err-directory-clause-stopped g c =
+    handed_on c.from_residual-in_err-directory.result Memory _ c.from_residual-in_err-directory.ensures.1 (inl (λ refusal. refusal, c.in_ok-names.ensures.carries))
+
+pub returns-in_err-flip-clause-stopped : goal.returns-in_err-flip-clause-stopped
+returns-in_err-flip-clause-stopped g c =
+    handed_on c.from_residual-in_err-flip.result Failed _ c.from_residual-in_err-flip.ensures.1 (inl (λ refusal. refusal, c.in_ok-names.ensures.carries))

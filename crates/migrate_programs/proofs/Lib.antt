@@ -1,0 +1,5 @@
+pub mod Ended
+pub mod NoFloats
+pub mod Noted
+pub mod SameKeys
+pub mod Spelled
