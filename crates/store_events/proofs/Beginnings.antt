@@ -1,0 +1,90 @@
+-- A beginning is an event of the machine.
+use Rattle.std.proofs.Common.{◌≡◌, inl, inr, ◌⊎◌, ⊎_elim, Result, Ok, Err, refl, sym, subst}
+use Rattle.outside.specs.Tree.{Tree}
+use Rattle.outside.specs.History.{History, tree_of}
+use Rattle.outside.specs.Since.{EachSince}
+use Rattle.outside.proofs.Crash.{settled_image}
+use Rattle.outside.proofs.Since.{since_map, since_both}
+use Rattle.commit_journal.specs.Files.{files_below}
+use Rattle.version_links.specs.Chain.{Resolves, nowhere, found}
+use Rattle.version_links.specs.declared.version.Version.{Version}
+use Rattle.settings_machine.specs.World.{Image, World}
+use Rattle.settings_machine.specs.Events.{Began, next}
+use Rattle.settings_machine.specs.Paid.{Paid, IsGood}
+use Rattle.settings_machine.proofs.PaidLaws.{beginnings_pay}
+use Rattle.machine_disk.specs.Store.{HasStore, HasFiles, Recovers}
+use Rattle.machine_disk.specs.Ran.{IsWorldOf}
+use Rattle.machine_disk.proofs.Runs.{recovers_paid}
+use Rattle.machine_disk.proofs.Whole.{not_nowhere}
+use Rattle.store_open.specs.World.{HasWorld, IsAtRest}
+use Rattle.store_open.specs.Beginning as beginning
+use Rattle.store_open.specs.Beginning.{Begins, first_world}
+use Rattle.store_open.specs.declared.begin_error.InitError.{InitError}
+use Rattle.store_events.specs.Laws.{IsBare, IsBeginning, HasBegun, BeginningsAreWhole, BeginningsBegin}
+use Rattle.store_events.proofs.Elsewhere.{files_stand, files_left}
+
+module _ (I : Image) (good : IsGood I) (W : World) (version : Version) where
+  abbrev N : World
+  N = next I W (Began version)
+
+  paid : Paid I N
+  paid = beginnings_pay I good W version
+
+  -- The first world of a store is that of the machine.
+  has_store : (tree : Tree) → beginning.HasBegun version tree → HasStore N tree
+  has_store tree has = record {
+    directory = (first_world has.target).directory;
+    resolves = subst (λ (v : Version). Resolves tree (found v (first_world has.target).directory)) has.version_is has.world.links;
+    holds = has.world.holds;
+  }
+
+  module _ (result : Result (Unit {0}) InitError) (old new : History) (bare : IsBare W old) (begins : Begins version result old new) where
+    moment : (c : Tree) → (Resolves c nowhere ⊎ beginning.HasBegun version c) × HasFiles W.etc c → Resolves c nowhere ⊎ Recovers I N c
+    moment c (inl none, files) = inl none
+    moment c (inr has, files) = inr (record { store = has_store c has; etc = λ path e. inl (files.each path e) })
+
+    any_moment : EachSince (λ c. Resolves c nowhere ⊎ Recovers I N c) old new
+    any_moment = since_map (λ c. (Resolves c nowhere ⊎ beginning.HasBegun version c) × HasFiles W.etc c) (λ c. Resolves c nowhere ⊎ Recovers I N c) old new moment
+        (since_both (λ c. Resolves c nowhere ⊎ beginning.HasBegun version c) (HasFiles W.etc) old new
+        (begins.any_moment (record { at = λ path part. bare.settled path }) bare.none)
+        (files_left W.etc old new begins.others.touches bare.etc bare.settled))
+
+    whole : IsBeginning I N old new
+    whole = record {
+      any_moment = any_moment;
+      image_paid = since_map (λ c. Resolves c nowhere ⊎ Recovers I N c) (λ c. (X : World) → IsWorldOf c X → Paid I X) old new
+          (λ c either X is. ⊎_elim (λ none. absurd (not_nowhere X c is.store none)) (λ r. recovers_paid I good N X c r is paid) either) any_moment;
+    }
+
+  module _ (old new : History) (bare : IsBare W old) (done : Unit {0}) (begins : Begins version (Ok done) old new) where
+    at_rest : beginning.IsBegun version new
+    at_rest = begins.done.1
+
+    store : HasStore N (tree_of new)
+    store = record {
+      directory = (first_world at_rest.target).directory;
+      resolves = subst (λ (v : Version). Resolves (tree_of new) (found v (first_world at_rest.target).directory)) at_rest.version_is at_rest.rest.links;
+      holds = record {
+        files = files_below (first_world at_rest.target).directory (tree_of new);
+        stands_for = inl (at_rest.rest.ready.no_journal, refl);
+        stands = at_rest.rest.means;
+      };
+    }
+
+    etc : HasFiles N.etc (tree_of new)
+    etc = files_stand W.etc old new begins.others.touches bare.etc
+
+    begun : HasBegun I N new
+    begun = record {
+      store = store;
+      etc = etc;
+      paid = paid;
+      at_exit = λ c left. subst (Recovers I N) (sym (settled_image new at_rest.rest.settled c left))
+          (record { store = store; etc = λ path e. inl (etc.each path e) });
+    }
+
+pub beginnings_are_whole : BeginningsAreWhole
+beginnings_are_whole I good W version result old new bare begins = whole I good W version result old new bare begins
+
+pub beginnings_begin : BeginningsBegin
+beginnings_begin I good W version done old new bare begins = begun I good W version old new bare done begins

@@ -1,0 +1,103 @@
+-- Laws of beginnings and moves: what they make of the machine's run.
+use Rattle.std.specs.Prelude.{◌≡◌, ◌≢◌, ◌⊎◌, List, [], ◌∷◌, Option, Some, Result, Ok, Err}
+use Rattle.outside.specs.History.{History, tree_of, EachImage, IsSettled}
+use Rattle.outside.specs.Since.{EachSince}
+use Rattle.settings_tree.specs.declared.held.Held.{Held}
+use Rattle.version_links.specs.Chain.{Resolves, nowhere}
+use Rattle.version_links.specs.declared.version.Version.{Version}
+use Rattle.release_file.specs.Chain.{is_back, IsWay}
+use Rattle.release_file.specs.declared.transition.Transition.{Transition}
+use Rattle.release_file.specs.declared.work.Named.{Named}
+use Rattle.settings_machine.specs.World.{Image, World}
+use Rattle.settings_machine.specs.Events.{Event, Began, Moved, next, after}
+use Rattle.settings_machine.specs.Paid.{Paid, IsGood}
+use Rattle.machine_disk.specs.Store.{HasStore, HasFiles, Recovers}
+use Rattle.machine_disk.specs.Ran.{IsWorldOf, RunsTo, Starts}
+use Rattle.store_open.specs.Beginning.{Begins}
+use Rattle.store_open.specs.declared.begin_error.InitError.{InitError}
+use Rattle.migrate_chain.specs.Migrating.{Migrates}
+use Rattle.migrate_chain.specs.Moving.{IsCarried}
+use Rattle.migrate_chain.specs.Tasks.{Mapped, Refused, tasks_of}
+use Rattle.migrate_chain.specs.declared.moving.Moved as answer
+use Rattle.migrate_chain.specs.declared.move_error.MoveError.{MoveError}
+use Rattle.migrate_chain.specs.declared.move_error.MoveError.TheVariants.{Failed}
+
+-- ---- beginnings
+
+-- The disk is settled and has no store, and its configuration files are the world's.
+pub record IsBare (W : World) (h : History) : Type 0 where
+  pub none : Resolves (tree_of h) nowhere
+  pub etc : HasFiles W.etc (tree_of h)
+  pub settled : IsSettled h
+
+-- A crash at any moment leaves no store, or what recovers to N; and a world that it leaves is paid.
+pub record IsBeginning (I : Image) (N : World) (old new : History) : Type 0 where
+  pub any_moment : EachSince (λ c. Resolves c nowhere ⊎ Recovers I N c) old new
+  pub image_paid : EachSince (λ c. (X : World) → IsWorldOf c X → Paid I X) old new
+
+-- The disk has N, which is paid, and so has what a crash leaves.
+pub record HasBegun (I : Image) (N : World) (h : History) : Type 0 where
+  pub store : HasStore N (tree_of h)
+  pub etc : HasFiles N.etc (tree_of h)
+  pub paid : Paid I N
+  pub at_exit : EachImage (Recovers I N) h
+
+-- Whatever a beginning comes to, a crash leaves no store, or the machine's world after `Began`.
+abbrev pub BeginningsAreWhole : Type 0
+BeginningsAreWhole = (I : Image) → IsGood I → (W : World) (version : Version) (result : Result (Unit {0}) InitError) (old new : History) → IsBare W old
+    → Begins version result old new → IsBeginning I (next I W (Began version)) old new
+
+-- A beginning that is answered is the event `Began`.
+abbrev pub BeginningsBegin : Type 0
+BeginningsBegin = (I : Image) → IsGood I → (W : World) (version : Version) (done : Unit {0}) (old new : History) → IsBare W old → Begins version (Ok done) old new
+    → HasBegun I (next I W (Began version)) new
+
+-- ---- moves
+
+-- The migrations of the way to the version make this of what the world holds, as the mapper has kept.
+pub record IsMade (W : World) (to : Version) (transitions : List Transition) (migrations : List Named) (before after : Option (List Mapped)) (made : Held) : Type 0 where
+  pub way : List Transition
+  pub is_way : IsWay transitions W.version to way
+  pub carried : IsCarried (tasks_of migrations (is_back W.version to) way) W.held before after made
+
+-- A crash at any moment leaves what recovers to W, or to the world after a move; and a world that it leaves is paid.
+pub record IsMoving (I : Image) (W : World) (to : Version) (transitions : List Transition) (migrations : List Named) (before now : Option (List Mapped)) (old new : History)
+    : Type 0 where
+  pub any_moment : EachSince (λ c. Recovers I W c ⊎ ((made : Held) × IsMade W to transitions migrations before now made × Recovers I (next I W (Moved to made)) c)) old new
+  pub image_paid : EachSince (λ c. (X : World) → IsWorldOf c X → Paid I X) old new
+
+-- The events of a move: none where the store is at the version, in format 2, and else one.
+abbrev pub MoveEvents : World → Version → List Transition → List Named → Option (List Mapped) → Option (List Mapped) → List Event → Type 0
+MoveEvents W to transitions migrations before now events = ((W.version ≡ to) × (W.format ≡ 2) × (events ≡ []))
+    ⊎ ((made : Held) × IsMade W to transitions migrations before now made × (events ≡ Moved to made ∷ []))
+
+-- The store was moved by these events, and what a crash leaves now recovers to the last of the worlds.
+pub record HasMoved (I : Image) (W : World) (to : Version) (transitions : List Transition) (migrations : List Named) (before now : Option (List Mapped)) (old new : History)
+    : Type 0 where
+  pub events : List Event
+  pub form : MoveEvents W to transitions migrations before now events
+  pub runs : RunsTo I W events old new
+  pub recovers : EachImage (Recovers I (after I W events)) new
+
+-- No event happened, and what a crash leaves now recovers to W.
+pub record HasStayed (I : Image) (W : World) (old new : History) : Type 0 where
+  pub runs : RunsTo I W [] old new
+  pub recovers : EachImage (Recovers I W) new
+
+-- Whatever a move comes to, a crash leaves the store as it was, or as it is after the event `Moved`.
+abbrev pub MovesAreWhole : Type 0
+MovesAreWhole = (I : Image) → IsGood I → (W : World) (to : Version) (transitions : List Transition) (migrations : List Named) (before now : Option (List Mapped))
+    (refused_before refused_now : Option (List Refused)) (result : Result answer.Moved MoveError) (old new : History) → Starts I W old
+    → Migrates to transitions migrations before now refused_before refused_now result old new → IsMoving I W to transitions migrations before now old new
+
+-- A move that is answered is one event, or none, where the mapper keeps what it made.
+abbrev pub MovesMove : Type 0
+MovesMove = (I : Image) → IsGood I → (W : World) (to : Version) (transitions : List Transition) (migrations : List Named) (kept : List Mapped) (now : Option (List Mapped))
+    (refused_before refused_now : Option (List Refused)) (moved : answer.Moved) (old new : History) → Starts I W old
+    → Migrates to transitions migrations (Some kept) now refused_before refused_now (Ok moved) old new → HasMoved I W to transitions migrations (Some kept) now old new
+
+-- A move that is refused is none, unless the disk failed.
+abbrev pub RefusedMovesStay : Type 0
+RefusedMovesStay = (I : Image) → IsGood I → (W : World) (to : Version) (transitions : List Transition) (migrations : List Named) (before now : Option (List Mapped))
+    (refused_before refused_now : Option (List Refused)) (error : MoveError) (old new : History) → error ≢ Failed → Starts I W old
+    → Migrates to transitions migrations before now refused_before refused_now (Err error) old new → HasStayed I W old new
