@@ -1,0 +1,6 @@
+mod WordParts
+pub mod OneOutcome
+pub mod Entries
+pub mod Sorting
+pub mod AskedParts
+pub mod EntryParts

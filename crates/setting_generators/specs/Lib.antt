@@ -1,0 +1,5 @@
+pub mod Words
+pub mod Generators
+pub mod Reading
+pub mod Refused
+pub mod Asking

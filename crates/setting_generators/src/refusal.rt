@@ -1,0 +1,48 @@
+//! How a part of a document is refused.
+ghost use Rattle.std.specs.Prelude.{◌≡◌};
+ghost use Rattle.setting_generators.specs.Refused.{IsAt};
+
+use crate::GeneratorsKind;
+use key_names::Text;
+use std::alloc::{AllocError, AllocFailed, Global};
+
+/// A fault and where it is, or want of memory.
+#[derive(Debug, Drop)]
+pub enum Refusal {
+    /// The fault of this kind, at this name.
+    Fault(GeneratorsKind, Text),
+    /// Memory was wanting.
+    Memory,
+}
+
+impl From<AllocError> for Refusal {
+    ghost use Rattle.std.specs.Prelude.{◌≡◌};
+    ghost use Rattle.setting_generators.specs.declared.refusal.Refusal.TheVariants.{Memory};
+
+    ghost from_gives = { λ _ e. e ≡ Memory };
+
+    fn from(_: AllocError) -> Self {
+        Refusal::Memory
+    }
+}
+
+impl<T: Drop> From<AllocFailed<T>> for Refusal {
+    ghost use Rattle.std.specs.Prelude.{◌≡◌};
+    ghost use Rattle.setting_generators.specs.declared.refusal.Refusal.TheVariants.{Memory};
+
+    ghost from_gives = { λ _ e. e ≡ Memory };
+
+    fn from(_: AllocFailed<T>) -> Self {
+        Refusal::Memory
+    }
+}
+
+/// The refusal of this kind, at this name.
+pub fn refused(alloc: Global, kind: GeneratorsKind, at: &str) -> Refusal
+    ensures { IsAt kind at.now result }
+{
+    match String::from_str(alloc, at) {
+        Ok(at) => Refusal::Fault(kind, Text::of(at)),
+        Err(AllocError) => Refusal::Memory,
+    }
+}

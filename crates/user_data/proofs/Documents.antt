@@ -1,0 +1,77 @@
+-- The top-level names of a document, and its table `settings`.
+use Rattle.std.proofs.Common.{◌≡◌, ℕ, List, [], Option, Some, None, Err, true, false, if◌then◌else◌, refl, sym, ap, ◌∙◌}
+use Rattle.std.specs.Map.{keys_of}
+use Rattle.std.specs.Ordering.{eq_by_cmp}
+use Rattle.std.proofs.lemmas.Bool.{false_from_ne_true}
+use Rattle.std.proofs.lemmas.Map.Lookups.{exact_bytes}
+use Rattle.std.proofs.lemmas.Map.Views.{tells_apart}
+use Rattle.key_names.specs.Order.{bytes_cmp}
+use Rattle.json_trees.specs.Apart.{AreApart}
+use Rattle.json_trees.specs.declared.scalar.Scalar.{Scalar}
+use Rattle.json_trees.proofs.Parting.{AreApart-from_Pairwise}
+use Rattle.settings_tree.specs.Content.{settings_key}
+use Rattle.toml.specs.Data.{Data, string, integer, float, boolean, datetime, array, table, as_table, Members, member}
+use Rattle.user_data.specs.Pairs.{Path, Pairs, settings, other_name, settings_pairs, members_pairs, fault_at}
+use Rattle.user_data.specs.Refused.{IsAt, Refuses, RefusesName}
+use Rattle.user_data.specs.declared.refusal.Refusal.{Refusal}
+use Rattle.user_data.specs.declared.refusal.Refusal.TheVariants.{Fault, Memory}
+use Rattle.user_data.specs.declared.user_data_error.UserDataKind.{UserDataKind}
+use Rattle.user_data.specs.declared.user_data_error.UserDataKind.TheVariants.{NotSettings}
+
+-- Names that are two do not tie.
+pub none_equal : (a b : List ℕ) → (a ≡ b → ⊥) → eq_by_cmp bytes_cmp a b ≡ false
+none_equal a b differ = false_from_ne_true (eq_by_cmp bytes_cmp a b) (λ tie. differ (tells_apart exact_bytes a b tie))
+
+-- A name other than `settings` is the first such.
+other_first : (name : List ℕ) (d : Data) (left : Members) → eq_by_cmp bytes_cmp name settings ≡ false → other_name (member name d left) ≡ Some name
+other_first name d left other = ap (λ b. if b then other_name left else Some name) other
+
+refuses_name : (found : Option (List ℕ)) (name : List ℕ) (e : Refusal) → found ≡ Some name → IsAt NotSettings name e → RefusesName found e
+refuses_name found name Memory is at = tt
+refuses_name found name (Fault kind text) is at = (at.0, is ∙ ap Some (sym at.1))
+
+pub name_refused : (document rest left : Members) (name bytes printed : List ℕ) (d : Data) (e : Refusal) → other_name document ≡ other_name rest → rest ≡ member name d left → bytes ≡ name → printed ≡ name
+    → false ≡ eq_by_cmp bytes_cmp bytes settings → IsAt NotSettings printed e → RefusesName (other_name document) e
+name_refused document rest left name bytes printed d e so_far is same also other at =
+    refuses_name (other_name document) printed e
+    (so_far ∙ ap other_name is ∙ other_first name d left (ap (λ (n : List ℕ). eq_by_cmp bytes_cmp n settings) (sym same) ∙ sym other) ∙ ap Some (sym also)) at
+
+-- A name that is `settings` is passed.
+pub name_passed : (document rest left : Members) (name bytes : List ℕ) (d : Data) → other_name document ≡ other_name rest → rest ≡ member name d left → bytes ≡ name → true ≡ eq_by_cmp bytes_cmp bytes settings
+    → other_name document ≡ other_name left
+name_passed document rest left name bytes d so_far is same tie =
+    so_far ∙ ap other_name is ∙ ap (λ b. if b then other_name left else Some name) (ap (λ (n : List ℕ). eq_by_cmp bytes_cmp n settings) (sym same) ∙ sym tie)
+
+refuses_as : (pairs : Pairs) (e : Refusal) → pairs ≡ Err (fault_at NotSettings settings) → IsAt NotSettings settings e → Refuses pairs e
+refuses_as pairs Memory is at = tt
+refuses_as pairs (Fault k text) is at = is ∙ ap (λ (n : UserDataKind). Err (fault_at n settings)) (sym at.0) ∙ ap (λ (l : List ℕ). Err (fault_at k l)) (sym at.1)
+
+-- What stands under the name is a table.
+pub table_pairs : (o : Option Data) (d : Data) (ms : Members) → o ≡ Some d → as_table d ≡ Some ms → settings_pairs o ≡ members_pairs settings_key ms
+table_pairs o d ms there is = ap settings_pairs there ∙ by d is
+  where
+    by : (d : Data) → as_table d ≡ Some ms → settings_pairs (Some d) ≡ members_pairs settings_key ms
+    by (string s) is = absurd (cc is)
+    by (integer z) is = absurd (cc is)
+    by (float x) is = absurd (cc is)
+    by (boolean b) is = absurd (cc is)
+    by (datetime t) is = absurd (cc is)
+    by (array ds) is = absurd (cc is)
+    by (table own) is = let same : own ≡ ms = cc in ap (members_pairs settings_key) same
+
+-- Another value stands there.
+pub other_refuses : (o : Option Data) (d : Data) (e : Refusal) → o ≡ Some d → as_table d ≡ None → IsAt NotSettings settings e → Refuses (settings_pairs o) e
+other_refuses o d e there is at = refuses_as (settings_pairs o) e (ap settings_pairs there ∙ by d is) at
+  where
+    by : (d : Data) → as_table d ≡ None → settings_pairs (Some d) ≡ Err (fault_at NotSettings settings)
+    by (string s) is = refl
+    by (integer z) is = refl
+    by (float x) is = refl
+    by (boolean b) is = refl
+    by (datetime t) is = refl
+    by (array ds) is = refl
+    by (table own) is = absurd (cc is)
+
+-- No keys are apart.
+pub none_apart : (pairs : List (Path × Scalar)) → pairs ≡ [] → AreApart (keys_of pairs)
+none_apart pairs none = rw none (AreApart-from_Pairwise [] tt)

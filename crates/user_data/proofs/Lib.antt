@@ -1,0 +1,4 @@
+pub mod Places
+pub mod Gathering
+pub mod Parted
+pub mod Documents

@@ -1,0 +1,74 @@
+//! The table `settings` of a document.
+ghost use Rattle.std.specs.Prelude.{◌≡◌, None, Ok, IfOk, IfErr, OnOk, option_map};
+ghost use Rattle.std.specs.Ordering.{eq_by_cmp};
+ghost use Rattle.key_names.specs.Order.{bytes_cmp};
+ghost use Rattle.toml.specs.View.{view, table_view};
+ghost use Rattle.json_trees.specs.Apart.{AreApart};
+ghost use Rattle.std.specs.Map.{keys_of};
+ghost use Rattle.user_data.specs.Pairs.{document_pairs, settings_pairs, other_name, settings};
+ghost use Rattle.toml.specs.Data.{get_member};
+ghost use Rattle.user_data.specs.Refused.{Refuses, RefusesName};
+
+use crate::UserDataKind;
+use crate::place::Place;
+use crate::refusal::{Refusal, refused};
+use crate::walk::push_members;
+use json_trees::Scalar;
+use key_names::Key;
+use std::alloc::Global;
+use toml::{Table, Value};
+
+/// The pairs of a document.
+pub fn document_pairs(alloc: Global, document: &Table) -> Result<Vec<(Key, Scalar)>, Refusal>
+    ensures ok { IfOk result (λ pairs. document_pairs (table_view document.now) ≡ Ok pairs.items) }
+    ensures apart { IfOk result (λ pairs. AreApart (keys_of pairs.items)) }
+    ensures refused { IfErr result (Refuses (document_pairs (table_view document.now))) }
+{
+    check_names(alloc, document)?;
+    settings_pairs(alloc, document)
+}
+
+// The name is that of the table.
+fn is_settings(name: &str) -> bool
+    ensures { result ≡ eq_by_cmp bytes_cmp name.now settings }
+{
+    matches!(name, "settings")
+}
+
+// Checks that no top-level name is another than `settings`.
+fn check_names(alloc: Global, document: &Table) -> Result<(), Refusal>
+    ensures none { OnOk result (other_name (table_view document.now) ≡ None) }
+    ensures refused { IfErr result (RefusesName (other_name (table_view document.now))) }
+{
+    for (name, _) in document.iter() {
+        if !is_settings(name.as_str()) {
+            return Err(refused(alloc, UserDataKind::NotSettings, name.as_str()));
+        }
+    }
+    Ok(())
+}
+
+// What stands under the name `settings`, None exactly where nothing does.
+fn settings_of(document: &Table) -> Option<&Value>
+    ensures { option_map (λ value. view value.now) result ≡ get_member settings (table_view document.now) }
+{
+    document.get("settings")
+}
+
+// The pairs of the table `settings`, none where it is missing.
+fn settings_pairs(alloc: Global, document: &Table) -> Result<Vec<(Key, Scalar)>, Refusal>
+    ensures ok { IfOk result (λ pairs. settings_pairs (get_member settings (table_view document.now)) ≡ Ok pairs.items) }
+    ensures apart { IfOk result (λ pairs. AreApart (keys_of pairs.items)) }
+    ensures refused { IfErr result (Refuses (settings_pairs (get_member settings (table_view document.now)))) }
+{
+    let mut pairs = Vec::new(alloc);
+    let Some(value) = settings_of(document) else {
+        return Ok(pairs);
+    };
+    let Some(table) = value.as_table() else {
+        return Err(refused(alloc, UserDataKind::NotSettings, "settings"));
+    };
+    let place = Place::settings(alloc)?;
+    push_members(alloc, &place, table, &mut pairs)?;
+    Ok(pairs)
+}
