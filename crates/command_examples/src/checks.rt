@@ -1,6 +1,6 @@
 //! The command `check`.
 use crate::runs::{disk_of, runs, words_of};
-use disk_memory::MemorySink;
+use disk_memory::{MemoryDoor, MemorySink, MemorySpawner};
 use settings_cmd::run;
 use std::test::Fail;
 
@@ -106,7 +106,10 @@ fn devices_fail_in_a_check(rt: HostRuntime) -> Result<(), Fail> {
     let words = words_of(alloc, "check")?;
     let mut disk = disk_of(alloc, &files)?;
     let mut out = MemorySink::fail_from(alloc, 6);
-    assert_eq!(rt; run(alloc, &words, &mut disk, &mut out), 12);
+    let mut spawner = MemorySpawner::of_answers(alloc, Vec::new(alloc));
+    let mut door = MemoryDoor::of_inputs(alloc, Vec::new(alloc));
+    let status = run(alloc, &words, &mut disk, &mut spawner, &mut door, &mut out);
+    assert_eq!(rt; status, 12);
     assert_eq!(rt; out.written(), b"chrony".as_slice());
     Ok(())
 }

@@ -4,7 +4,9 @@
 #[cfg(test)]
 mod checks;
 #[cfg(test)]
-mod keeping;
+mod host;
+#[cfg(test)]
+mod moves;
 #[cfg(test)]
 mod runs;
 #[cfg(test)]

@@ -1,5 +1,5 @@
 //! One run over devices in memory.
-use disk_memory::{MemoryDisk, MemorySink};
+use disk_memory::{MemoryDisk, MemoryDoor, MemorySink, MemorySpawner};
 use outside::{Disk, Path};
 use settings_cmd::run;
 use std::alloc::{AllocError, Global};
@@ -25,8 +25,10 @@ pub fn runs(
     printed: &str,
 ) -> Result<(), Fail> {
     let words = words_of(alloc, line)?;
+    let mut spawner = MemorySpawner::of_answers(alloc, Vec::new(alloc));
+    let mut door = MemoryDoor::of_inputs(alloc, Vec::new(alloc));
     let mut out = MemorySink::new(alloc);
-    let ended = run(alloc, &words, disk, &mut out);
+    let ended = run(alloc, &words, disk, &mut spawner, &mut door, &mut out);
     let text = String::from_utf8_lossy(alloc, out.written())?;
     if ended == status && text.as_str() == printed {
         return Ok(());

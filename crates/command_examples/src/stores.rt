@@ -1,4 +1,4 @@
-//! The commands `init` and `get`, over whole stores.
+//! The commands `init` and `get`, over whole stores, and releases that `migrate` refuses.
 use crate::runs::{disk_of, put, remove, runs};
 use disk_memory::MemoryDisk;
 use std::alloc::{AllocError, Global};
@@ -25,18 +25,7 @@ affected-services = [\"motd\"]
 ",
     ),
     ("image/templates/motd", "{{settings.motd}}\n"),
-    ("image/release.toml", HELLO),
 ];
-
-// The release that leads from 1.5.2 to 1.5.3.
-const HELLO: &str = "[migrations]
-\"(1.5.2, 1.5.3)\" = [\"hello\"]
-[migration.hello]
-kind = \"replace-string\"
-setting = \"settings.motd\"
-old = \"Welcome\"
-new = \"Hello\"
-";
 
 const ALL: &str =
     "{\"settings\":{\"motd\":\"Welcome\",\"ntp\":{\"time-servers\":[\"a.example\",\"b.example\"]}}}\n";
@@ -45,9 +34,9 @@ const NONE: &str = "settings: refused 404 {\"error\":\"key\",\"key\":\"settings.
 
 const STORE: &str = "store/v1.5.2_0000000000000000";
 
-// What is done to the host, one after another: a line of words with the status and what is printed; or, with status 255, a file
-// of the data directory that is put with these bytes, and with 254 one that is removed.
-type Step = (&'static str, u8, &'static str);
+/// What is done to the host, one after another: a line of words with the status and what is printed; or, with status 255, a file
+/// of the data directory that is put with these bytes, and with 254 one that is removed.
+pub type Step = (&'static str, u8, &'static str);
 
 const ROWS: &[&[Step]] = &[
     &[
@@ -73,31 +62,6 @@ const ROWS: &[&[Step]] = &[
         ("get settings.ntp settings.none", 13, NONE),
     ],
     &[
-        ("migrate --to 1.5.3", 6, "settings: no store\n"),
-        ("prune", 6, "settings: no store\n"),
-        ("init --version 1.5.2", 0, "1.5.2\n"),
-        (
-            "get settings.motd",
-            0,
-            "{\"settings\":{\"motd\":\"Welcome\"}}\n",
-        ),
-        ("migrate --to 1.7.0", 11, "settings: missing 1.5.3 1.7.0\n"),
-        ("migrate --to 1.5.3", 0, "1.5.3\n"),
-        (
-            "get settings.motd",
-            0,
-            "{\"settings\":{\"motd\":\"Hello\"}}\n",
-        ),
-        ("prune", 0, "pruned 11\n"),
-        ("prune", 0, "pruned 0\n"),
-        ("migrate --to 1.5.2", 0, "1.5.2\n"),
-        (
-            "get settings.motd",
-            0,
-            "{\"settings\":{\"motd\":\"Welcome\"}}\n",
-        ),
-    ],
-    &[
         ("init --version 1.5.2", 0, "1.5.2\n"),
         ("live/settings/foo", 255, "1"),
         ("get", 8, "settings: ill typed settings.foo\n"),
@@ -120,18 +84,12 @@ const ROWS: &[&[Step]] = &[
             "settings: bad journal store/v1.5.2_0000000000000000/journal\n",
         ),
     ],
-    &[
-        ("init --version 1.5.2", 0, "1.5.2\n"),
-        ("format", 254, ""),
-        (
-            "get",
-            15,
-            "settings: old format store/v1.5.2_0000000000000000\n",
-        ),
-    ],
 ];
 
 fn path_of(alloc: Global, file: &str) -> Result<String, AllocError> {
+    if file.starts_with("store/") {
+        return String::from_str(alloc, file);
+    }
     format!(in alloc; "{STORE}/{file}")
 }
 
@@ -146,14 +104,20 @@ fn step(alloc: Global, disk: &mut MemoryDisk, step: &Step) -> Result<(), Fail> {
     runs(alloc, disk, line, status, printed)
 }
 
+/// Makes the steps.
+pub fn steps(alloc: Global, disk: &mut MemoryDisk, steps: &[Step]) -> Result<(), Fail> {
+    for done in steps {
+        step(alloc, disk, done)?;
+    }
+    Ok(())
+}
+
 #[test]
 fn stores_are_begun_and_read(rt: HostRuntime) -> Result<(), Fail> {
     let alloc = rt.alloc();
-    for steps in ROWS {
+    for row in ROWS {
         let mut disk = disk_of(alloc, HOST)?;
-        for done in *steps {
-            step(alloc, &mut disk, done)?;
-        }
+        steps(alloc, &mut disk, row)?;
     }
     Ok(())
 }
@@ -170,11 +134,6 @@ const RELEASES: &[Step] = &[
         "[migrations]\n\"(1.5.2, 1.5.3)\" = [\"a\"]\n",
         8,
         "settings: bad image release.toml unknown-migration (1.5.2, 1.5.3)\n",
-    ),
-    (
-        "[migration.a]\nkind = \"program\"\nwords = \"move it\"\n",
-        20,
-        "settings: not built\n",
     ),
 ];
 

@@ -1,4 +1,4 @@
-//! Words that spell no command, and commands that are not built.
+//! Words that spell no command, commands that are not built, and those that want a store.
 use crate::runs::{disk_of, runs};
 use std::test::Fail;
 
@@ -17,13 +17,19 @@ fn words_are_refused_or_not_built(rt: HostRuntime) -> Result<(), Fail> {
         "init --version",
         "init --version 1.5",
         "serve --connections x",
+        "set motd=1",
+        "set settings.motd=1.5",
+        "set settings.motd=null",
         "check now",
         "load 0",
     ] {
         runs(alloc, &mut disk, line, 2, "settings: usage\n")?;
     }
-    for line in ["serve", "apply", "load 3", "generate", "user-data a"] {
+    for line in ["load 3", "generate", "user-data a"] {
         runs(alloc, &mut disk, line, 20, "settings: not built\n")?;
+    }
+    for line in ["serve", "set settings.motd=\"hi\"", "apply"] {
+        runs(alloc, &mut disk, line, 6, "settings: no store\n")?;
     }
     Ok(())
 }

@@ -1,7 +1,10 @@
 //! The program `settings`: it makes the real devices in the working folder and runs the command of its words.
 #![tactic(auto)]
 
-use outside_real::{RealDisk, RealSink};
+mod usage;
+
+use crate::usage::PAGE;
+use outside_real::{RealDisk, RealDoor, RealSink, RealSpawner};
 use settings_cmd::run;
 use std::env;
 use std::io::{self, ErrorKind, Write};
@@ -10,6 +13,9 @@ use std::rt::Env;
 
 /// The status of a program that could not make its devices for want of memory, as that of a command.
 const OUT_OF_MEMORY: u8 = 1;
+
+/// The status of words that spell no command.
+const MISUSED: u8 = 2;
 
 fn main(rt: HostRuntime) -> ExitCode {
     match status_of(&rt) {
@@ -21,15 +27,22 @@ fn main(rt: HostRuntime) -> ExitCode {
     }
 }
 
-// The status of the command. Where it met the lock of another program, standard error says so.
+// The status of the command. Where it met the lock of another program, standard error says so, and where the words spell no
+// command, how they are spelled.
 fn status_of(rt: &HostRuntime) -> io::Result<u8> {
     let alloc = rt.alloc();
     let words = words_of(rt)?;
     let mut disk = RealDisk::new(rt.clone()?, ".")?;
+    let mut spawner = RealSpawner::new(rt.clone()?, ".")?;
+    // the socket is bound by the first accept, which `serve` alone asks for
+    let mut door = RealDoor::new(rt.clone()?, ".")?;
     let mut out = RealSink::new(rt.stdout());
-    let status = run(alloc, &words, &mut disk, &mut out);
+    let status = run(alloc, &words, &mut disk, &mut spawner, &mut door, &mut out);
     if disk.is_locked_out() {
         let _ = eprintln!(rt; "settings: another program is at work in this folder");
+    }
+    if status == MISUSED {
+        let _ = eprint!(rt; "{PAGE}");
     }
     Ok(status)
 }

@@ -27,10 +27,13 @@ told files image (Err (refused.BadJournal path)) read reports = absurd reports
 told files image (Err (refused.BadImage file kind at)) read reports = absurd reports
 told files image (Err (refused.IllTyped key)) read reports = absurd reports
 told files image (Err (refused.NotCovered lines)) read reports = record { image = image; read = read; report = reports }
-told files image (Err (refused.Refused refusal)) read reports = absurd reports
+told files image (Err (refused.Refused status body)) read reports = absurd reports
 told files image (Err (refused.AlreadyThere version)) read reports = absurd reports
 told files image (Err (refused.OldFormat directory)) read reports = absurd reports
+told files image (Err refused.Door) read reports = absurd reports
 told files image (Err (refused.Spawn name)) read reports = absurd reports
+told files image (Err (refused.Render file error)) read reports = absurd reports
+told files image (Err (refused.Status service number)) read reports = absurd reports
 told files image (Err (refused.Missing at target)) read reports = absurd reports
 told files image (Err (refused.Conflict key)) read reports = absurd reports
 told files image (Err (refused.MigrationStatus name number)) read reports = absurd reports

@@ -1,9 +1,8 @@
 -- What carrying out a command comes to, and what it does to the disk.
-use Rattle.std.specs.Prelude.{◌≡◌, ◌⊎◌, ℕ, Bool, true, false, List, [], ◌∷◌, ◌++◌, Option, None, Result, Ok, Err}
-use Rattle.std.specs.List.{list_all}
+use Rattle.std.specs.Prelude.{◌≡◌, ◌⊎◌, ℕ, Bool, true, false, List, [], ◌∷◌, ◌++◌, Option, Result, Ok, Err}
 use Rattle.outside.specs.History.{History, tree_of}
-use Rattle.outside.specs.Since.{LeavesOnly}
 use Rattle.outside.specs.Told.{Moves, WhereTold}
+use Rattle.outside.specs.Spawner.{Question}
 use Rattle.store_image.specs.Paths.{sources_in}
 use Rattle.version_links.specs.Versions.{version_text}
 use Rattle.version_links.specs.declared.version.Version.{Version}
@@ -12,14 +11,14 @@ use Rattle.store_open.specs.Opening.{Opens}
 use Rattle.store_open.specs.declared.begin_error.InitError.{InitError}
 use Rattle.store_open.specs.declared.open_error.OpenError.{OpenError}
 use Rattle.store_open.specs.declared.opened.Opened.{Opened}
-use Rattle.release_file.specs.Release.{is_plain}
 use Rattle.release_file.specs.declared.release.Release.{Release}
-use Rattle.migrate_chain.specs.Migrating.{Migrates}
 use Rattle.migrate_chain.specs.declared.moving.Moved.{Moved}
 use Rattle.migrate_chain.specs.declared.move_error.MoveError.{MoveError}
+use Rattle.migrate_programs.specs.Moving.{MovesByPrograms}
 use Rattle.migrate_chain.specs.Pruning.{Prunes}
 use Rattle.migrate_chain.specs.declared.prune_error.PruneError.{PruneError}
-use Rattle.command_words.specs.Orders.{Order, init, set, get, check, migrate, prune}
+use Rattle.command_words.specs.Orders.{Order, Spells, init, serve, set, get, apply, check, migrate, prune}
+use Rattle.json_trees.specs.declared.scalar.Scalar.{Scalar}
 use Rattle.command_outcome.specs.Ends.{Outcome}
 use Rattle.command_outcome.specs.declared.refusal.Refusal.{Refusal}
 use Rattle.command_outcome.specs.declared.refusal.Refusal.TheVariants as refused
@@ -28,8 +27,6 @@ use Rattle.settings_cmd.specs.Gets.{AnswersOpening}
 use Rattle.settings_cmd.specs.Handing.{HandsBeginning, HandsMoving}
 use Rattle.settings_cmd.specs.Prunes.{AnswersPruning}
 use Rattle.settings_cmd.specs.Releases.{IsReleaseIn, TellsOfRelease}
-use Rattle.settings_cmd.specs.Setting.{AsksNothing, IsStoreText}
-use Rattle.settings_cmd.specs.Stored.{HasStore, IsKept, IsBeforeOrAfter}
 
 -- What a command comes to, with the disk before and after, where the disk tells.
 abbrev pub Carrying : Type 1
@@ -55,7 +52,19 @@ is_built check = true
 is_built (migrate version) = true
 is_built prune = true
 is_built (set pairs) = true
+is_built apply = true
+is_built (serve boot slice connections) = true
 is_built _ = false
+
+-- The words order no `serve`.
+abbrev pub ServesNot : List (List ℕ) → Type 0
+ServesNot words = (boot : Bool) (slice connections : Option ℕ) → Spells words (serve boot slice connections) → ⊥
+
+-- The words order nothing that runs programs.
+pub record RunsNothing (words : List (List ℕ)) : Type 0 where
+  pub serves_not : ServesNot words
+  pub sets_not : (pairs : List (List (List ℕ) × Scalar)) → Spells words (set pairs) → ⊥
+  pub applies_not : Spells words apply → ⊥
 
 -- The version and a line feed where the store was begun, or why it was not.
 abbrev pub AnswersBeginning : Version → Result (Unit {0}) InitError → Outcome → Type 0
@@ -79,32 +88,25 @@ abbrev pub AnswersMoving : Version → Result Moved MoveError → Outcome → Ty
 AnswersMoving to (Ok moved) outcome = outcome ≡ Ok (version_text to ++ 10 ∷ [])
 AnswersMoving to (Err e) outcome = HandsMoving e outcome
 
--- There is no release, and the disk is as before.
-pub record HasNoRelease (outcome : Outcome) (d d' : Option History) : Type 0 where
+-- There is no release, or memory was wanting before; the disk is as before, and nothing was asked.
+pub record HasNoRelease (a a' : Option (List Question)) (outcome : Outcome) (d d' : Option History) : Type 0 where
   pub refusal : Refusal
   pub answers : outcome ≡ Err refusal
   pub tells : WhereTold d (λ h. TellsOfRelease (sources_in (tree_of h)) refusal)
   pub same : d' ≡ d
+  pub unasked : a' ≡ a
 
--- The release has a migration by a program, and the disk is as before.
-pub record AsksPrograms (outcome : Outcome) (d d' : Option History) : Type 0 where
-  pub release : Release
-  pub read : WhereTold d (λ h. IsReleaseIn (sources_in (tree_of h)) release)
-  pub asks : list_all is_plain release.migrations.items ≡ false
-  pub answers : outcome ≡ Err refused.NotBuilt
-  pub same : d' ≡ d
-
--- The store is moved to the version along the transitions of the release.
-pub record IsMoved (to : Version) (outcome : Outcome) (d d' : Option History) : Type 0 where
+-- The store is moved to the version along the transitions of the release, and the programs on the way are asked.
+pub record IsMoved (to : Version) (a a' : Option (List Question)) (outcome : Outcome) (d d' : Option History) : Type 0 where
   pub release : Release
   pub read : WhereTold d (λ h. IsReleaseIn (sources_in (tree_of h)) release)
   pub result : Result Moved MoveError
-  pub migrates : Moves d d' (Migrates to release.transitions.items release.migrations.items None None None None result)
+  pub moves : MovesByPrograms to release result d d' a a'
   pub answers : AnswersMoving to result outcome
 
--- The store is moved to the version, or there is no release to move it by.
-abbrev pub IsMigrated : Version → Carrying
-IsMigrated to outcome d d' = HasNoRelease outcome d d' ⊎ (AsksPrograms outcome d d' ⊎ IsMoved to outcome d d')
+-- The store is moved to the version, or there is no release to move it by; this is what was asked before and after.
+abbrev pub IsMigrated : Version → Option (List Question) → Option (List Question) → Carrying
+IsMigrated to a a' outcome d d' = HasNoRelease a a' outcome d d' ⊎ IsMoved to a a' outcome d d'
 
 -- The data directories to which the links don't lead are emptied.
 pub record IsPruned (outcome : Outcome) (d d' : Option History) : Type 0 where
@@ -115,15 +117,3 @@ pub record IsPruned (outcome : Outcome) (d d' : Option History) : Type 0 where
 -- The image is told of, and the disk is as before.
 abbrev pub IsChecked : Carrying
 IsChecked outcome d d' = WhereTold d (λ h. TellsOfImage (sources_in (tree_of h)) outcome) × (d' ≡ d)
-
--- One setting is kept, or why it is not.
-abbrev pub Keeps : List (List ℕ) → Carrying
-Keeps words (Ok line) d d' = (bytes : List ℕ) × IsStoreText words bytes × (line ≡ bytes ++ 10 ∷ []) × Moves d d' (IsKept bytes)
-Keeps words (Err refused.NotBuilt) d d' = (AsksNothing words ⊎ WhereTold d (λ h. HasStore (tree_of h))) × (d' ≡ d)
-Keeps words (Err refused.Disk) d d' = (bytes : List ℕ) × IsStoreText words bytes
-Keeps words (Err refused.Memory) d d' = d' ≡ d
-Keeps words (Err _) d d' = ⊥
-
--- The one setting that the words ask for is kept in a store that isn't there yet, or not at all, at every moment.
-abbrev pub IsKeeping : List (List ℕ) → Carrying
-IsKeeping words outcome d d' = Keeps words outcome d d' × Moves d d' (LeavesOnly (IsBeforeOrAfter words))

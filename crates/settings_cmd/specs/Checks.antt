@@ -10,6 +10,7 @@ use Rattle.coverage_report.specs.Checked.{IsChecked, file_in, is_covered}
 use Rattle.coverage_report.specs.Lines.{line}
 use Rattle.coverage_report.specs.declared.file_coverage.FileCoverage.{FileCoverage}
 use Rattle.command_outcome.specs.Ends.{Outcome}
+use Rattle.command_outcome.specs.declared.refusal.Refusal.{Refusal}
 use Rattle.command_outcome.specs.declared.refusal.Refusal.TheVariants as refused
 
 -- These are the lines of the configuration files of the image, by name, of which each is covered or not.
@@ -41,3 +42,11 @@ TellsOfImage files (Err (refused.BadImage file kind at)) = IsRefused files file 
 TellsOfImage files (Err refused.Disk) = ⊤
 TellsOfImage files (Err refused.Memory) = ⊤
 TellsOfImage files (Err _) = ⊥
+
+-- Why not all files of an image are covered: it has a fault, or a file is not covered; or the disk or memory failed.
+abbrev pub IsOfImage : Refusal → Type 0
+IsOfImage (refused.NotCovered lines) = ⊤
+IsOfImage (refused.BadImage file kind at) = ⊤
+IsOfImage refused.Disk = ⊤
+IsOfImage refused.Memory = ⊤
+IsOfImage _ = ⊥

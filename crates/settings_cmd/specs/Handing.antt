@@ -2,8 +2,6 @@
 use Rattle.std.specs.Prelude.{◌≡◌, Err}
 use Rattle.store_image.specs.declared.image_error.ImageError.{ImageError}
 use Rattle.store_image.specs.declared.image_error.ImageError.TheVariants as reading
-use Rattle.store_open.specs.declared.open_error.OpenError.{OpenError}
-use Rattle.store_open.specs.declared.open_error.OpenError.TheVariants as opening
 use Rattle.store_open.specs.declared.begin_error.InitError.{InitError}
 use Rattle.store_open.specs.declared.begin_error.InitError.TheVariants as beginning
 use Rattle.migrate_chain.specs.declared.prune_error.PruneError.{PruneError}
@@ -18,18 +16,6 @@ abbrev pub HandsImage : ImageError → Outcome → Type 0
 HandsImage (reading.Bad file kind at) outcome = outcome ≡ Err (refused.BadImage file kind at)
 HandsImage reading.Failed outcome = outcome ≡ Err refused.Disk
 HandsImage reading.Memory outcome = outcome ≡ Err refused.Memory
-
--- Why a store was not opened is told as it is.
-abbrev pub HandsOpening : OpenError → Outcome → Type 0
-HandsOpening opening.NoStore outcome = outcome ≡ Err refused.NoStore
-HandsOpening (opening.BadLink path) outcome = outcome ≡ Err (refused.BadLink path)
-HandsOpening (opening.BadJournal path) outcome = outcome ≡ Err (refused.BadJournal path)
-HandsOpening (opening.Damaged path) outcome = outcome ≡ Err (refused.Damaged path)
-HandsOpening (opening.OldFormat directory) outcome = outcome ≡ Err (refused.OldFormat directory)
-HandsOpening (opening.BadImage file kind at) outcome = outcome ≡ Err (refused.BadImage file kind at)
-HandsOpening (opening.IllTyped key) outcome = outcome ≡ Err (refused.IllTyped key)
-HandsOpening opening.Failed outcome = outcome ≡ Err refused.Disk
-HandsOpening opening.Memory outcome = outcome ≡ Err refused.Memory
 
 -- Why a store was not begun is told as it is.
 abbrev pub HandsBeginning : InitError → Outcome → Type 0

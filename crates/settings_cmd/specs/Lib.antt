@@ -6,5 +6,4 @@ pub mod Laws
 pub mod Prunes
 pub mod Releases
 pub mod Runs
-pub mod Setting
-pub mod Stored
+pub mod Serving

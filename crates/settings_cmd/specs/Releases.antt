@@ -51,6 +51,13 @@ TellsOfRelease files refused.Disk = ⊤
 TellsOfRelease files refused.Memory = ⊤
 TellsOfRelease files _ = ⊥
 
+-- Such a refusal.
+abbrev pub IsOfRelease : Refusal → Type 0
+IsOfRelease (refused.BadImage file word at) = ⊤
+IsOfRelease refused.Disk = ⊤
+IsOfRelease refused.Memory = ⊤
+IsOfRelease _ = ⊥
+
 -- ---- for private clauses
 
 -- Want of memory is told as that, and any other fault under its word, at its place.

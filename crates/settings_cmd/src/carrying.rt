@@ -1,51 +1,90 @@
-//! A command is carried out, from its words to the disk.
-ghost use Rattle.std.specs.Prelude.{◌≡◌, ◌≢◌, ℕ, List, false};
-ghost use Rattle.outside.specs.Faults.{HasCauseOf};
+//! A command is carried out, from its words to the devices.
+ghost use Rattle.std.specs.Prelude.{◌≡◌, ◌≢◌, ◌⊎◌, ◌≤◌, ℕ, List, Bool, Option, true, false, IsErrOf, IsOk};
+ghost use Rattle.outside.specs.Faults.{HasCauseOf, Rose};
+ghost use Rattle.outside.specs.Spawner.{texts};
+ghost use Rattle.core_commands.specs.Handing.{HasSpawnCause};
 ghost use Rattle.json_trees.specs.declared.scalar.Scalar.{Scalar as Value};
-ghost use Rattle.command_words.specs.Orders.{Order, Spells, SpellsNone, init as InitOrder, get as GetOrder, check as CheckOrder, migrate as MigrateOrder, prune as PruneOrder, set as SetOrder};
-ghost use Rattle.settings_cmd.specs.Setting.{texts};
+ghost use Rattle.command_words.specs.Orders.{Order, Spells, SpellsNone, serve as ServeOrder, apply as ApplyOrder, init as InitOrder, get as GetOrder, check as CheckOrder, migrate as MigrateOrder, prune as PruneOrder, set as SetOrder};
+ghost use Rattle.core_commands.specs.Carried.{Carried as Commanded, CarriesOut, set_requests, apply_requests};
+ghost use Rattle.core_commands.specs.Lines.{IsSettingsLine, IsJobLine};
+ghost use Rattle.api_server.specs.Serving.{wanted};
+ghost use Rattle.settings_cmd.specs.Serving.{IsServed};
 ghost use Rattle.version_links.specs.declared.version.Version.{Version};
-ghost use Rattle.settings_cmd.specs.Carried.{Carried, IsMisused, IsBegun, IsGot, IsChecked, IsMigrated, IsPruned, IsKeeping, IsUnbuilt, is_built};
+ghost use Rattle.settings_cmd.specs.Carried.{Carried, IsMisused, IsBegun, IsGot, IsChecked, IsMigrated, IsPruned, IsUnbuilt, ServesNot, RunsNothing, is_built};
 
 use crate::beginning::begin;
 use crate::checking::check;
 use crate::getting::get;
 use crate::migrating::migrate_to;
 use crate::pruning::prune_others;
-use crate::store::keep;
+use crate::serving::serve_store;
 use command_outcome::Refusal;
 use command_words::{Command, WordsError};
+use core_commands::{apply, set};
 use key_names::Bytes;
-use outside::Disk;
+use outside::{Asker, Disk, Door};
 use std::alloc::Global;
 
 /// Carries out the command that the words spell, and answers what it prints, or why it is refused.
 ///
-/// `Usage` exactly where the words spell no command, `NotBuilt` exactly where their command is not built, or `set` is asked for
-/// anything but one text setting in a store that isn't there yet. The other refusals are those of the commands.
-pub fn carry_out<D: Disk>(alloc: Global, words: &[String], disk: &mut D) -> Result<Bytes, Refusal>
+/// `Usage` exactly where the words spell no command, `NotBuilt` exactly where their command is not built. The other refusals are those
+/// of the commands.
+///
+/// `migrate` alone asks programs: the words of its release, where that has any. `serve`, `set` and `apply` alone run programs, and
+/// `serve` alone has to do with the door.
+pub fn carry_out<D: Disk, S: Asker, N: Door>(
+    alloc: Global,
+    words: &[String],
+    disk: &mut D,
+    spawner: &mut S,
+    door: &mut N,
+) -> Result<Bytes, Refusal>
+    requires idle { (N.state door.old).busy ≡ false }
+    requires unused { (N.state door.old).accepted ≡ 0 }
     ensures usage { SpellsNone (texts words.now) → Carried IsMisused result (D.told disk.old) (D.told disk.new) }
     ensures init { (version : Version) → Spells (texts words.now) (InitOrder version)
         → Carried (IsBegun version) result (D.told disk.old) (D.told disk.new) }
+    ensures serve { (boot : Bool) (slice connections : Option ℕ) → Spells (texts words.now) (ServeOrder boot slice connections)
+        → Carried (IsServed boot slice (N.told door.old) (N.told door.new) (S.runs spawner.old) (S.runs spawner.new)) result (D.told disk.old) (D.told disk.new) }
+    ensures served { (boot : Bool) (slice connections : Option ℕ) → Spells (texts words.now) (ServeOrder boot slice connections)
+        → IsOk result → ((N.state door.new).accepted ≡ wanted connections) ⊎ ((N.state door.new).ended ≡ true) }
+    ensures set { (pairs : List (List (List ℕ) × Value)) → Spells (texts words.now) (SetOrder pairs)
+        → Commanded (set_requests pairs) IsSettingsLine result (S.runs spawner.old) (S.runs spawner.new) (D.told disk.old) (D.told disk.new) }
     ensures get { (keys : List (List (List ℕ))) → Spells (texts words.now) (GetOrder keys)
         → Carried (IsGot keys) result (D.told disk.old) (D.told disk.new) }
+    ensures apply { Spells (texts words.now) ApplyOrder
+        → Commanded apply_requests IsJobLine result (S.runs spawner.old) (S.runs spawner.new) (D.told disk.old) (D.told disk.new) }
     ensures check { Spells (texts words.now) CheckOrder → Carried IsChecked result (D.told disk.old) (D.told disk.new) }
     ensures migrate { (version : Version) → Spells (texts words.now) (MigrateOrder version)
-        → Carried (IsMigrated version) result (D.told disk.old) (D.told disk.new) }
+        → IsMigrated version (S.asked spawner.old) (S.asked spawner.new) result (D.told disk.old) (D.told disk.new) }
     ensures prune { Spells (texts words.now) PruneOrder → Carried IsPruned result (D.told disk.old) (D.told disk.new) }
-    ensures set { (pairs : List (List (List ℕ) × Value)) → Spells (texts words.now) (SetOrder pairs)
-        → Carried (IsKeeping (texts words.now)) result (D.told disk.old) (D.told disk.new) }
     ensures not_built { (order : Order) → Spells (texts words.now) order → is_built order ≡ false
         → Carried IsUnbuilt result (D.told disk.old) (D.told disk.new) }
-    ensures cause { HasCauseOf Refusal.Disk (D.faults disk.old) (D.faults disk.new) result }
+    ensures unasked { ((version : Version) → Spells (texts words.now) (MigrateOrder version) → ⊥) → S.asked spawner.new ≡ S.asked spawner.old }
+    ensures unrun { RunsNothing (texts words.now) → S.runs spawner.new ≡ S.runs spawner.old }
+    ensures shut { ServesNot (texts words.now) → N.told door.new ≡ N.told door.old }
+    ensures idle { (N.state door.new).busy ≡ false }
+    ensures cause { ServesNot (texts words.now) → HasCauseOf Refusal.Disk (D.faults disk.old) (D.faults disk.new) result }
+    ensures disk_fault { IsErrOf result Refusal.Disk → Rose (D.faults disk.old) (D.faults disk.new) }
+    ensures spawn_cause { ServesNot (texts words.now) → HasSpawnCause (S.faults spawner.old) (S.faults spawner.new) result }
+    ensures spawn_fault { (name : List ℕ) → IsErrOf result (Refusal.Spawn name) → Rose (S.faults spawner.old) (S.faults spawner.new) }
+    ensures door_fault { IsErrOf result Refusal.Door → Rose (N.faults door.old) (N.faults door.new) }
 {
     match Command::read(alloc, words) {
         Ok(Command::Init { version }) => begin(alloc, disk, &version),
+        Ok(
+            Command::Serve {
+                boot,
+                slice,
+                connections,
+            },
+        ) => serve_store(alloc, boot, slice, connections, disk, spawner, door),
+        Ok(Command::Set { pairs }) => set(alloc, &pairs, disk, spawner),
         Ok(Command::Get { keys }) => get(alloc, disk, &keys),
+        Ok(Command::Apply) => apply(alloc, disk, spawner),
         Ok(Command::Check) => check(alloc, disk),
-        Ok(Command::Migrate { to }) => migrate_to(alloc, disk, &to),
+        Ok(Command::Migrate { to }) => migrate_to(alloc, disk, spawner, &to),
         Ok(Command::Prune) => prune_others(alloc, disk),
-        Ok(Command::Set { .. }) => keep(alloc, words, disk),
         Ok(_) => Err(Refusal::NotBuilt),
         Err(WordsError::Usage) => Err(Refusal::Usage),
         Err(WordsError::Memory) => Err(Refusal::Memory),

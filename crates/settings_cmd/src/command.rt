@@ -1,46 +1,76 @@
 //! The top call.
-ghost use Rattle.std.specs.Prelude.{◌≡◌, ◌≢◌, ◌⊎◌, ℕ, List, false, codes};
+ghost use Rattle.std.specs.Prelude.{◌≡◌, ◌≢◌, ◌⊎◌, ℕ, List, Bool, Option, true, false, codes};
 ghost use Rattle.outside.specs.Told.{Moves};
 ghost use Rattle.outside.specs.Faults.{Rose};
+ghost use Rattle.outside.specs.Spawner.{texts};
 ghost use Rattle.json_trees.specs.declared.scalar.Scalar.{Scalar as Value};
 ghost use Rattle.sink_text.specs.Said.{IsSaid};
-ghost use Rattle.command_words.specs.Orders.{Order, Spells, SpellsNone, init as InitOrder, get as GetOrder, check as CheckOrder, migrate as MigrateOrder, prune as PruneOrder, set as SetOrder};
-ghost use Rattle.settings_cmd.specs.Setting.{texts};
+ghost use Rattle.command_words.specs.Orders.{Order, Spells, SpellsNone, serve as ServeOrder, apply as ApplyOrder, init as InitOrder, get as GetOrder, check as CheckOrder, migrate as MigrateOrder, prune as PruneOrder, set as SetOrder};
+ghost use Rattle.core_commands.specs.Carried.{Carried as Commanded, set_requests, apply_requests};
+ghost use Rattle.core_commands.specs.Lines.{IsSettingsLine, IsJobLine};
+ghost use Rattle.api_server.specs.Serving.{wanted};
+ghost use Rattle.settings_cmd.specs.Serving.{IsServed};
 ghost use Rattle.version_links.specs.declared.version.Version.{Version};
-ghost use Rattle.settings_cmd.specs.Carried.{IsMisused, IsBegun, IsGot, IsChecked, IsMigrated, IsPruned, IsKeeping, IsUnbuilt, is_built};
-ghost use Rattle.settings_cmd.specs.Runs.{Runs};
+ghost use Rattle.settings_cmd.specs.Carried.{IsMisused, IsBegun, IsGot, IsChecked, IsMigrated, IsPruned, IsUnbuilt, ServesNot, RunsNothing, is_built};
+ghost use Rattle.settings_cmd.specs.Runs.{Runs, RunsAs};
 
 use crate::carrying::carry_out;
 use command_outcome::tell;
-use outside::{Disk, Sink};
+use outside::{Asker, Disk, Door, Sink};
 use std::alloc::Global;
 
-/// Runs one command, from its words to the disk and the output, and answers the exit status.
+/// Runs one command, from its words to the devices and the output, and answers the exit status.
 ///
 /// Each command has a clause: it was carried out, and the run printed what it came to and ended with the status of that; or the
 /// output failed, and the status is 12 and the text was written in part; or memory was wanting, and the status is 1.
-pub fn run<D: Disk, O: Sink>(alloc: Global, words: &[String], disk: &mut D, out: &mut O) -> u8
+///
+/// The door is not busy, and has accepted no connection yet; it is not busy afterwards.
+pub fn run<D: Disk, S: Asker, N: Door, O: Sink>(
+    alloc: Global,
+    words: &[String],
+    disk: &mut D,
+    spawner: &mut S,
+    door: &mut N,
+    out: &mut O,
+) -> u8
+    requires idle { (N.state door.old).busy ≡ false }
+    requires unused { (N.state door.old).accepted ≡ 0 }
     ensures usage { SpellsNone (texts words.now) → Runs IsMisused result (D.told disk.old) (D.told disk.new) (O.told out.old) (O.told out.new) }
     ensures init { (version : Version) → Spells (texts words.now) (InitOrder version)
         → Runs (IsBegun version) result (D.told disk.old) (D.told disk.new) (O.told out.old) (O.told out.new) }
+    ensures serve { (boot : Bool) (slice connections : Option ℕ) → Spells (texts words.now) (ServeOrder boot slice connections)
+        → Runs (IsServed boot slice (N.told door.old) (N.told door.new) (S.runs spawner.old) (S.runs spawner.new)) result (D.told disk.old) (D.told disk.new) (O.told out.old) (O.told out.new) }
+    ensures served { (boot : Bool) (slice connections : Option ℕ) → Spells (texts words.now) (ServeOrder boot slice connections)
+        → result ≡ 0 → ((N.state door.new).accepted ≡ wanted connections) ⊎ ((N.state door.new).ended ≡ true) }
+    ensures set { (pairs : List (List (List ℕ) × Value)) → Spells (texts words.now) (SetOrder pairs)
+        → RunsAs (λ outcome. Commanded (set_requests pairs) IsSettingsLine outcome (S.runs spawner.old) (S.runs spawner.new) (D.told disk.old) (D.told disk.new)) result (O.told out.old) (O.told out.new) }
     ensures get { (keys : List (List (List ℕ))) → Spells (texts words.now) (GetOrder keys)
         → Runs (IsGot keys) result (D.told disk.old) (D.told disk.new) (O.told out.old) (O.told out.new) }
+    ensures apply { Spells (texts words.now) ApplyOrder
+        → RunsAs (λ outcome. Commanded apply_requests IsJobLine outcome (S.runs spawner.old) (S.runs spawner.new) (D.told disk.old) (D.told disk.new)) result (O.told out.old) (O.told out.new) }
     ensures check { Spells (texts words.now) CheckOrder → Runs IsChecked result (D.told disk.old) (D.told disk.new) (O.told out.old) (O.told out.new) }
     ensures migrate { (version : Version) → Spells (texts words.now) (MigrateOrder version)
-        → Runs (IsMigrated version) result (D.told disk.old) (D.told disk.new) (O.told out.old) (O.told out.new) }
+        → RunsAs (λ outcome. IsMigrated version (S.asked spawner.old) (S.asked spawner.new) outcome (D.told disk.old) (D.told disk.new)) result (O.told out.old) (O.told out.new) }
     ensures prune { Spells (texts words.now) PruneOrder → Runs IsPruned result (D.told disk.old) (D.told disk.new) (O.told out.old) (O.told out.new) }
-    ensures set { (pairs : List (List (List ℕ) × Value)) → Spells (texts words.now) (SetOrder pairs)
-        → Runs (IsKeeping (texts words.now)) result (D.told disk.old) (D.told disk.new) (O.told out.old) (O.told out.new) }
     ensures not_built { (order : Order) → Spells (texts words.now) order → is_built order ≡ false
         → Runs IsUnbuilt result (D.told disk.old) (D.told disk.new) (O.told out.old) (O.told out.new) }
 
-    // No failure is told that did not happen, and none is passed over.
+    // Programs are asked by `migrate` alone, and run by `serve`, `set` and `apply` alone; connections are served by `serve` alone.
+    ensures unasked { ((version : Version) → Spells (texts words.now) (MigrateOrder version) → ⊥) → S.asked spawner.new ≡ S.asked spawner.old }
+    ensures unrun { RunsNothing (texts words.now) → S.runs spawner.new ≡ S.runs spawner.old }
+    ensures shut { ServesNot (texts words.now) → N.told door.new ≡ N.told door.old }
+    ensures idle { (N.state door.new).busy ≡ false }
+
+    // No failure is told that did not happen, and, but by `serve`, which tells its clients alone, none is passed over.
     ensures disk_fault { result ≡ 3 → Rose (D.faults disk.old) (D.faults disk.new) }
-    ensures disk_faults { result ≢ 1 → result ≢ 3 → result ≢ 12 → D.faults disk.new ≡ D.faults disk.old }
+    ensures disk_faults { ServesNot (texts words.now) → result ≢ 1 → result ≢ 3 → result ≢ 12 → D.faults disk.new ≡ D.faults disk.old }
+    ensures door_fault { result ≡ 4 → Rose (N.faults door.old) (N.faults door.new) }
+    ensures spawn_fault { result ≡ 5 → Rose (S.faults spawner.old) (S.faults spawner.new) }
+    ensures spawn_faults { ServesNot (texts words.now) → result ≢ 1 → result ≢ 5 → result ≢ 12 → S.faults spawner.new ≡ S.faults spawner.old }
     ensures sink_fault { result ≡ 12 → Rose (O.faults out.old) (O.faults out.new) }
     ensures sink_faults { result ≢ 1 → result ≢ 12 → O.faults out.new ≡ O.faults out.old }
     ensures memory_line { result ≡ 1 → Moves (O.told out.old) (O.told out.new) (IsSaid (codes "settings: memory\n")) ⊎ Rose (O.faults out.old) (O.faults out.new) }
 {
-    let outcome = carry_out(alloc, words, disk);
+    let outcome = carry_out(alloc, words, disk, spawner, door);
     tell(alloc, out, &outcome)
 }

@@ -1,6 +1,6 @@
 //! The commands of the program `settings`, from their words to the disk and the output.
 //!
-//! `init`, `get`, `check`, `migrate` and `prune` are built; `set` keeps one text setting in a store that isn't there yet; no other command is built.
+//! `load`, `generate` and `user-data` are not built yet.
 #![tactic(auto)]
 
 mod beginning;
@@ -12,8 +12,7 @@ mod law;
 mod migrating;
 mod pruning;
 mod releasing;
-mod setting;
-mod store;
+mod serving;
 mod version_line;
 
 pub use beginning::begin;
@@ -24,5 +23,4 @@ pub use getting::get;
 pub use law::laws;
 pub use migrating::migrate_to;
 pub use pruning::prune_others;
-pub use setting::{Setting, is_segment, setting_of};
-pub use store::keep;
+pub use serving::serve_store;

@@ -1,15 +1,17 @@
 //! The command `migrate`.
-ghost use Rattle.std.specs.Prelude.{◌≡◌};
+ghost use Rattle.std.specs.Prelude.{◌≡◌, IsErrOf};
 ghost use Rattle.outside.specs.Faults.{HasCauseOf};
-ghost use Rattle.settings_cmd.specs.Carried.{Carried, IsMigrated};
+ghost use Rattle.migrate_chain.specs.Causes.{HasNamedCause};
+ghost use Rattle.settings_cmd.specs.Carried.{IsMigrated};
 ghost use Rattle.settings_cmd.specs.Handing.{HandsMoving};
 
 use crate::releasing::read_release;
 use crate::version_line::version_line;
 use command_outcome::Refusal;
 use key_names::Bytes;
-use migrate_chain::{MoveError, migrate};
-use outside::Disk;
+use migrate_chain::MoveError;
+use migrate_programs::migrate_by_programs;
+use outside::{Asker, Disk};
 use std::alloc::Global;
 use version_links::Version;
 
@@ -32,22 +34,28 @@ fn refused(error: MoveError) -> Result<Bytes, Refusal>
     }
 }
 
-/// Reads the release of the image, moves the store to this version along its transitions, and answers the version and a line
-/// feed. A release with a migration by a program is `NotBuilt`, before the store is looked at.
+/// Reads the release of the image, moves the store to this version along its transitions, asks the programs on the way, and
+/// answers the version and a line feed.
 ///
-/// `BadImage` where the release is missing or has a fault comes first. Then, by `migrate`: `NoStore`, `BadLink`, `BadJournal`,
-/// `Damaged`, `Missing`, `Conflict`, and nothing was moved. `Disk` where the disk failed; `Memory` where memory is wanting, and
-/// never once the store is moved.
-pub fn migrate_to<D: Disk>(alloc: Global, disk: &mut D, to: &Version) -> Result<Bytes, Refusal>
-    ensures migrated { Carried (IsMigrated to.now) result (D.told disk.old) (D.told disk.new) }
+/// `BadImage` where the release is missing or has a fault comes first. Then, by `migrate_by_programs`: `NoStore`, `BadLink`,
+/// `BadJournal`, `Damaged`, `Missing`, `Conflict`, `MigrationStatus` and `MigrationOutput` by what a program answered, `Spawn` where
+/// it could not be asked, and nothing was moved. `Disk` where the disk failed; `Memory` where memory is wanting, and never once the
+/// store is moved.
+pub fn migrate_to<D: Disk, S: Asker>(
+    alloc: Global,
+    disk: &mut D,
+    spawner: &mut S,
+    to: &Version,
+) -> Result<Bytes, Refusal>
+    ensures migrated { IsMigrated to.now (S.asked spawner.old) (S.asked spawner.new) result (D.told disk.old) (D.told disk.new) }
+    ensures ran { S.runs spawner.new ≡ S.runs spawner.old }
     ensures cause { HasCauseOf Refusal.Disk (D.faults disk.old) (D.faults disk.new) result }
+    ensures spawn_cause { HasNamedCause (λ name. Refusal.Spawn name) (S.faults spawner.old) (S.faults spawner.new) result }
+    ensures no_door { IsErrOf result Refusal.Door → ⊥ }
 {
     let line = version_line(alloc, to)?;
     let release = read_release(alloc, disk)?;
-    if !release.is_plain() {
-        return Err(Refusal::NotBuilt);
-    }
-    match migrate(alloc, disk, to, &release) {
+    match migrate_by_programs(alloc, disk, to, &release, spawner) {
         Ok(_) => Ok(line),
         Err(error) => refused(error),
     }

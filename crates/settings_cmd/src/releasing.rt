@@ -4,7 +4,7 @@ ghost use Rattle.outside.specs.History.{tree_of};
 ghost use Rattle.outside.specs.Told.{WhereTold};
 ghost use Rattle.outside.specs.Faults.{HasCauseOf};
 ghost use Rattle.store_image.specs.Paths.{sources_in};
-ghost use Rattle.settings_cmd.specs.Releases.{release_path, release_word, IsReleaseIn, TellsOfRelease, TellsOfText, Reads};
+ghost use Rattle.settings_cmd.specs.Releases.{release_path, release_word, IsReleaseIn, TellsOfRelease, TellsOfText, Reads, IsOfRelease};
 
 use command_outcome::Refusal;
 use key_names::Text;
@@ -59,6 +59,7 @@ fn release_text<D: Disk>(alloc: Global, disk: &mut D) -> Result<Vec<u8>, Refusal
     ensures same { D.told disk.new ≡ D.told disk.old }
     ensures there { IfOk result (λ text. WhereTold (D.told disk.old) (λ h. sources_in (tree_of h) release_path ≡ Some text.items)) }
     ensures refused { IfErr result (λ refusal. WhereTold (D.told disk.old) (λ h. TellsOfRelease (sources_in (tree_of h)) refusal)) }
+    ensures of_release { IfErr result IsOfRelease }
     ensures cause { HasCauseOf Refusal.Disk (D.faults disk.old) (D.faults disk.new) result }
 {
     let path = release_path(alloc)?;
@@ -80,7 +81,8 @@ fn refused(alloc: Global, error: ReleaseError) -> Result<Refusal, AllocError>
 
 // The release that the text is.
 fn release_of(alloc: Global, text: &[u8]) -> Result<Release, Refusal>
-    ensures { Reads text.now result }
+    ensures reads { Reads text.now result }
+    ensures of_release { IfErr result IsOfRelease }
 {
     match Release::read(alloc, text) {
         Ok(release) => Ok(release),
@@ -96,6 +98,7 @@ pub(crate) fn read_release<D: Disk>(alloc: Global, disk: &mut D) -> Result<Relea
     ensures same { D.told disk.new ≡ D.told disk.old }
     ensures ok { IfOk result (λ release. WhereTold (D.told disk.old) (λ h. IsReleaseIn (sources_in (tree_of h)) release)) }
     ensures refused { IfErr result (λ refusal. WhereTold (D.told disk.old) (λ h. TellsOfRelease (sources_in (tree_of h)) refusal)) }
+    ensures of_release { IfErr result IsOfRelease }
     ensures cause { HasCauseOf Refusal.Disk (D.faults disk.old) (D.faults disk.new) result }
 {
     let text = release_text(alloc, disk)?;

@@ -1,0 +1,68 @@
+//! The command `serve`.
+ghost use Rattle.std.specs.Prelude.{◌≡◌, ◌⊎◌, ◌≤◌, Ok, [], false, IsErrOf, IsOk, true};
+ghost use Rattle.outside.specs.Faults.{Rose};
+ghost use Rattle.api_server.specs.Serving.{wanted};
+ghost use Rattle.store_open.specs.Opening.{IsSoundOpened};
+ghost use Rattle.settings_cmd.specs.Serving.{served, IsServed};
+
+use api_core::Core;
+use api_server::serve;
+use command_outcome::Refusal;
+use core_commands::not_opened;
+use key_names::Bytes;
+use outside::{Disk, Door, Spawner};
+use std::alloc::Global;
+use store_open::open_store;
+
+// How it ends once the store is open.
+fn ended(alloc: Global, fine: bool) -> Result<Bytes, Refusal>
+    ensures { result ≡ served fine }
+{
+    if fine {
+        Ok(Bytes::of(Vec::new(alloc)))
+    } else {
+        Err(Refusal::Door)
+    }
+}
+
+/// Opens the store, with boot or without, and serves it: see [`serve`](api_server::serve). It prints nothing.
+///
+/// Why the store can't be opened comes first. Once it is open, `Door` exactly where an accept failed: a running job is then left, and
+/// its keys stay owed. Failures of requests, of turns and of single connections don't end it, and are told to their clients alone.
+pub fn serve_store<D: Disk, S: Spawner, N: Door>(
+    alloc: Global,
+    boot: bool,
+    slice: Option<u32>,
+    connections: Option<u32>,
+    disk: &mut D,
+    spawner: &mut S,
+    door: &mut N,
+) -> Result<Bytes, Refusal>
+    requires idle { (N.state door.old).busy ≡ false }
+    requires unused { (N.state door.old).accepted ≡ 0 }
+    ensures served { IsServed boot slice (N.told door.old) (N.told door.new) (S.runs spawner.old) (S.runs spawner.new) result (D.told disk.old) (D.told disk.new) }
+    ensures idle { (N.state door.new).busy ≡ false }
+    ensures all { IsOk result → ((N.state door.new).accepted ≡ wanted connections) ⊎ ((N.state door.new).ended ≡ true) }
+    ensures disk_fault { IsErrOf result Refusal.Disk → Rose (D.faults disk.old) (D.faults disk.new) }
+    ensures door_fault { IsErrOf result Refusal.Door → Rose (N.faults door.old) (N.faults door.new) }
+    ensures spawner_faults { S.faults spawner.old ≤ S.faults spawner.new }
+    ensures asked { S.asked spawner.new ≡ S.asked spawner.old }
+{
+    match open_store(alloc, disk, boot) {
+        Ok(store) => {
+            let mut core = Core::new(store);
+            let fine = serve(
+                alloc,
+                &mut core,
+                boot,
+                slice,
+                connections,
+                disk,
+                spawner,
+                door,
+            );
+            ended(alloc, fine)
+        }
+        Err(error) => Err(not_opened(error)),
+    }
+}
