@@ -1,16 +1,16 @@
 #!/usr/bin/env python3
-"""Fails each system call of the first run in turn, with strace, and looks at what the program says and leaves.
+"""Fails each system call of the beginning of a store in turn, with strace, and looks at what the program says and leaves.
 
 Usage: device_faults.py PROGRAM. Wants strace. It works in a new folder below the system's folder for such files.
-Each fault must end with a status of the README and its line, and leave a store that is whole or not there, so that the
-next run ends as it should. It fails where one does not."""
+Each fault must end with a status of docs/FORMATS.md and its line, and leave a store that is whole or not there, so that the
+next run ends as it should, and the store opens with its defaults. It fails where one does not."""
 import os, re, shutil, subprocess, sys, tempfile
 
 CALLS = ["mkdir", "openat", "write", "fsync", "rename", "unlink", "statx", "flock"]
 ERRORS = ["EIO", "ENOSPC", "ENOMEM", "EINTR"]
-TEXT = '{"settings":{"motd":"hi"}}'
-LINES = {0: TEXT + "\n", 1: "settings: memory\n", 3: "settings: disk\n", 20: "settings: not built\n"}
-WORDS = ["set", 'settings.motd="hi"']
+HERE = os.path.dirname(os.path.dirname(os.path.abspath(__file__)))
+LINES = {0: "1.5.2\n", 1: "settings: memory\n", 3: "settings: disk\n"}
+WORDS = ["init", "--version", "1.5.2"]
 
 
 def run(program, folder, *before):
@@ -36,10 +36,7 @@ def check(program, base, call, number, error):
     folder = tempfile.mkdtemp(dir=base)
     inject = f"inject={call}:error={error}:when={number}"
     status, said = run(program, folder, "strace", "-f", "-o", "/dev/null", "-e", "trace=none", "-e", inject)
-    store = os.path.join(folder, "store", "one")
-    whole = os.path.exists(store)
-    if whole and open(store).read() != TEXT:
-        return f"torn store: {open(store).read()!r}"
+    whole = os.path.exists(os.path.join(folder, ".links", "store", "current"))
     if status == 127 or (status not in LINES and status != 12):
         return f"status {status}"
     if status in LINES and said != LINES[status]:
@@ -47,8 +44,12 @@ def check(program, base, call, number, error):
     if status == 0 and not whole:
         return "status 0 without a store"
     again, _ = run(program, folder)
-    if again != (20 if whole else 0):
+    if again != (14 if whole else 0):
         return f"status {status}, and the next run {again} where a store is {'' if whole else 'not '}there"
+    shutil.copytree(f"{HERE}/examples/host", f"{folder}/image")
+    opened = subprocess.run([program, "get", "settings.motd"], cwd=folder, stdout=subprocess.PIPE, timeout=60)
+    if (opened.returncode, opened.stdout.decode()) != (0, '{"settings":{"motd":"Welcome"}}\n'):
+        return f"status {status}, and the store opens with {opened.returncode} and {opened.stdout!r}"
     shutil.rmtree(folder)
     return None
 

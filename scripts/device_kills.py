@@ -1,12 +1,12 @@
 #!/usr/bin/env python3
-"""Kills the first run at random moments, and looks at what it leaves.
+"""Kills the beginning of a store at random moments, and looks at what it leaves.
 
 Usage: device_kills.py PROGRAM [HOW MANY]. Each run is stopped by SIGKILL after some microseconds. The store must be
 absent or whole, a status 0 must have come with it, and the next run must end as it should. It fails where one does not."""
 import os, random, shutil, signal, subprocess, sys, tempfile, time
 
-TEXT = '{"settings":{"motd":"hi"}}'
-WORDS = ["set", 'settings.motd="hi"']
+HERE = os.path.dirname(os.path.dirname(os.path.abspath(__file__)))
+WORDS = ["init", "--version", "1.5.2"]
 
 
 def check(program, base, wait):
@@ -16,15 +16,16 @@ def check(program, base, wait):
     child.send_signal(signal.SIGKILL)
     said = child.communicate()[0].decode()
     hit = child.returncode == -signal.SIGKILL
-    store = os.path.join(folder, "store", "one")
-    whole = os.path.exists(store)
-    if whole and open(store).read() != TEXT:
-        return hit, "torn store"
+    whole = os.path.exists(os.path.join(folder, ".links", "store", "current"))
     if said and not whole:
         return hit, "a line without a store"
     again = subprocess.run([program, *WORDS], cwd=folder, stdout=subprocess.PIPE).returncode
-    if again != (20 if whole else 0):
+    if again != (14 if whole else 0):
         return hit, f"the next run ends with {again}"
+    shutil.copytree(f"{HERE}/examples/host", f"{folder}/image")
+    opened = subprocess.run([program, "get", "settings.motd"], cwd=folder, stdout=subprocess.PIPE)
+    if (opened.returncode, opened.stdout) != (0, b'{"settings":{"motd":"Welcome"}}\n'):
+        return hit, f"the store opens with {opened.returncode} and {opened.stdout!r}"
     shutil.rmtree(folder)
     return hit, None
 

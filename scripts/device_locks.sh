@@ -3,6 +3,7 @@
 # Usage: device_locks.sh PROGRAM. Wants flock. Fails where one of the steps ends otherwise.
 set -u
 program=$(realpath "$1")
+image=$(realpath "$(dirname "$0")/../examples/motd")
 folder=$(mktemp -d)
 cd "$folder" || exit 1
 wrong=0
@@ -19,26 +20,26 @@ expect() {
     fi
 }
 
+cp -r "$image" image
 mkdir -m 700 .work
-expect 'locked' 3 'settings: disk' flock .work/lock "$program" set 'settings.motd="hi"'
+expect 'locked' 3 'settings: disk' flock .work/lock "$program" init --version 1.5.2
 grep -q 'another program is at work' errors || { echo 'nothing on standard error'; wrong=$((wrong + 1)); }
 [ ! -e store ] || { echo 'a store was made'; wrong=$((wrong + 1)); }
-expect 'free' 0 '{"settings":{"motd":"hi"}}' "$program" set 'settings.motd="hi"'
-rm -rf store
+expect 'free' 0 '1.5.2' "$program" init --version 1.5.2
 chmod 750 .work
 expect 'open to the group' 3 'settings: disk' "$program" set 'settings.motd="hi"'
 chmod 700 .work
 expect 'closed again' 0 '{"settings":{"motd":"hi"}}' "$program" set 'settings.motd="hi"'
-# Twelve at once: one makes the store.
-rm -rf store
+# Twelve at once: each ends with the lock of another or sets its text, and the last text that was set is in the file.
 for number in 1 2 3 4 5 6 7 8 9 10 11 12; do
     { "$program" set "settings.motd=\"$number\"" > "said$number" 2>/dev/null; echo $? > "ended$number"; } &
 done
 wait
-kept=$(cat store/one)
-zeros=$(grep -lx 0 ended* | wc -l)
-[ "$zeros" = 1 ] || { echo "$zeros of 12 ended with 0"; wrong=$((wrong + 1)); }
-[ "$(cat said$(grep -lx 0 ended* | head -1 | tr -dc 0-9))" = "$kept" ] || { echo 'another setting was kept'; wrong=$((wrong + 1)); }
+kept=$(cat etc/motd)
+[ "$(cat "ended$kept")" = 0 ] || { echo "$kept is in the file, and did not end with 0"; wrong=$((wrong + 1)); }
+[ "$(cat "said$kept")" = "{\"settings\":{\"motd\":\"$kept\"}}" ] || { echo 'another line was printed'; wrong=$((wrong + 1)); }
+[ -z "$(grep -Lx '[03]' ended*)" ] || { echo 'one ended with another status'; wrong=$((wrong + 1)); }
+expect 'get' 0 "{\"settings\":{\"motd\":\"$kept\"}}" "$program" get
 rm -rf "$folder"
-echo "device_locks: 6 steps, $wrong wrong"
+echo "device_locks: 7 steps, $wrong wrong"
 [ "$wrong" = 0 ]

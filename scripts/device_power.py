@@ -1,15 +1,17 @@
 #!/usr/bin/env python3
-"""Cuts the power of a small disk beneath the first run, and looks at what is on it.
+"""Cuts the power of a small disk beneath the beginning of a store, and looks at what is on it.
 
 Usage: device_power.py PROGRAM, as root. Wants strace, mkfs.ext4, e2fsck and loop devices. The disk is a file with ext4
-without a journal. A first run is killed at each of its calls that changes something or puts something down. Then the
+without a journal. A run of `init` is killed at each of its calls that changes something or puts something down. Then the
 power goes, or a second run ends first. The power goes by a copy of the file, as it is, which is checked and mounted: there
-the store is absent or whole, and whole where a run has ended with 0. It fails where one is not so."""
-import os, shutil, subprocess, sys, tempfile
+the store is absent or opens with its defaults, and it opens where a run has ended with 0. It fails where one is not so."""
+import os, shutil, signal, subprocess, sys, tempfile
 
-TEXT = '{"settings":{"motd":"hi"}}'
-WORDS = ["set", 'settings.motd="hi"']
-CALLS = {"mkdir": 3, "fsync": 4, "rename": 1, "write": 2}
+HERE = os.path.dirname(os.path.dirname(os.path.abspath(__file__)))
+WORDS = ["init", "--version", "1.5.2"]
+CALLS = ["mkdir", "fsync", "rename", "write"]
+OPENS = (0, b'{"settings":{"motd":"Welcome"}}\n')
+ABSENT = (6, b"settings: no store\n")
 
 
 def quiet(*command, wanted=(0,)):
@@ -18,16 +20,17 @@ def quiet(*command, wanted=(0,)):
         raise SystemExit(f"{' '.join(command)}: status {done.returncode}")
 
 
-def after_cut(base, disk):
-    """The store after the cut, or None."""
+def after_cut(program, base, disk):
+    """What `get` comes to after the cut."""
     copy, folder = os.path.join(base, "copy"), os.path.join(base, "after")
     shutil.copyfile(disk, copy)
     quiet("e2fsck", "-fy", copy, wanted=(0, 1, 2))
     os.makedirs(folder, exist_ok=True)
-    quiet("mount", "-o", "loop,ro", copy, folder)
+    quiet("mount", "-o", "loop", copy, folder)
     try:
-        store = os.path.join(folder, "store", "one")
-        return open(store).read() if os.path.exists(store) else None
+        shutil.copytree(f"{HERE}/examples/host", f"{folder}/image")
+        done = subprocess.run([program, "get", "settings.motd"], cwd=folder, stdout=subprocess.PIPE)
+        return done.returncode, done.stdout
     finally:
         quiet("umount", folder)
 
@@ -42,29 +45,33 @@ def check(program, base, call, number, second):
     try:
         kill = f"inject={call}:signal=KILL:when={number}"
         command = ["strace", "-o", "/dev/null", "-e", "trace=none", "-e", kill, program, *WORDS]
-        said = subprocess.run(command, cwd=folder, stdout=subprocess.PIPE).stdout.decode()
+        first = subprocess.run(command, cwd=folder, stdout=subprocess.PIPE)
         status = None
         if second:
             status = subprocess.run([program, *WORDS], cwd=folder, stdout=subprocess.DEVNULL).returncode
-        left = after_cut(base, disk)
+        left = after_cut(program, base, disk)
     finally:
         quiet("umount", folder)
-    if left not in (None, TEXT):
-        return f"torn: {left!r}"
-    if (said or status == 0) and left != TEXT:
-        return "an acknowledged setting went"
-    return None
+    killed = first.returncode == -signal.SIGKILL
+    if left not in (ABSENT, OPENS):
+        return killed, f"torn: {left!r}"
+    if (first.stdout or status in (0, 14)) and left != OPENS:
+        return killed, "an acknowledged store went"
+    return killed, None
 
 
 def main():
     program = os.path.abspath(sys.argv[1])
     base = tempfile.mkdtemp(prefix="device_power")
     tried, wrong = 0, 0
-    for call, count in CALLS.items():
-        for number in range(1, count + 1):
+    for call in CALLS:
+        killed = True
+        number = 0
+        while killed:
+            number += 1
             for second in (False, True):
-                fault = check(program, base, call, number, second)
-                tried += 1
+                killed, fault = check(program, base, call, number, second)
+                tried += killed
                 if fault:
                     wrong += 1
                     print(f"{call} {number}, {'second' if second else 'first'} run: {fault}")

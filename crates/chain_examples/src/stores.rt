@@ -1,0 +1,81 @@
+//! Small stores of a disk in memory, and runs over them.
+use disk_memory::{MemoryDisk, MemoryDoor, MemorySink, MemorySpawner, Node};
+use outside::{Disk, Path};
+use settings_cmd::run;
+use std::alloc::{AllocError, Global};
+use std::test::Fail;
+use version_links::resolve;
+
+/// The path of a file or a link, and its bytes.
+pub type Place = (&'static str, &'static str);
+
+const LINKS: &[Place] = &[
+    ("store/current", "v1"),
+    ("store/v1", "v1.5"),
+    ("store/v1.5", "v1.5.2"),
+    ("store/v1.5.2", "v1.5.2_0000000000000000"),
+];
+
+/// A disk with a store at 1.5.2 of these files, and others.
+pub fn store(alloc: Global, places: &[Place]) -> Result<MemoryDisk, Fail> {
+    let mut disk = MemoryDisk::new(alloc)?;
+    for (path, bytes) in places {
+        disk.replace(&Path::read(alloc, path.as_bytes())?, bytes.as_bytes())?;
+    }
+    for (path, text) in LINKS {
+        disk.relink(&Path::read(alloc, path.as_bytes())?, text.as_bytes())?;
+    }
+    disk.sync()?;
+    Ok(disk)
+}
+
+// The words of a command line, split at spaces.
+fn words_of(alloc: Global, line: &str) -> Result<Vec<String>, AllocError> {
+    let mut words = Vec::new(alloc);
+    for word in line.split(' ') {
+        words.push(String::from_str(alloc, word)?)?;
+    }
+    Ok(words)
+}
+
+/// Runs the words of the line: the status comes first, and then what is printed.
+pub fn told(alloc: Global, disk: &mut MemoryDisk, line: &str) -> Result<String, AllocError> {
+    let words = words_of(alloc, line)?;
+    let mut spawner = MemorySpawner::of_answers(alloc, Vec::new(alloc));
+    let mut door = MemoryDoor::of_inputs(alloc, Vec::new(alloc));
+    let mut out = MemorySink::new(alloc);
+    let status = run(alloc, &words, disk, &mut spawner, &mut door, &mut out);
+    let printed = String::from_utf8_lossy(alloc, out.written())?;
+    let printed = printed.as_str();
+    format!(in alloc; "{status} {printed}")
+}
+
+fn push(alloc: Global, text: &mut String, bytes: &[u8]) -> Result<(), AllocError> {
+    let shown = String::from_utf8_lossy(alloc, bytes)?;
+    text.push_str(shown.as_str())?;
+    text.push_str(" ")?;
+    Ok(())
+}
+
+/// The data directory to which the links lead, with the bytes of each of its files, in the order of their paths.
+pub fn state(alloc: Global, disk: &mut MemoryDisk) -> Result<String, Fail> {
+    let Some(place) = resolve(alloc, disk)? else {
+        return Err(Fail::new("no store"));
+    };
+    let mut text = String::new(alloc);
+    push(alloc, &mut text, &place.directory.print()?)?;
+    for path in &disk.list(alloc, &place.directory)? {
+        if let Some(Node::File(bytes)) = disk.node(path) {
+            push(alloc, &mut text, bytes.as_slice())?;
+        }
+    }
+    Ok(text)
+}
+
+/// The text is the wanted one.
+pub fn same(shown: &str, wanted: &str, at: &str) -> Result<(), Fail> {
+    if shown == wanted {
+        return Ok(());
+    }
+    Err(Fail::new(format_args!("{shown}, not {wanted}, at {at}")))
+}

@@ -1,0 +1,134 @@
+//! A host in memory whose release asks programs.
+use disk_memory::{MemoryDisk, MemoryDoor, MemorySink, MemorySpawner};
+use outside::{Answer, Disk, Path};
+use settings_cmd::run;
+use std::alloc::{AllocError, Global};
+use std::test::Fail;
+
+const MODEL: &str = "[types]
+\"settings.motd\" = \"line\"
+[settings]
+motd = \"Welcome\"
+[services.motd]
+configuration-files = []
+restart-commands = []
+[configuration-files]
+[metadata.settings.motd]
+affected-services = [\"motd\"]
+";
+
+const RELEASE: &str = "[migrations]
+\"(1.5.2, 1.5.3)\" = [\"up\"]
+\"(1.5.3, 1.6.0)\" = [\"plain\", \"on\", \"off\"]
+[migration.up]
+kind = \"program\"
+words = \"mig-up\"
+[migration.plain]
+kind = \"no-op\"
+[migration.on]
+kind = \"program\"
+words = \"mig on\"
+[migration.off]
+kind = \"program\"
+words = \"mig-off\"
+";
+
+fn put(alloc: Global, disk: &mut MemoryDisk, path: &str, bytes: &str) -> Result<(), Fail> {
+    let path = Path::read(alloc, path.as_bytes())?;
+    disk.replace(&path, bytes.as_bytes())?;
+    Ok(())
+}
+
+/// The words of a command line, split at spaces.
+pub fn words_of(alloc: Global, line: &str) -> Result<Vec<String>, AllocError> {
+    let mut words = Vec::new(alloc);
+    for word in line.split(' ') {
+        words.push(String::from_str(alloc, word)?)?;
+    }
+    Ok(words)
+}
+
+/// Runs the words of the line, and compares the status and what was printed.
+pub fn runs(
+    alloc: Global,
+    disk: &mut MemoryDisk,
+    spawner: &mut MemorySpawner,
+    line: &str,
+    status: u8,
+    printed: &str,
+) -> Result<(), Fail> {
+    let words = words_of(alloc, line)?;
+    let mut door = MemoryDoor::of_inputs(alloc, Vec::new(alloc));
+    let mut out = MemorySink::new(alloc);
+    let ended = run(alloc, &words, disk, spawner, &mut door, &mut out);
+    let text = String::from_utf8_lossy(alloc, out.written())?;
+    if ended == status && text.as_str() == printed {
+        return Ok(());
+    }
+    Err(Fail::new(format_args!(
+        "`{line}` ended with {ended}, not {status}, and printed {}",
+        text.as_str()
+    )))
+}
+
+/// A store of version 1.5.2 in which nothing is owed.
+pub fn host(alloc: Global) -> Result<MemoryDisk, Fail> {
+    let mut disk = MemoryDisk::new(alloc)?;
+    let mut spawner = MemorySpawner::of_answers(alloc, Vec::new(alloc));
+    put(alloc, &mut disk, "image/model.toml", MODEL)?;
+    put(alloc, &mut disk, "image/release.toml", RELEASE)?;
+    runs(
+        alloc,
+        &mut disk,
+        &mut spawner,
+        "init --version 1.5.2",
+        0,
+        "1.5.2\n",
+    )?;
+    let tree = "{\"settings\":{\"motd\":\"Welcome\"}}\n";
+    runs(alloc, &mut disk, &mut spawner, "get", 0, tree)?;
+    put(alloc, &mut disk, "store/v1.5.2_0000000000000000/owed", "[]")?;
+    disk.sync()?;
+    Ok(disk)
+}
+
+/// Compares the version to which the links of the store lead.
+pub fn is_at(alloc: Global, disk: &mut MemoryDisk, version: &str) -> Result<(), Fail> {
+    let mut spawner = MemorySpawner::of_answers(alloc, Vec::new(alloc));
+    let line = format!(in alloc; "settings: already there {version}\n")?;
+    runs(
+        alloc,
+        disk,
+        &mut spawner,
+        "init --version 9.0.0",
+        14,
+        line.as_str(),
+    )
+}
+
+/// What the first program on the way is given: one that answers nothing is asked.
+pub fn first_input(alloc: Global, disk: &mut MemoryDisk) -> Result<String, Fail> {
+    let mut spawner = MemorySpawner::of_answers(alloc, Vec::new(alloc));
+    let line = "settings: migration up output\n";
+    runs(alloc, disk, &mut spawner, "migrate --to 1.5.3", 18, line)?;
+    match spawner.asked() {
+        [question, ..] => Ok(String::from_utf8_lossy(alloc, &question.input)?),
+        [] => Err(Fail::new(format_args!("nothing was asked"))),
+    }
+}
+
+/// The text with the first place of one text replaced by another.
+pub fn swapped(alloc: Global, text: &str, old: &str, new: &str) -> Result<String, Fail> {
+    match text.split_once(old) {
+        Some((before, behind)) => Ok(format!(in alloc; "{before}{new}{behind}")?),
+        None => Err(Fail::new(format_args!("there is no {old} in {text}"))),
+    }
+}
+
+/// An answer with status 0.
+pub fn answer(alloc: Global, output: &str) -> Result<Answer, AllocError> {
+    Ok(Answer {
+        status: 0,
+        output: output.as_bytes().to_vec(alloc)?,
+    })
+}
