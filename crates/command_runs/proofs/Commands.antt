@@ -1,0 +1,194 @@
+-- The commands are runs of the machine.
+use Rattle.std.proofs.Common.{◌≡◌, inl, inr, ◌⊎◌, ⊎_elim, ℕ, Bool, true, false, List, [], ◌∷◌, ◌++◌, Option, Some, None, Result, Ok, Err, IfErr, OnErr, OnOk, refl, sym, ◌∙◌, ap, subst}
+use Rattle.outside.specs.Exchange.{Exchange}
+use Rattle.outside.specs.History.{History}
+use Rattle.outside.specs.Spawner.{Run}
+use Rattle.outside.specs.Told.{Moves}
+use Rattle.outside.proofs.Told.{moves_same}
+use Rattle.outside.proofs.Crash.{settled_image}
+use Rattle.outside.specs.Tree.{node_at, file_in}
+use Rattle.settings_tree.specs.declared.held.Held.{Held}
+use Rattle.settings_machine.specs.World.{Image, World, Job, Idle, is_running}
+use Rattle.settings_machine.specs.Opening.{added_keys}
+use Rattle.settings_machine.specs.Requests.{Request}
+use Rattle.settings_machine.specs.Step.{noting, opened}
+use Rattle.settings_machine.specs.Events.{Event, Opened, Succeeded, Failing, after, next}
+use Rattle.settings_machine.specs.Paid.{Paid, IsGood}
+use Rattle.settings_machine.specs.Typed.{IsTypedHeld}
+use Rattle.settings_machine.proofs.PaidLaws.{openings_pay}
+use Rattle.machine_disk.specs.Store.{HasStore}
+use Rattle.machine_disk.specs.Kept.{Folder, DiskAt, Kept}
+use Rattle.machine_disk.specs.Ran.{Before, RunsTo, Starts, OpensTo, OpensNot}
+use Rattle.machine_disk.proofs.Runs.{runs_to, ran_none, opens_kept}
+use Rattle.machine_disk.proofs.Meanings.{core_holds}
+use Rattle.store_open.specs.Laws.{IsImageOfFolder, HoldsImage, HasRun, IsKeptAt, IsRefusal}
+use Rattle.store_open.specs.Opening.{Opens}
+use Rattle.store_open.specs.declared.opened.Opened as answer
+use Rattle.store_open.specs.declared.open_error.OpenError.{OpenError}
+use Rattle.store_open.specs.declared.open_error.OpenError.TheVariants as opening
+use Rattle.store_open.proofs.MachineRuns.{openings_run, refusals_keep}
+use Rattle.command_outcome.specs.Ends.{Outcome}
+use Rattle.command_outcome.specs.declared.refusal.Refusal.TheVariants as refused
+use Rattle.core_commands.specs.Lines.{IsSettingsLine, IsJobLine}
+use Rattle.core_commands.specs.Carried.{set_requests, apply_requests, Comes, core_over, RunsBy, GoesOn, Makes, MakesBy, CarriesOut}
+use Rattle.core_commands.specs.Handing.{not_opened}
+use Rattle.settings_cmd.specs.Carried.{IsGot}
+use Rattle.settings_cmd.specs.Gets.{Answers, AnswersOpening}
+use Rattle.settings_cmd.specs.Serving.{served, OpensAndServes, Serves, ServesBy, IsServed}
+use Rattle.command_runs.specs.Laws.{Begins, IsRun, IsUnopened, RequestEvents, RequestsRun, SetsRun, AppliesRun, ServeEvents, ServesRun, GetEvents, GetsRun}
+use Rattle.command_runs.proofs.Whole.{whole}
+use Rattle.command_runs.proofs.Served.{comes_served, all_served}
+
+module _ (I : Image) (good : IsGood I) (folder : Folder) (is : IsImageOfFolder I folder) (W : World) (old new : History) (begins : Begins I folder W old) where
+  -- On a settled disk each image is the tree.
+  pub disk_at : DiskAt I folder W W old
+  disk_at = record {
+    paid = begins.starts.paid;
+    store = begins.starts.store;
+    etc = begins.starts.etc;
+    image = begins.image;
+    images = λ c left. inl (subst (HasStore W) (sym (settled_image old begins.starts.settled c left)) begins.starts.store);
+    same_etc = refl;
+    unsettled = λ path node etc may. inl (ap file_in (begins.starts.settled path node may) ∙ begins.starts.etc.each path etc);
+  }
+
+  -- ---- a store that was not opened
+
+  failed_paid : (boot taken : Bool) → Paid I (next I W (Opened boot (Failing taken)))
+  failed_paid boot true = (openings_pay I good W boot begins.typed begins.starts.paid (ap is_running begins.idle)).paid
+  failed_paid boot false = begins.starts.paid
+
+  failed_each : (boot taken : Bool) (first rest : List Event) → Opened boot (Failing taken) ∷ [] ≡ first ++ rest → Paid I (after I W first)
+  failed_each boot taken [] rest e = begins.starts.paid
+  failed_each boot taken (f ∷ []) rest e = let head : Opened boot (Failing taken) ≡ f = cc in subst (λ (x : Event). Paid I (next I W x)) head (failed_paid boot taken)
+  failed_each boot taken (f ∷ g ∷ first) rest e = absurd (cc e)
+
+  none_each : (first rest : List Event) → [] ≡ first ++ rest → Paid I (after I W first)
+  none_each [] rest e = begins.starts.paid
+  none_each (f ∷ first) rest e = absurd (cc e)
+
+  module _ (form : List Event → Type 0) (r r' : Option (List Run)) (boot : Bool) (outcome : Outcome) (formed : (events : List Event) → IsUnopened boot outcome events → form events) (same : r' ≡ r) where
+    same_runs : (X Y : World) → Y.runs ≡ X.runs → Moves r r' (λ a b. a ≡ X.runs → b ≡ Y.runs)
+    same_runs X Y e = moves_same same (λ s was. was ∙ sym e)
+
+    failing_runs : (taken : Bool) → (next I W (Opened boot (Failing taken))).runs ≡ W.runs
+    unfolding opened
+    failing_runs true = refl
+    failing_runs false = refl
+
+    not_run : ((outcome ≡ Err refused.Disk) ⊎ (outcome ≡ Err refused.Memory)) → OpensNot I folder W W boot old new → IsRun I W form r r' old new
+    not_run told not = record {
+      events = Opened boot (Failing not.taken) ∷ [];
+      form_is = formed _ (inl (not.taken, refl, told));
+      runs_to = whole I good folder W (Opened boot (Failing not.taken) ∷ []) old new not.other not.disk not.late (failed_each boot not.taken) not.moments;
+      ran = same_runs W (after I W (Opened boot (Failing not.taken) ∷ [])) (failing_runs not.taken);
+    }
+
+    kept_run : (e : OpenError) → IsRefusal e → outcome ≡ Err (not_opened e) → Opens boot (Err e) old new → IsRun I W form r r' old new
+    kept_run e refusal told opens =
+        let kept : IsKeptAt I folder W W old new = refusals_keep I folder W W boot e old new disk_at refusal opens in
+        record {
+          events = [];
+          form_is = formed [] (inr (refl, e, refusal, told));
+          runs_to = whole I good folder W [] old new W kept.disk (Before refl refl) none_each kept.moments;
+          ran = same_runs W W refl;
+        }
+
+    -- It is a run of the failed opening, or of no event.
+    pub unopened_run : (e : OpenError) → outcome ≡ Err (not_opened e) → Opens boot (Err e) old new → IsRun I W form r r' old new
+    unopened_run opening.Failed told opens = not_run (inl told) (openings_run I good folder is W W boot (Err opening.Failed) old new disk_at (ap is_running begins.idle) opens begins.typed)
+    unopened_run opening.Memory told opens = not_run (inr told) (openings_run I good folder is W W boot (Err opening.Memory) old new disk_at (ap is_running begins.idle) opens begins.typed)
+    unopened_run opening.NoStore told opens = kept_run opening.NoStore tt told opens
+    unopened_run (opening.BadLink path) told opens = kept_run (opening.BadLink path) tt told opens
+    unopened_run (opening.BadJournal path) told opens = kept_run (opening.BadJournal path) tt told opens
+    unopened_run (opening.Damaged path) told opens = kept_run (opening.Damaged path) tt told opens
+    unopened_run (opening.OldFormat directory) told opens = kept_run (opening.OldFormat directory) tt told opens
+    unopened_run (opening.BadImage file kind at) told opens = kept_run (opening.BadImage file kind at) tt told opens
+    unopened_run (opening.IllTyped key) told opens = kept_run (opening.IllTyped key) tt told opens
+
+  -- The opening runs no program.
+  opened_runs : (boot : Bool) → (opened I W boot).runs ≡ W.runs
+  unfolding opened
+  opened_runs boot = refl
+
+  runs_after : (boot : Bool) (es : List Event) (r r' : Option (List Run)) → RunsBy I (opened I W boot) es r r' → RunsBy I W (Opened boot Succeeded ∷ es) r r'
+  runs_after boot es r r' moves = subst (λ (rs : List Run). Moves r r' (λ a b. a ≡ rs → b ≡ (after I (opened I W boot) es).runs)) (opened_runs boot) moves
+
+  -- ---- requests
+
+  module _ (qs : List Request) (Tells : World → List ℕ → Type 0) (outcome : Outcome) (r r' : Option (List Run)) where
+    goes : (store : answer.Opened) → GoesOn I folder W W qs Tells store outcome r r' old new → IsRun I W (RequestEvents I W qs Tells outcome) r r' old new
+    goes store on =
+        let f = on.follows in
+        record {
+          events = Opened false Succeeded ∷ (f.asked ++ f.turned);
+          form_is = inl (f.asked, f.turned, refl, f.comes);
+          runs_to = runs_to I good folder W false (f.asked ++ f.turned) old on.between new store.place store.held (core_over store) f.now begins.starts on.opens
+              (comes_served I (opened I W false) qs Tells outcome f.asked f.turned f.comes) f.made;
+          ran = runs_after false (f.asked ++ f.turned) r r' f.runs;
+        }
+
+    pub by_opening : (result : Result answer.Opened OpenError) → IfErr result (λ e. outcome ≡ Err (not_opened e)) → OnErr result (r' ≡ r) → Makes qs Tells result outcome r r' old new
+        → IsRun I W (RequestEvents I W qs Tells outcome) r r' old new
+    by_opening (Ok store) told same makes = goes store (makes.each I good folder is W W disk_at begins.idle)
+    by_opening (Err e) told same makes = unopened_run (RequestEvents I W qs Tells outcome) r r' false outcome (λ events un. inr un) same e told makes.unopened
+
+  -- ---- serve
+
+  module _ (boot : Bool) (slice : Option ℕ) (x x' : Option (List Exchange)) (outcome : Outcome) (r r' : Option (List Run)) (fine : Bool) where
+    serves_on : (store : answer.Opened) → outcome ≡ served fine → OpensAndServes I folder W W boot slice fine store x x' r r' old new
+        → IsRun I W (ServeEvents I W boot slice x x' outcome) r r' old new
+    serves_on store told on =
+        let s = on.serves in
+        record {
+          events = Opened boot Succeeded ∷ s.events;
+          form_is = inl (fine, s.rounds, s.events, refl, s.are, s.exchanged, told);
+          runs_to = runs_to I good folder W boot s.events old on.between new store.place store.held (core_over store) s.now begins.starts on.opens
+              (all_served I slice boot fine false (opened I W boot) s.rounds s.events s.are) s.made;
+          ran = runs_after boot s.events r r' s.runs;
+        }
+
+    pub by_serving : (result : Result answer.Opened OpenError) → OnOk result (outcome ≡ served fine) → IfErr result (λ e. outcome ≡ Err (not_opened e))
+        → OnErr result ((x' ≡ x) × (r' ≡ r)) → Serves boot slice fine result x x' r r' old new → IsRun I W (ServeEvents I W boot slice x x' outcome) r r' old new
+    by_serving (Ok store) ok told same serves = serves_on store ok (serves.each I good folder is W W disk_at begins.idle)
+    by_serving (Err e) ok told same serves = unopened_run (ServeEvents I W boot slice x x' outcome) r r' boot outcome (λ events un. inr un) same.1 e told serves.unopened
+
+pub requests_run : (qs : List Request) (Tells : World → List ℕ → Type 0) → RequestsRun qs Tells
+requests_run qs Tells I good folder is W outcome r r' old new begins carries =
+    by_opening I good folder is W old new begins qs Tells outcome r r' carries.opening carries.hands carries.unspawned carries.makes.told
+
+pub sets_run : SetsRun
+sets_run pairs = requests_run (set_requests pairs) IsSettingsLine
+
+pub applies_run : AppliesRun
+applies_run = requests_run apply_requests IsJobLine
+
+pub serves_run : ServesRun
+serves_run I good folder is W boot slice x x' outcome r r' old new begins serves =
+    by_serving I good folder is W old new begins boot slice x x' outcome r r' serves.fine serves.opening serves.answers serves.hands serves.unserved serves.makes.told
+
+-- ---- get
+
+opened_job : (I : Image) (W : World) → W.job ≡ Idle → Idle ≡ (opened I W false).job
+unfolding opened
+opened_job I W idle = sym (ap (λ (j : Job). noting j (added_keys I.defaults.values W.held.live.values)) idle)
+
+module _ (I : Image) (good : IsGood I) (folder : Folder) (is : IsImageOfFolder I folder) (W : World) (old new : History) (begins : Begins I folder W old)
+    (keys : List (List (List ℕ))) (outcome : Outcome) (r : Option (List Run)) where
+  gets : (result : Result answer.Opened OpenError) → Opens false result old new → AnswersOpening keys result outcome → IsRun I W (GetEvents I W keys outcome) r r old new
+  gets (Ok store) opens answers =
+      let run : OpensTo I folder W W false store.place store.held old new × HoldsImage I store.image =
+      openings_run I good folder is W W false (Ok store) old new (disk_at I good folder is W old new begins) (ap is_running begins.idle) opens in
+      let kept : Kept I folder (opened I W false) (opened I W false) new (core_over store) =
+      opens_kept I folder W W false store.place store.held old new (core_over store) run.0 refl refl (opened_job I W begins.idle) refl in
+      record {
+        events = Opened false Succeeded ∷ [];
+        form_is = inl (refl, subst (λ (h : Held). Answers h.live.values keys outcome) (sym (core_holds I folder (opened I W false) (opened I W false) new (core_over store) kept refl)) answers);
+        runs_to = runs_to I good folder W false [] old new new store.place store.held (core_over store) (core_over store) begins.starts run.0 refl
+            (ran_none I folder (opened I W false) (opened I W false) new (core_over store) kept);
+        ran = moves_same refl (λ s was. was ∙ sym (opened_runs I good folder is W old new begins false));
+      }
+  gets (Err e) opens told = unopened_run I good folder is W old new begins (GetEvents I W keys outcome) r r false outcome (λ events un. inr un) refl e told opens
+
+pub gets_run : GetsRun
+gets_run I good folder is W keys outcome r old new begins got = gets I good folder is W old new begins keys outcome r got.result got.opens.told got.answers

@@ -1,0 +1,4 @@
+pub mod Whole
+pub mod Served
+pub mod Commands
+pub mod Moves

@@ -1,0 +1,118 @@
+-- The events of an open store are openings, requests and turns.
+use Rattle.std.proofs.Common.{◌≡◌, inl, inr, ◌&&◌, ℕ, Bool, true, false, List, [], ◌∷◌, ◌++◌, Option, Some, None, Result, Ok, Err, refl, sym, ◌∙◌, ap, subst}
+use Rattle.settings_machine.specs.World.{Image, World, Job}
+use Rattle.settings_machine.specs.Requests.{Request, Reply}
+use Rattle.settings_machine.specs.Step.{Outcome, Answered, WithoutMemory, Unopened, Faulted}
+use Rattle.settings_machine.specs.Events.{Event, Opening, Succeeded, Failing, Opened, Asked, Unread, are_served, after, faulted_after}
+use Rattle.settings_machine.proofs.Sequences.{served-append}
+use Rattle.machine_disk.specs.Ran.{Reopens, Handled, IsDriven}
+use Rattle.machine_disk.proofs.Runs.{slice_served, driven_served}
+use Rattle.core_turns.specs.Turned.{AreTurns}
+use Rattle.core_commands.specs.Asking.{asked_all, Succeeds, Stops}
+use Rattle.core_commands.specs.Carried.{HasStopped, HasEnded, Comes}
+use Rattle.api_server.specs.Exchanged.{Said, Nothing, OutOfMemory, Unread as Refused, Replied}
+use Rattle.api_server.specs.Rounds.{AsksFor, Round, AreRounds, events_of_round, events_of}
+use Rattle.api_server.specs.Serving.{AreBooted, AreLast, AreServed}
+use Rattle.command_outcome.specs.declared.refusal.Refusal.{Refusal}
+use Rattle.command_outcome.specs.declared.refusal.Refusal.TheVariants as refused
+
+-- Both parts are.
+pub both : (es fs : List Event) → are_served es ≡ true → are_served fs ≡ true → are_served (es ++ fs) ≡ true
+both es fs one two = served-append es fs ∙ ap (λ (b : Bool). b && are_served fs) one ∙ two
+
+-- ---- requests
+
+asked_served : (qs : List Request) → are_served (asked_all qs) ≡ true
+asked_served [] = refl
+asked_served (q ∷ qs) = asked_served qs
+
+succeeds_served : (I : Image) (W : World) (qs : List Request) (es : List Event) → Succeeds I W qs es → are_served es ≡ true
+succeeds_served I W qs es is = ap are_served is.events_are ∙ asked_served qs
+
+stops_served : (I : Image) (W : World) (qs : List Request) (reply : Reply) (es : List Event) → Stops I W qs reply es → are_served es ≡ true
+stops_served I W qs reply es is = ap are_served is.events_are ∙ both (asked_all is.first) (Asked is.last is.outcome ∷ []) (asked_served is.first) refl
+
+module _ (I : Image) (W : World) (qs : List Request) where
+  stopped : (reply : Reply) (asked turned : List Event) → HasStopped I W qs reply asked turned → are_served (asked ++ turned) ≡ true
+  stopped reply asked turned is = both asked turned (stops_served I W qs reply asked is.stops) (ap are_served is.no_turns)
+
+  ended : (job : Job) (asked turned : List Event) → HasEnded I W qs job asked turned → are_served (asked ++ turned) ≡ true
+  ended job asked turned is = both asked turned (succeeds_served I W qs asked is.succeeds) (driven_served I (after I W asked) turned is.driven)
+
+  -- What a command comes to.
+  pub comes_served : {T : Type 0} (Tells : World → T → Type 0) (result : Result T Refusal) (asked turned : List Event) → Comes I W qs Tells result asked turned → are_served (asked ++ turned) ≡ true
+  comes_served Tells (Ok said) asked turned comes = ended _ asked turned comes.0
+  comes_served Tells (Err (refused.Refused status body)) asked turned comes = stopped _ asked turned comes.stopped
+  comes_served Tells (Err (refused.Spawn name)) asked turned comes = ended _ asked turned comes
+  comes_served Tells (Err (refused.Render file error)) asked turned comes = ended _ asked turned comes
+  comes_served Tells (Err (refused.Status service number)) asked turned comes = ended _ asked turned comes
+  comes_served Tells (Err refused.Disk) asked turned (inl is) = stopped _ asked turned is
+  comes_served Tells (Err refused.Disk) asked turned (inr is) = ended _ asked turned is
+  comes_served Tells (Err refused.Memory) asked turned (inl (inl is)) = stopped _ asked turned is
+  comes_served Tells (Err refused.Memory) asked turned (inl (inr is)) = stopped _ asked turned is.1
+  comes_served Tells (Err refused.Memory) asked turned (inr is) = ended _ asked turned is.1
+  comes_served Tells (Err refused.Usage) asked turned comes = absurd comes
+  comes_served Tells (Err refused.Door) asked turned comes = absurd comes
+  comes_served Tells (Err refused.NoStore) asked turned comes = absurd comes
+  comes_served Tells (Err (refused.Damaged path)) asked turned comes = absurd comes
+  comes_served Tells (Err (refused.BadLink path)) asked turned comes = absurd comes
+  comes_served Tells (Err (refused.BadJournal path)) asked turned comes = absurd comes
+  comes_served Tells (Err (refused.BadImage file kind at)) asked turned comes = absurd comes
+  comes_served Tells (Err (refused.IllTyped key)) asked turned comes = absurd comes
+  comes_served Tells (Err (refused.NotCovered lines)) asked turned comes = absurd comes
+  comes_served Tells (Err (refused.Missing at target)) asked turned comes = absurd comes
+  comes_served Tells (Err (refused.Conflict key)) asked turned comes = absurd comes
+  comes_served Tells (Err (refused.AlreadyThere version)) asked turned comes = absurd comes
+  comes_served Tells (Err (refused.OldFormat directory)) asked turned comes = absurd comes
+  comes_served Tells (Err (refused.MigrationStatus name number)) asked turned comes = absurd comes
+  comes_served Tells (Err (refused.MigrationOutput name)) asked turned comes = absurd comes
+  comes_served Tells (Err refused.NotBuilt) asked turned comes = absurd comes
+
+-- ---- connections
+
+reopens_served : (faulted : Bool) (o : Outcome) (first : List Event) → Reopens faulted o first → are_served first ≡ true
+reopens_served false Answered first is = ap are_served is
+reopens_served false WithoutMemory first is = ap are_served is
+reopens_served false (Faulted taken) first is = ap are_served is
+reopens_served false (Unopened at) first is = absurd is
+reopens_served true (Unopened at) first is = ap are_served is
+reopens_served true Answered first is = ap are_served is
+reopens_served true WithoutMemory first is = ap are_served is.1
+reopens_served true (Faulted taken) first is = ap are_served is.1
+
+handled_served : (I : Image) (faulted : Bool) (W : World) (q : Request) (reply : Reply) (es : List Event) → Handled I faulted W q reply es → are_served es ≡ true
+handled_served I faulted W q reply es is = ap are_served is.made ∙ both is.first (Asked q is.outcome ∷ []) (reopens_served faulted is.outcome is.first is.reopens) refl
+
+turns_served : (I : Image) (slice : Option ℕ) (W : World) (es : List Event) → AreTurns I slice W es → are_served es ≡ true
+turns_served I None W es are = driven_served I W es are
+turns_served I (Some n) W es are = slice_served I n W es are
+
+module _ (I : Image) (slice : Option ℕ) where
+  asks_served : (faulted : Bool) (W : World) (said : Said) (es : List Event) → AsksFor I faulted W said es → are_served es ≡ true
+  asks_served faulted W Nothing es is = ap are_served is
+  asks_served faulted W OutOfMemory es is = ap are_served is
+  asks_served faulted W (Refused r) es is = ap are_served is
+  asks_served faulted W (Replied q reply) es is = handled_served I faulted W _ reply es is.handled
+
+  rounds_served : (faulted : Bool) (W : World) (rounds : List Round) → AreRounds I slice faulted W rounds → are_served (events_of rounds) ≡ true
+  rounds_served faulted W [] are = refl
+  rounds_served faulted W (r ∷ rounds) are =
+      both (r.asked ++ r.turned) (events_of rounds)
+      (both r.asked r.turned (asks_served faulted W r.said r.asked are.0.asks) (turns_served I slice (after I W r.asked) r.turned are.0.turns))
+      (rounds_served (faulted_after faulted (events_of_round r)) (after I W (events_of_round r)) rounds are.1)
+
+  booted_served : (boot faulted : Bool) (W : World) (es : List Event) → AreBooted boot I slice faulted W es → are_served es ≡ true
+  booted_served false faulted W es is = ap are_served is
+  booted_served true faulted W es is =
+      ap are_served is.whole ∙ both is.asked is.turned (handled_served I faulted W _ is.reply is.asked is.request.handled) (turns_served I slice (after I W is.asked) is.turned is.turns)
+
+  last_served : (fine : Bool) (W : World) (es : List Event) → AreLast fine I W es → are_served es ≡ true
+  last_served true W es is = driven_served I W es is
+  last_served false W es is = ap are_served is
+
+  -- What is served.
+  pub all_served : (boot fine faulted : Bool) (W : World) (rounds : List Round) (es : List Event) → AreServed I slice boot fine faulted W rounds es → are_served es ≡ true
+  all_served boot fine faulted W rounds es is =
+      ap are_served is.whole
+      ∙ both is.booted (events_of rounds ++ is.last) (booted_served boot faulted W is.booted is.boots)
+      (both (events_of rounds) is.last (rounds_served (faulted_after faulted is.booted) (after I W is.booted) rounds is.are) (last_served fine _ is.last is.ends))

@@ -1,0 +1,122 @@
+-- Laws of commands: the run of the machine that each makes, crash included.
+use Rattle.std.specs.Prelude.{◌≡◌, ◌⊎◌, ℕ, Bool, true, false, List, [], ◌∷◌, ◌++◌, Option, Some, Ok, Err}
+use Rattle.outside.specs.Exchange.{Exchange}
+use Rattle.outside.specs.History.{History, tree_of}
+use Rattle.outside.specs.Names.{Names}
+use Rattle.outside.specs.Spawner.{Run, Question}
+use Rattle.outside.specs.Told.{Moves}
+use Rattle.json_trees.specs.declared.scalar.Scalar.{Scalar}
+use Rattle.settings_machine.specs.World.{Key, Image, World, Idle}
+use Rattle.settings_machine.specs.Requests.{Request}
+use Rattle.settings_machine.specs.Step.{opened}
+use Rattle.settings_machine.specs.Events.{Event, Opened, Succeeded, Failing, Began, next}
+use Rattle.settings_machine.specs.Paid.{IsGood}
+use Rattle.settings_machine.specs.Typed.{IsTypedHeld}
+use Rattle.machine_disk.specs.Kept.{Folder}
+use Rattle.machine_disk.specs.Ran.{RunsTo, Starts}
+use Rattle.machine_disk.specs.Store.{is_image, bytes_at}
+use Rattle.store_open.specs.Laws.{IsImageOfFolder, IsRefusal}
+use Rattle.store_open.specs.declared.open_error.OpenError.{OpenError}
+use Rattle.command_outcome.specs.Ends.{Outcome}
+use Rattle.command_outcome.specs.declared.refusal.Refusal.TheVariants as refused
+use Rattle.core_commands.specs.Carried.{set_requests, apply_requests, Comes, RunsBy, CarriesOut}
+use Rattle.core_commands.specs.Lines.{IsSettingsLine, IsJobLine}
+use Rattle.core_commands.specs.Handing.{not_opened}
+use Rattle.api_server.specs.Rounds.{Round, AreExchanged}
+use Rattle.api_server.specs.Serving.{AreServed}
+use Rattle.version_links.specs.declared.version.Version.{Version}
+use Rattle.release_file.specs.declared.release.Release.{Release}
+use Rattle.migrate_chain.specs.Tasks.{Mapped}
+use Rattle.store_events.specs.Laws.{IsBare, IsBeginning, HasBegun, HasMoved}
+use Rattle.settings_cmd.specs.Carried.{IsBegun, IsGot, IsMigrated}
+use Rattle.settings_cmd.specs.Gets.{Answers}
+use Rattle.settings_cmd.specs.Serving.{served, IsServed}
+
+-- Before a run: the disk is settled and at W, which is paid and typed; the job is idle; and the files of the image's folder are these.
+pub record Begins (I : Image) (folder : Folder) (W : World) (h : History) : Type 0 where
+  pub starts : Starts I W h
+  pub idle : W.job ≡ Idle
+  pub typed : IsTypedHeld I.types W.held
+  pub image : (path : Names) → is_image path ≡ true → bytes_at (tree_of h) path ≡ folder path
+
+-- Events of this form were made, crash included, and the programs that were run are those of the events.
+pub record IsRun (I : Image) (W : World) (form : List Event → Type 0) (ran_before ran_after : Option (List Run)) (old new : History) : Type 0 where
+  pub events : List Event
+  pub form_is : form events
+  pub runs_to : RunsTo I W events old new
+  pub ran : RunsBy I W events ran_before ran_after
+
+-- The store was not opened: the disk failed or memory was wanting, and the opening was taken or not; or what stands there was refused,
+-- and there is no event.
+abbrev pub IsUnopened : Bool → Outcome → List Event → Type 0
+IsUnopened boot outcome events =
+    ((taken : Bool) × (events ≡ Opened boot (Failing taken) ∷ []) × ((outcome ≡ Err refused.Disk) ⊎ (outcome ≡ Err refused.Memory)))
+    ⊎ ((events ≡ []) × (e : OpenError) × IsRefusal e × (outcome ≡ Err (not_opened e)))
+
+-- ---- commands that ask requests
+
+-- The opening, the requests, and turns until no job runs, by what the command came to; or the store was not opened.
+abbrev pub RequestEvents : Image → World → List Request → (World → List ℕ → Type 0) → Outcome → List Event → Type 0
+RequestEvents I W qs Tells outcome events =
+    ((asked turned : List Event) × (events ≡ Opened false Succeeded ∷ (asked ++ turned)) × Comes I (opened I W false) qs Tells outcome asked turned)
+    ⊎ IsUnopened false outcome events
+
+-- A command that opens the store, asks these requests, drives the job to its end and tells this of the last world is a run of these events.
+abbrev pub RequestsRun : List Request → (World → List ℕ → Type 0) → Type 0
+RequestsRun qs Tells = (I : Image) → IsGood I → (folder : Folder) → IsImageOfFolder I folder → (W : World) (outcome : Outcome) (ran_before ran_after : Option (List Run))
+    (old new : History) → Begins I folder W old → CarriesOut qs Tells outcome ran_before ran_after (Some old) (Some new)
+    → IsRun I W (RequestEvents I W qs Tells outcome) ran_before ran_after old new
+
+-- So a `set` is, with the tree of the live settings of the last world,
+abbrev pub SetsRun : Type 0
+SetsRun = (pairs : List (Key × Scalar)) → RequestsRun (set_requests pairs) IsSettingsLine
+
+-- and an `apply`, with its job and what is owed.
+abbrev pub AppliesRun : Type 0
+AppliesRun = RequestsRun apply_requests IsJobLine
+
+-- ---- serve
+
+-- The opening, and what is served from the opened world on, with the bytes of each connection; or the store was not opened.
+abbrev pub ServeEvents : Image → World → Bool → Option ℕ → Option (List Exchange) → Option (List Exchange) → Outcome → List Event → Type 0
+ServeEvents I W boot slice x x' outcome events =
+    ((fine : Bool) × (rounds : List Round) × (later : List Event) × (events ≡ Opened boot Succeeded ∷ later) × AreServed I slice boot fine false (opened I W boot) rounds later
+    × Moves x x' (AreExchanged rounds) × (outcome ≡ served fine))
+    ⊎ IsUnopened boot outcome events
+
+-- A `serve` is a run of these events.
+abbrev pub ServesRun : Type 0
+ServesRun = (I : Image) → IsGood I → (folder : Folder) → IsImageOfFolder I folder → (W : World) (boot : Bool) (slice : Option ℕ) (x x' : Option (List Exchange)) (outcome : Outcome)
+    (ran_before ran_after : Option (List Run)) (old new : History) → Begins I folder W old
+    → IsServed boot slice x x' ran_before ran_after outcome (Some old) (Some new) → IsRun I W (ServeEvents I W boot slice x x' outcome) ran_before ran_after old new
+
+-- ---- get
+
+-- The opening, of whose world it is answered; or the store was not opened.
+abbrev pub GetEvents : Image → World → List (List (List ℕ)) → Outcome → List Event → Type 0
+GetEvents I W keys outcome events =
+    ((events ≡ Opened false Succeeded ∷ []) × Answers (opened I W false).held.live.values keys outcome) ⊎ IsUnopened false outcome events
+
+-- A `get` is a run of these events.
+abbrev pub GetsRun : Type 0
+GetsRun = (I : Image) → IsGood I → (folder : Folder) → IsImageOfFolder I folder → (W : World) (keys : List (List (List ℕ))) (outcome : Outcome) (r : Option (List Run))
+    (old new : History) → Begins I folder W old → IsGot keys outcome (Some old) (Some new) → IsRun I W (GetEvents I W keys outcome) r r old new
+
+-- ---- init and migrate
+
+-- An `init` that answers is the event `Began`: the disk has the world after it, which is paid, and so has what a crash at the end leaves; a crash at any moment
+-- leaves no store, or what recovers to that world.
+abbrev pub InitsRun : Type 0
+InitsRun = (I : Image) → IsGood I → (W : World) (version : Version) (line : List ℕ) (old new : History) → IsBare W old → IsBegun version (Ok line) (Some old) (Some new)
+    → IsBeginning I (next I W (Began version)) old new × HasBegun I (next I W (Began version)) new
+
+-- What a `migrate` has moved by: the release of the image, and what its mapper kept.
+pub record IsMoveBy (I : Image) (W : World) (to : Version) (old new : History) : Type 0 where
+  pub release : Release
+  pub mapped : List Mapped
+  pub moved : HasMoved I W to release.transitions.items release.migrations.items (Some []) (Some mapped) old new
+
+-- A `migrate` that answers is one event of the machine, or none where the store was at the version in format 2, crash included.
+abbrev pub MigratesRun : Type 0
+MigratesRun = (I : Image) → IsGood I → (W : World) (to : Version) (a a' : Option (List Question)) (line : List ℕ) (old new : History) → Starts I W old
+    → IsMigrated to a a' (Ok line) (Some old) (Some new) → IsMoveBy I W to old new
