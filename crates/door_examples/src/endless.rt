@@ -5,19 +5,19 @@ ghost use Rattle.outside.specs.Door.{Accepts, Opens, LastBy, finished};
 ghost use Rattle.outside.specs.Told.{Moves};
 ghost use Rattle.outside.specs.Faults.{HasCause};
 
-use api_http::Ask;
-use door_requests::{Heard, hear};
 use outside::{Door, Failed};
-use std::test::Fail;
 
 const FRONT: &[u8; 53] = b"POST /tx/apply HTTP/1.1\r\nContent-Length: 1048576\r\nA: ";
 
-// A door with one connection at hand: a head of 16,384 bytes, and a body without end. Its reads give at most 1,000 bytes.
+/// A door with one connection at hand: a head of 16,384 bytes, and a body without end. Its reads give at most 1,000 bytes.
 #[derive(Drop)]
-struct Endless {
-    given: usize,
-    ended: bool,
-    busy: bool,
+pub struct Endless {
+    /// How many bytes were given.
+    pub given: usize,
+    /// Whether it was asked for another connection.
+    pub ended: bool,
+    /// Whether the connection is still at hand.
+    pub busy: bool,
 }
 
 // The byte at this place of the input.
@@ -63,20 +63,4 @@ impl Door for Endless {
     fn finish(&mut self) {
         self.busy = false;
     }
-}
-
-// The head has as many bytes as a head may have, and the body as many as a body may have.
-#[test]
-fn no_more_is_read_than_a_request_may_have(rt: HostRuntime) -> Result<(), Fail> {
-    let mut door = Endless {
-        given: 0,
-        ended: false,
-        busy: true,
-    };
-    match hear(rt.alloc(), &mut door) {
-        Heard::Asked { ask: Ask::Apply } => {}
-        _ => return Err(Fail::new("not asked")),
-    }
-    assert_eq!(rt; door.given, 1_064_960);
-    Ok(())
 }

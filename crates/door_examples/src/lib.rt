@@ -4,5 +4,8 @@
 
 #[cfg(test)]
 mod connections;
-#[cfg(test)]
 mod endless;
+#[cfg(test)]
+mod limits;
+
+pub use endless::Endless;
