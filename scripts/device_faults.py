@@ -35,7 +35,7 @@ def calls_of(program, base):
 def check(program, base, call, number, error):
     folder = tempfile.mkdtemp(dir=base)
     inject = f"inject={call}:error={error}:when={number}"
-    status, said = run(program, folder, "strace", "-f", "-o", "/dev/null", "-e", "trace=none", "-e", inject)
+    status, said = run(program, folder, "strace", "-f", "-o", "/dev/null", "-e", f"trace={call}", "-e", inject)
     whole = os.path.exists(os.path.join(folder, ".links", "store", "current"))
     if status == 127 or (status not in LINES and status != 12):
         return f"status {status}"
