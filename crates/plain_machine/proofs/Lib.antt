@@ -3,3 +3,4 @@ pub mod PathMaps
 pub mod RequestsAnswered
 pub mod TurnsMade
 pub mod TypedHeld
+pub mod StoreOpened

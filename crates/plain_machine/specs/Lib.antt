@@ -2,3 +2,4 @@ pub mod Worlds
 pub mod Steps
 pub mod Jobs
 pub mod Turns
+pub mod Openings

@@ -8,6 +8,8 @@ mod files;
 mod image;
 mod job_steps;
 mod machine;
+mod opening;
+mod opening_answer;
 mod ran;
 mod todo;
 mod transactions;
@@ -16,5 +18,6 @@ mod turns;
 
 pub use image::PlainImage;
 pub use machine::PlainMachine;
+pub use opening_answer::OpeningAnswer;
 pub use ran::Ran;
 pub use turn_answer::TurnAnswer;

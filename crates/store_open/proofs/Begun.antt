@@ -26,6 +26,7 @@ use Rattle.version_links.specs.Names.{Target, store, directory, directory_name, 
 use Rattle.version_links.specs.Chain.{nowhere, found, bad, LeadsTo, Resolves}
 use Rattle.version_links.specs.Fresh.{IsFree}
 use Rattle.version_links.specs.Flip.{Flips, IsLinkTo, ResolvesToEither}
+use Rattle.version_links.proofs.Chains.{resolves_one}
 use Rattle.version_links.proofs.Turns.{same_outcome}
 use Rattle.machine_disk.specs.Store.{HoldsIn}
 use Rattle.store_open.specs.World.{HasWorld, IsAtRest}
@@ -195,6 +196,7 @@ nothing_begun version f h bad_is there_is = record {
       (λ image is. inl (same_outcome image (tree_of h) (record { same = λ p inside. settled.at p inside (node_at image p) (is p) }) nowhere none));
   done = tt;
   others = only_below (codes "store" ∷ []) h h (goes_stay (IsAtOrSync (IsBelow (codes "store" ∷ []))) h);
+  still = λ other path led. refl;
   there = λ other is. let t = there_is other (one_error f (refused.AlreadyThere other) is) in (t.0, t.1, refl);
   bad_link = λ path is. (bad_is path (one_error f (refused.BadLink path) is), refl);
 }
@@ -209,6 +211,7 @@ begun_of target version is result old new places free none = record {
       (λ image. Resolves image nowhere ⊎ HasBegun version image) old new way (places.any_moment settled free nowhere_is);
   done = by result places.done;
   others = only_below (codes "store" ∷ []) old new places.touches;
+  still = λ other path led. absurd (found_no_nowhere other path (resolves_one (tree_of old) nowhere (found other path) none led));
   there = λ other same. absurd (no_there result places.plain other same);
   bad_link = λ path same. absurd (no_bad result places.plain path same);
 }
@@ -216,6 +219,9 @@ begun_of target version is result old new places free none = record {
     way : (image : Tree) → Resolves image nowhere ⊎ HasWorld (first_world target) image → Resolves image nowhere ⊎ HasBegun version image
     way image (inl n) = inl n
     way image (inr w) = inr (record { target = target; version_is = is; world = w })
+
+    found_no_nowhere : (other : Version) (path : Names) → nowhere ≡ found other path → ⊥
+    found_no_nowhere other path is = cc is
 
     by : (r : Result Unit InitError) → OnOk r (IsFree (tree_of old) target → IsAtRest (first_world target) new)
         → OnOk r (Resolves (tree_of old) nowhere × IsBegun version new)

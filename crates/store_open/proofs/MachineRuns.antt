@@ -191,20 +191,24 @@ module _ (I : Image) (good : IsGood I) (folder : Folder) (is : IsImageOfFolder I
 
   -- ---- one that failed
 
-  failed : (e : OpenError) → Opens boot (Err e) old new → IsTypedHeld I.types W.held → OpensNot I folder W V boot old new
-  failed e opens typed = by (opens.refused before there) where
+  -- It was taken only of a typed world.
+  failed : (e : OpenError) → Opens boot (Err e) old new → OpensNot I folder W V boot old new
+  failed e opens = by (opens.refused before there) where
     place : Place
     place = record { version = W.version; directory = disk_at.store.directory }
 
     others : FromSyncOn (ChangesOnlyBelow disk_at.store.directory) old new
     others = opens.others W.version disk_at.store.directory disk_at.store.resolves
 
+    typed : HasOpened boot (tree_of old) before (tree_of new) → IsTypedHeld I.types W.held
+    typed has = subst (λ (t : List Row). IsTypedHeld t W.held) (holds (tree_of old) alike_old has.image has.read).types_are has.typed
+
     by : IsNotTaken before old new ⊎ (HasOpened boot (tree_of old) before (tree_of new) × (◌≡◌ {A = Result Opened OpenError} (Err e) (Err refused.Failed)))
         → OpensNot I folder W V boot old new
-    by (inl not) = opens_not_taken I good folder W V boot old new disk_at place disk_at.store.resolves others typed idle
+    by (inl not) = opens_not_taken I good folder W V boot old new disk_at place disk_at.store.resolves others
         (store_before (tree_of new) not.tree) (from_sync (HasWorld before) (HasStore W) store_before not.images)
-    by (inr taken) = opens_taken I good folder W V boot old new disk_at place disk_at.store.resolves others typed idle (store_opened (tree_of new) taken.0)
-        (moments (Err e) opens)
+    by (inr taken) = opens_taken I good folder W V boot old new disk_at place disk_at.store.resolves others (typed taken.0) idle
+        (store_opened (tree_of new) taken.0) (moments (Err e) opens)
 
   -- ---- one that was refused
 

@@ -37,8 +37,9 @@ pub record Begins (version : Version) (result : Result (Unit {0}) InitError) (ol
   pub any_moment : IsSettledOn is_in_store old → Resolves (tree_of old) nowhere → EachSince (λ image. Resolves image nowhere ⊎ HasBegun version image) old new
   -- After Ok no store was there, and its first world is on the disk.
   pub done : OnOk result (Resolves (tree_of old) nowhere × IsBegun version new)
-  -- Nothing changes but in the store.
+  -- Nothing changes but in the store, and nothing at all where a store is there already.
   pub others : ChangesOnlyBelow (codes "store" ∷ []) old new
+  pub still : (other : Version) (path : Names) → Resolves (tree_of old) (found other path) → new ≡ old
   -- A store is there, of this version.
   pub there : (other : Version) → IsErrOf result (refused.AlreadyThere other) → (path : Names) × Resolves (tree_of old) (found other path) × (new ≡ old)
   -- A link is bad.

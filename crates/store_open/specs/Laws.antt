@@ -12,7 +12,6 @@ use Rattle.settings_machine.specs.World.{Image, World, is_running}
 use Rattle.settings_machine.specs.Opening.{opened_held}
 use Rattle.settings_machine.specs.Paid.{IsGood}
 use Rattle.settings_machine.specs.Seen.{Holds}
-use Rattle.settings_machine.specs.Typed.{IsTypedHeld}
 use Rattle.machine_disk.specs.Kept.{Folder, DiskAt}
 use Rattle.machine_disk.specs.Ran.{OnTheWay, OpensTo, OpensNot}
 use Rattle.store_open.specs.World as stored
@@ -54,8 +53,8 @@ pub record IsKeptAt (I : Image) (folder : Folder) (W V : World) (old new : Histo
 -- store is of format 1 or ill typed, and all that was done is that its journal was carried out. No other refusal comes.
 abbrev pub HasRun : Image → Folder → World → World → Bool → Result Opened OpenError → History → History → Type 0
 HasRun I folder W V boot (Ok store) old new = OpensTo I folder W V boot store.place store.held old new × HoldsImage I store.image
-HasRun I folder W V boot (Err refused.Failed) old new = IsTypedHeld I.types W.held → OpensNot I folder W V boot old new
-HasRun I folder W V boot (Err refused.Memory) old new = IsTypedHeld I.types W.held → OpensNot I folder W V boot old new
+HasRun I folder W V boot (Err refused.Failed) old new = OpensNot I folder W V boot old new
+HasRun I folder W V boot (Err refused.Memory) old new = OpensNot I folder W V boot old new
 HasRun I folder W V boot (Err (refused.OldFormat directory)) old new = (W.format ≡ 1) × IsKeptAt I folder W V old new
 HasRun I folder W V boot (Err (refused.IllTyped key)) old new = IsIllTyped I.types W.held key × IsKeptAt I folder W V old new
 HasRun I folder W V boot (Err _) old new = ⊥

@@ -5,5 +5,4 @@ pub mod Opening
 pub mod Beginning
 pub mod Handing
 pub mod Phases
-pub mod Entries
 pub mod Laws

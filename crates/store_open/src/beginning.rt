@@ -41,7 +41,8 @@ fn put_first<D: Disk>(alloc: Global, disk: &mut D, names: &Names) -> Result<(), 
 ///
 /// Where no store is there and the disk is settled, a crash leaves no store or the new one, whole; after Ok it is on the
 /// disk. `AlreadyThere` exactly where the links lead to a data directory, with its version; `BadLink` where a link of the
-/// chain is missing or bad; then nothing is changed. `Failed` where the disk failed, `Memory` where memory is wanting.
+/// chain is missing or bad; `Failed` where the disk failed, `Memory` where memory is wanting. Where the links lead to a data
+/// directory or a link is bad, nothing is changed, whatever is answered.
 pub fn init<D: Disk>(alloc: Global, disk: &mut D, version: &Version) -> Result<(), InitError>
     ensures begins { Moves (D.told disk.old) (D.told disk.new) (Begins version.now result) }
     ensures cause { HasCauseOf InitError.Failed (D.faults disk.old) (D.faults disk.new) result }

@@ -4,13 +4,11 @@
 
 mod begin_error;
 mod beginning;
-mod entries;
 mod law;
 mod open_error;
 mod opened;
 mod opening;
 mod reading;
-mod sections;
 mod step;
 mod typing;
 

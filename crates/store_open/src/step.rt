@@ -12,9 +12,9 @@ ghost use Rattle.store_open.specs.Typed.{FitsImage};
 ghost use Rattle.typed_settings.specs.Row.{IsPrefixFree};
 ghost use Rattle.model_file.specs.Model.{AreKnown, AreTyped};
 
-use crate::entries::opening_change;
 use commit_journal::Batch;
 use fs_datastore::batch_of;
+use opening_step::opening_change;
 use outside::{Disk, DiskErr, Failed, Path};
 use settings_tree::{Change, Held};
 use std::alloc::{AllocError, Global};
@@ -79,7 +79,7 @@ pub fn make_step<D: Disk>(
     ensures fits { IfOk result (FitsImage image.now.model.types image.now.model.content image.now.text) }
     ensures cause { HasCauseOf DiskErr.Failed (D.faults disk.old) (D.faults disk.new) result }
 {
-    let change = opening_change(alloc, boot, image, &held)?;
+    let change = opening_change(alloc, boot, &image.model.content, &image.text, &held)?;
     if change.as_slice().is_empty() {
         return Ok(held);
     }

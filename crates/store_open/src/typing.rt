@@ -8,9 +8,9 @@ ghost use Rattle.store_open.specs.Typed.{HasTypedPending};
 ghost use Rattle.store_open.specs.Phases.{TellsIllTyped};
 
 use crate::OpenError;
-use crate::sections::is_of_image;
 use json_trees::{Pending, Scalar};
 use key_names::Key;
+use opening_step::is_of_image;
 use settings_tree::{Held, TxName, is_setting};
 use std::alloc::AllocError;
 use typed_settings::{TypeError, Types};

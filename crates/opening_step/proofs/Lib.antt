@@ -1,0 +1,12 @@
+pub mod Begins
+pub mod WalkedLists
+pub mod AddedKeys
+pub mod InOrder
+pub mod Apart
+pub mod OfStore
+pub mod ValuesOpened
+pub mod MetadataOpened
+pub mod OnceNamed
+pub mod ToldWeak
+pub mod OpenedEntries
+pub mod OpenedRules

@@ -1,0 +1,8 @@
+//! The opening step without a disk: the change that makes of what a store holds what it holds once it is opened.
+#![tactic(auto)]
+
+mod entries;
+mod sections;
+
+pub use entries::{added_keys, opening_change};
+pub use sections::{is_of_image, is_of_store};
