@@ -192,14 +192,14 @@ module _ (c : Core) (q : Request) (faulted : c.faulted ≡ true) where
   failed_handles old new opens = record {
     each = λ I good holds folder still W V kept.
         failed_handled old new I good holds folder W V kept
-        (openings_run I good folder (still faulted disk_no_store) W V false (Err error.Failed) old new kept.disk (idle_at I folder W V old kept) opens kept.fit.typed);
+        (openings_run I good folder (still faulted disk_no_store) W V false (Err error.Failed) old new kept.disk (idle_at I folder W V old kept) opens);
   }
 
   memory_handles : (old new : History) → Opens false (Err error.Memory) old new → Handles c q (refused refusal.Memory) c old new
   memory_handles old new opens = record {
     each = λ I good holds folder still W V kept.
         memory_handled old new I good holds folder W V kept
-        (openings_run I good folder (still faulted memory_no_store) W V false (Err error.Memory) old new kept.disk (idle_at I folder W V old kept) opens kept.fit.typed);
+        (openings_run I good folder (still faulted memory_no_store) W V false (Err error.Memory) old new kept.disk (idle_at I folder W V old kept) opens);
   }
 
   -- ---- one that was refused

@@ -14,13 +14,12 @@ use Rattle.settings_machine.specs.Requests.{Request}
 use Rattle.settings_machine.specs.Step.{noting, opened}
 use Rattle.settings_machine.specs.Events.{Event, Opened, Succeeded, Failing, after, next}
 use Rattle.settings_machine.specs.Paid.{Paid, IsGood}
-use Rattle.settings_machine.specs.Typed.{IsTypedHeld}
-use Rattle.settings_machine.proofs.PaidLaws.{openings_pay}
 use Rattle.machine_disk.specs.Store.{HasStore}
 use Rattle.machine_disk.specs.Kept.{Folder, DiskAt, Kept}
 use Rattle.machine_disk.specs.Ran.{Before, RunsTo, Starts, OpensTo, OpensNot}
 use Rattle.machine_disk.proofs.Runs.{runs_to, ran_none, opens_kept}
 use Rattle.machine_disk.proofs.Meanings.{core_holds}
+use Rattle.machine_disk.proofs.Quiet.{calm_images}
 use Rattle.store_open.specs.Laws.{IsImageOfFolder, HoldsImage, HasRun, IsKeptAt, IsRefusal}
 use Rattle.store_open.specs.Opening.{Opens}
 use Rattle.store_open.specs.declared.opened.Opened as answer
@@ -54,14 +53,11 @@ module _ (I : Image) (good : IsGood I) (folder : Folder) (is : IsImageOfFolder I
 
   -- ---- a store that was not opened
 
-  failed_paid : (boot taken : Bool) → Paid I (next I W (Opened boot (Failing taken)))
-  failed_paid boot true = (openings_pay I good W boot begins.typed begins.starts.paid (ap is_running begins.idle)).paid
-  failed_paid boot false = begins.starts.paid
-
-  failed_each : (boot taken : Bool) (first rest : List Event) → Opened boot (Failing taken) ∷ [] ≡ first ++ rest → Paid I (after I W first)
-  failed_each boot taken [] rest e = begins.starts.paid
-  failed_each boot taken (f ∷ []) rest e = let head : Opened boot (Failing taken) ≡ f = cc in subst (λ (x : Event). Paid I (next I W x)) head (failed_paid boot taken)
-  failed_each boot taken (f ∷ g ∷ first) rest e = absurd (cc e)
+  failed_each : (boot taken : Bool) → Paid I (next I W (Opened boot (Failing taken))) → (first rest : List Event) → Opened boot (Failing taken) ∷ [] ≡ first ++ rest
+      → Paid I (after I W first)
+  failed_each boot taken last [] rest e = begins.starts.paid
+  failed_each boot taken last (f ∷ []) rest e = let head : Opened boot (Failing taken) ≡ f = cc in subst (λ (x : Event). Paid I (next I W x)) head last
+  failed_each boot taken last (f ∷ g ∷ first) rest e = absurd (cc e)
 
   none_each : (first rest : List Event) → [] ≡ first ++ rest → Paid I (after I W first)
   none_each [] rest e = begins.starts.paid
@@ -80,8 +76,9 @@ module _ (I : Image) (good : IsGood I) (folder : Folder) (is : IsImageOfFolder I
     not_run told not = record {
       events = Opened boot (Failing not.taken) ∷ [];
       form_is = formed _ (inl (not.taken, refl, told));
-      runs_to = whole I good folder W (Opened boot (Failing not.taken) ∷ []) old new not.other not.disk not.late (failed_each boot not.taken) not.moments;
+      runs_to = whole I good folder W (Opened boot (Failing not.taken) ∷ []) old new not.other not.disk not.late (failed_each boot not.taken not.disk.paid) not.moments;
       ran = same_runs W (after I W (Opened boot (Failing not.taken) ∷ [])) (failing_runs not.taken);
+      calm = λ e. absurd (cc e);
     }
 
     kept_run : (e : OpenError) → IsRefusal e → outcome ≡ Err (not_opened e) → Opens boot (Err e) old new → IsRun I W form r r' old new
@@ -92,12 +89,13 @@ module _ (I : Image) (good : IsGood I) (folder : Folder) (is : IsImageOfFolder I
           form_is = formed [] (inr (refl, e, refusal, told));
           runs_to = whole I good folder W [] old new W kept.disk (Before refl refl) none_each kept.moments;
           ran = same_runs W W refl;
+          calm = λ e. absurd (cc e);
         }
 
     -- It is a run of the failed opening, or of no event.
     pub unopened_run : (e : OpenError) → outcome ≡ Err (not_opened e) → Opens boot (Err e) old new → IsRun I W form r r' old new
-    unopened_run opening.Failed told opens = not_run (inl told) (openings_run I good folder is W W boot (Err opening.Failed) old new disk_at (ap is_running begins.idle) opens begins.typed)
-    unopened_run opening.Memory told opens = not_run (inr told) (openings_run I good folder is W W boot (Err opening.Memory) old new disk_at (ap is_running begins.idle) opens begins.typed)
+    unopened_run opening.Failed told opens = not_run (inl told) (openings_run I good folder is W W boot (Err opening.Failed) old new disk_at (ap is_running begins.idle) opens)
+    unopened_run opening.Memory told opens = not_run (inr told) (openings_run I good folder is W W boot (Err opening.Memory) old new disk_at (ap is_running begins.idle) opens)
     unopened_run opening.NoStore told opens = kept_run opening.NoStore tt told opens
     unopened_run (opening.BadLink path) told opens = kept_run (opening.BadLink path) tt told opens
     unopened_run (opening.BadJournal path) told opens = kept_run (opening.BadJournal path) tt told opens
@@ -126,6 +124,7 @@ module _ (I : Image) (good : IsGood I) (folder : Folder) (is : IsImageOfFolder I
           runs_to = runs_to I good folder W false (f.asked ++ f.turned) old on.between new store.place store.held (core_over store) f.now begins.starts on.opens
               (comes_served I (opened I W false) qs Tells outcome f.asked f.turned f.comes) f.made;
           ran = runs_after false (f.asked ++ f.turned) r r' f.runs;
+          calm = λ e. calm_images I folder (after I (opened I W false) (f.asked ++ f.turned)) f.made.other new f.now (f.made.flag ∙ e) f.made.kept;
         }
 
     pub by_opening : (result : Result answer.Opened OpenError) → IfErr result (λ e. outcome ≡ Err (not_opened e)) → OnErr result (r' ≡ r) → Makes qs Tells result outcome r r' old new
@@ -146,12 +145,13 @@ module _ (I : Image) (good : IsGood I) (folder : Folder) (is : IsImageOfFolder I
           runs_to = runs_to I good folder W boot s.events old on.between new store.place store.held (core_over store) s.now begins.starts on.opens
               (all_served I slice boot fine false (opened I W boot) s.rounds s.events s.are) s.made;
           ran = runs_after boot s.events r r' s.runs;
+          calm = λ e. calm_images I folder (after I (opened I W boot) s.events) s.made.other new s.now (s.made.flag ∙ e) s.made.kept;
         }
 
     pub by_serving : (result : Result answer.Opened OpenError) → OnOk result (outcome ≡ served fine) → IfErr result (λ e. outcome ≡ Err (not_opened e))
         → OnErr result ((x' ≡ x) × (r' ≡ r)) → Serves boot slice fine result x x' r r' old new → IsRun I W (ServeEvents I W boot slice x x' outcome) r r' old new
     by_serving (Ok store) ok told same serves = serves_on store ok (serves.each I good folder is W W disk_at begins.idle)
-    by_serving (Err e) ok told same serves = unopened_run (ServeEvents I W boot slice x x' outcome) r r' boot outcome (λ events un. inr un) same.1 e told serves.unopened
+    by_serving (Err e) ok told same serves = unopened_run (ServeEvents I W boot slice x x' outcome) r r' boot outcome (λ events un. inr (un, same.0)) same.1 e told serves.unopened
 
 pub requests_run : (qs : List Request) (Tells : World → List ℕ → Type 0) → RequestsRun qs Tells
 requests_run qs Tells I good folder is W outcome r r' old new begins carries =
@@ -187,6 +187,7 @@ module _ (I : Image) (good : IsGood I) (folder : Folder) (is : IsImageOfFolder I
         runs_to = runs_to I good folder W false [] old new new store.place store.held (core_over store) (core_over store) begins.starts run.0 refl
             (ran_none I folder (opened I W false) (opened I W false) new (core_over store) kept);
         ran = moves_same refl (λ s was. was ∙ sym (opened_runs I good folder is W old new begins false));
+        calm = λ e. calm_images I folder (opened I W false) (opened I W false) new (core_over store) refl kept;
       }
   gets (Err e) opens told = unopened_run I good folder is W old new begins (GetEvents I W keys outcome) r r false outcome (λ events un. inr un) refl e told opens
 

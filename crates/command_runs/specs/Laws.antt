@@ -1,7 +1,7 @@
 -- Laws of commands: the run of the machine that each makes, crash included.
 use Rattle.std.specs.Prelude.{◌≡◌, ◌⊎◌, ℕ, Bool, true, false, List, [], ◌∷◌, ◌++◌, Option, Some, Ok, Err}
 use Rattle.outside.specs.Exchange.{Exchange}
-use Rattle.outside.specs.History.{History, tree_of}
+use Rattle.outside.specs.History.{History, tree_of, EachImage}
 use Rattle.outside.specs.Names.{Names}
 use Rattle.outside.specs.Spawner.{Run, Question}
 use Rattle.outside.specs.Told.{Moves}
@@ -9,12 +9,11 @@ use Rattle.json_trees.specs.declared.scalar.Scalar.{Scalar}
 use Rattle.settings_machine.specs.World.{Key, Image, World, Idle}
 use Rattle.settings_machine.specs.Requests.{Request}
 use Rattle.settings_machine.specs.Step.{opened}
-use Rattle.settings_machine.specs.Events.{Event, Opened, Succeeded, Failing, Began, next}
+use Rattle.settings_machine.specs.Events.{Event, Opened, Succeeded, Failing, Began, next, after, faulted_after}
 use Rattle.settings_machine.specs.Paid.{IsGood}
-use Rattle.settings_machine.specs.Typed.{IsTypedHeld}
 use Rattle.machine_disk.specs.Kept.{Folder}
 use Rattle.machine_disk.specs.Ran.{RunsTo, Starts}
-use Rattle.machine_disk.specs.Store.{is_image, bytes_at}
+use Rattle.machine_disk.specs.Store.{is_image, bytes_at, Recovers}
 use Rattle.store_open.specs.Laws.{IsImageOfFolder, IsRefusal}
 use Rattle.store_open.specs.declared.open_error.OpenError.{OpenError}
 use Rattle.command_outcome.specs.Ends.{Outcome}
@@ -32,19 +31,20 @@ use Rattle.settings_cmd.specs.Carried.{IsBegun, IsGot, IsMigrated}
 use Rattle.settings_cmd.specs.Gets.{Answers}
 use Rattle.settings_cmd.specs.Serving.{served, IsServed}
 
--- Before a run: the disk is settled and at W, which is paid and typed; the job is idle; and the files of the image's folder are these.
+-- Before a run: the disk is settled and at W, which is paid; the job is idle; and the files of the image's folder are these.
 pub record Begins (I : Image) (folder : Folder) (W : World) (h : History) : Type 0 where
   pub starts : Starts I W h
   pub idle : W.job ≡ Idle
-  pub typed : IsTypedHeld I.types W.held
   pub image : (path : Names) → is_image path ≡ true → bytes_at (tree_of h) path ≡ folder path
 
--- Events of this form were made, crash included, and the programs that were run are those of the events.
+-- Events of this form were made, crash included, and the programs that were run are those of the events. Where an opening has succeeded, and no
+-- call of the disk has failed since, a crash now recovers to the last world alone.
 pub record IsRun (I : Image) (W : World) (form : List Event → Type 0) (ran_before ran_after : Option (List Run)) (old new : History) : Type 0 where
   pub events : List Event
   pub form_is : form events
   pub runs_to : RunsTo I W events old new
   pub ran : RunsBy I W events ran_before ran_after
+  pub calm : faulted_after true events ≡ false → EachImage (Recovers I (after I W events)) new
 
 -- The store was not opened: the disk failed or memory was wanting, and the opening was taken or not; or what stands there was refused,
 -- and there is no event.
@@ -77,12 +77,12 @@ AppliesRun = RequestsRun apply_requests IsJobLine
 
 -- ---- serve
 
--- The opening, and what is served from the opened world on, with the bytes of each connection; or the store was not opened.
+-- The opening, and what is served from the opened world on, with the bytes of each connection; or the store was not opened, and no connection accepted.
 abbrev pub ServeEvents : Image → World → Bool → Option ℕ → Option (List Exchange) → Option (List Exchange) → Outcome → List Event → Type 0
 ServeEvents I W boot slice x x' outcome events =
     ((fine : Bool) × (rounds : List Round) × (later : List Event) × (events ≡ Opened boot Succeeded ∷ later) × AreServed I slice boot fine false (opened I W boot) rounds later
     × Moves x x' (AreExchanged rounds) × (outcome ≡ served fine))
-    ⊎ IsUnopened boot outcome events
+    ⊎ (IsUnopened boot outcome events × (x' ≡ x))
 
 -- A `serve` is a run of these events.
 abbrev pub ServesRun : Type 0

@@ -1,7 +1,7 @@
 //! The runs of commands.
 ghost use Rattle.command_runs.specs.Laws.{InitsRun, ServesRun, SetsRun, GetsRun, AppliesRun, MigratesRun};
 
-/// Where the disk is settled, its world is paid and typed, and no job runs, each command that opens the store is a run of the
+/// Where the disk is settled, its world is paid, and no job runs, each command that opens the store is a run of the
 /// machine: of the opening, and of its requests and turns. At its end the tree is that of the last world. Each world on the way
 /// is paid. A crash at any moment leaves what recovers to one of them, and a crash at the end what recovers to one after which
 /// nothing is acknowledged. The programs that were run are those of the events. An `init` and a `migrate` that answer are one event

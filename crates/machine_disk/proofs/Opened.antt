@@ -36,16 +36,12 @@ abbrev pub HasEither : Image → World → Bool → Tree → Type 0
 HasEither I W boot tree = HasStore W tree ⊎ HasStore (opened I W boot) tree
 
 module _ (I : Image) (good : IsGood I) (folder : Folder) (W V : World) (boot : Bool) (old new : History) (disk : DiskAt I folder W V old) (place : Place)
-    (leads : Resolves (tree_of old) (found place.version place.directory)) (others : FromSyncOn (ChangesOnlyBelow place.directory) old new)
-    (typed : IsTypedHeld I.types W.held) (idle : is_running W.job ≡ false) where
+    (leads : Resolves (tree_of old) (found place.version place.directory)) (others : FromSyncOn (ChangesOnlyBelow place.directory) old new) where
   version : W.version ≡ place.version
   version = let e : found W.version disk.store.directory ≡ found place.version place.directory = resolves_one (tree_of old) _ _ disk.store.resolves leads in cc
 
   apart : IsApart place.directory
   apart = dir_apart (tree_of old) place.version place.directory leads
-
-  kept : IsKept I (opened I W boot)
-  kept = openings_pay I good W boot typed disk.paid idle
 
   -- ---- elsewhere than in the data directory
 
@@ -91,40 +87,7 @@ module _ (I : Image) (good : IsGood I) (folder : Folder) (W V : World) (boot : B
         (opened_recovers c store there);
   })
 
-  -- ---- an opening that succeeded
-
-  -- The directory stands for the opened held state, a crash leaves the tree, and from the first sync on one left the store of W or that of the opened world.
-  pub opens_to : W.format ≡ 2 → FromSyncOn (EachSince (HasEither I W boot)) old new → Resolves (tree_of new) (found place.version place.directory)
-      → Stands (files_below place.directory (tree_of new)) (opened_held I W.held boot) 2 → IsReady place.directory new → IsSettled new
-      → OpensTo I folder W V boot place (opened_held I W.held boot) old new
-  unfolding opened
-  opens_to format either resolves stands ready settled = record {
-    fit = kept.fit;
-    format = format;
-    disk = record {
-      paid = kept.paid;
-      store = store;
-      etc = record { each = etc_now };
-      image = image_now;
-      images = λ c left. inl (subst (HasStore (opened I W boot)) (sym (settled_image new settled c left)) store);
-      same_etc = refl;
-      unsettled = λ path node e left. inl (ap file_in (settled path node left) ∙ etc_now path e);
-    };
-    ready = record { settled = record { at = λ path is. settled path }; resolves = resolves; ready = ready; stands = stands };
-    moments = from_sync I folder W V (Opened boot Succeeded ∷ []) old new disk place.directory (HasEither I W boot) (either_way (Opened boot Succeeded) refl) (touches others) either;
-  } where
-    store : HasStore (opened I W boot) (tree_of new)
-    store = record {
-      directory = place.directory;
-      resolves = subst (λ (v : Version). Resolves (tree_of new) (found v place.directory)) (sym version) resolves;
-      holds = record {
-        files = files_below place.directory (tree_of new);
-        stands_for = inl (ready.no_journal, refl);
-        stands = subst (Stands (files_below place.directory (tree_of new)) (opened_held I W.held boot)) (sym format) stands;
-      };
-    }
-
-  -- ---- one that failed
+  -- ---- an opening that was not taken
 
   -- Nothing happened.
   not_begun : new ≡ old → OpensNot I folder W V boot old new
@@ -160,30 +123,67 @@ module _ (I : Image) (good : IsGood I) (folder : Folder) (W V : World) (boot : B
           (touches others) images;
     }
 
-  -- The tree has the store of the opened world, and each image from the first sync on that of W or of the opened world.
-  pub opens_taken : HasStore (opened I W boot) (tree_of new) → FromSyncOn (EachSince (HasEither I W boot)) old new → OpensNot I folder W V boot old new
-  unfolding opened
-  opens_taken store either = by others either where
-    swapped : (c : Tree) → HasEither I W boot c → HasStore (opened I W boot) c ⊎ HasStore W c
-    swapped c (inl before) = inr before
-    swapped c (inr after') = inl after'
+  -- ---- one that was taken, of a typed world
 
-    by : FromSyncOn (ChangesOnlyBelow place.directory) old new → FromSyncOn (EachSince (HasEither I W boot)) old new → OpensNot I folder W V boot old new
-    by (inl same) either = not_begun same
-    by (inr changes) (inl same) = not_begun same
-    by (inr changes) (inr since) = record {
-      taken = true;
-      other = W;
-      late = Within [] (Opened boot (Failing true) ∷ []) refl refl refl;
+  module _ (typed : IsTypedHeld I.types W.held) (idle : is_running W.job ≡ false) where
+    kept : IsKept I (opened I W boot)
+    kept = openings_pay I good W boot typed disk.paid idle
+
+    -- The directory stands for the opened held state, a crash leaves the tree, and from the first sync on one left the store of W or that of the opened world.
+    pub opens_to : W.format ≡ 2 → FromSyncOn (EachSince (HasEither I W boot)) old new → Resolves (tree_of new) (found place.version place.directory)
+        → Stands (files_below place.directory (tree_of new)) (opened_held I W.held boot) 2 → IsReady place.directory new → IsSettled new
+        → OpensTo I folder W V boot place (opened_held I W.held boot) old new
+    unfolding opened
+    opens_to format either resolves stands ready settled = record {
+      fit = kept.fit;
+      format = format;
       disk = record {
         paid = kept.paid;
         store = store;
         etc = record { each = etc_now };
         image = image_now;
-        images = λ c left. swapped c (since_now (HasEither I W boot) (then synced old) new since c left);
+        images = λ c left. inl (subst (HasStore (opened I W boot)) (sym (settled_image new settled c left)) store);
         same_etc = refl;
-        unsettled = λ path node e left. inl (left_of changes path node e left);
+        unsettled = λ path node e left. inl (ap file_in (settled path node left) ∙ etc_now path e);
       };
-      moments = from_sync I folder W V (Opened boot (Failing true) ∷ []) old new disk place.directory (HasEither I W boot) (either_way (Opened boot (Failing true)) refl)
-          (touches others) either;
-    }
+      ready = record { settled = record { at = λ path is. settled path }; resolves = resolves; ready = ready; stands = stands };
+      moments = from_sync I folder W V (Opened boot Succeeded ∷ []) old new disk place.directory (HasEither I W boot) (either_way (Opened boot Succeeded) refl) (touches others) either;
+    } where
+      store : HasStore (opened I W boot) (tree_of new)
+      store = record {
+        directory = place.directory;
+        resolves = subst (λ (v : Version). Resolves (tree_of new) (found v place.directory)) (sym version) resolves;
+        holds = record {
+          files = files_below place.directory (tree_of new);
+          stands_for = inl (ready.no_journal, refl);
+          stands = subst (Stands (files_below place.directory (tree_of new)) (opened_held I W.held boot)) (sym format) stands;
+        };
+      }
+
+    -- The tree has the store of the opened world, and each image from the first sync on that of W or of the opened world.
+    pub opens_taken : HasStore (opened I W boot) (tree_of new) → FromSyncOn (EachSince (HasEither I W boot)) old new → OpensNot I folder W V boot old new
+    unfolding opened
+    opens_taken store either = by others either where
+      swapped : (c : Tree) → HasEither I W boot c → HasStore (opened I W boot) c ⊎ HasStore W c
+      swapped c (inl before) = inr before
+      swapped c (inr after') = inl after'
+
+      by : FromSyncOn (ChangesOnlyBelow place.directory) old new → FromSyncOn (EachSince (HasEither I W boot)) old new → OpensNot I folder W V boot old new
+      by (inl same) either = not_begun same
+      by (inr changes) (inl same) = not_begun same
+      by (inr changes) (inr since) = record {
+        taken = true;
+        other = W;
+        late = Within [] (Opened boot (Failing true) ∷ []) refl refl refl;
+        disk = record {
+          paid = kept.paid;
+          store = store;
+          etc = record { each = etc_now };
+          image = image_now;
+          images = λ c left. swapped c (since_now (HasEither I W boot) (then synced old) new since c left);
+          same_etc = refl;
+          unsettled = λ path node e left. inl (left_of changes path node e left);
+        };
+        moments = from_sync I folder W V (Opened boot (Failing true) ∷ []) old new disk place.directory (HasEither I W boot) (either_way (Opened boot (Failing true)) refl)
+            (touches others) either;
+      }
