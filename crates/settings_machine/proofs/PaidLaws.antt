@@ -107,14 +107,15 @@ crashes_pay I good W X held idle etc paid = crash_paid I good W X held idle etc 
 
 -- ---- where nothing is owed
 
+-- Where nothing is owed it concerns no file.
+pub no_file : (I : Image) (f : List ℕ) (o : Owed) → owes_none o ≡ true → Among (files_of I.manifest o) f → ⊥
+no_file I f owed.All none at = absurd (cc none)
+no_file I f (owed.Keys []) none at = (of_keys I.manifest [] f at).1
+no_file I f (owed.Keys (k ∷ ks)) none at = absurd (cc none)
+
 kept_current : (I : Image) (W : World) → IsKept I W → owes_none W.held.owed ≡ true → (f : List ℕ) → IsCovered I f → IsCurrent I W f
 kept_current I W kept none f covered = ⊎_elim (λ current. current)
-    (λ due'. absurd (no_file W.held.owed none (subst (λ (o : Owed). Among (files_of I.manifest o) f) is_owed due'))) (kept.paid.files f covered) where
-      no_file : (o : Owed) → owes_none o ≡ true → Among (files_of I.manifest o) f → ⊥
-      no_file owed.All none' at = absurd (cc none')
-      no_file (owed.Keys []) none' at = (of_keys I.manifest [] f at).1
-      no_file (owed.Keys (k ∷ ks)) none' at = absurd (cc none')
-
+    (λ due'. absurd (no_file I f W.held.owed none (subst (λ (o : Owed). Among (files_of I.manifest o) f) is_owed due'))) (kept.paid.files f covered) where
       is_owed : due I W.held ≡ W.held.owed
       is_owed = ap (λ b. if b then W.held.owed else owed.All) ((bytes_eq-Decides W.held.image I.text).1 kept.fit.image)
 

@@ -53,14 +53,14 @@ module _ (I : Image) where
     by (Some p) = refl
   answered_runs W JobNow = refl
 
-  request_runs : (W : World) (q : Request) (o : Outcome) → (request_next I W q o).world.runs ≡ W.runs
+  pub request_runs : (W : World) (q : Request) (o : Outcome) → (request_next I W q o).world.runs ≡ W.runs
   unfolding request_next
   request_runs W q Answered = answered_runs W q
   request_runs W q WithoutMemory = refl
   request_runs W q (Unopened at) = refl
   request_runs W q (Faulted taken) = refl
 
-  opening_runs : (W : World) (boot : Bool) (o : Opening) → (opening_next I W boot o).runs ≡ W.runs
+  pub opening_runs : (W : World) (boot : Bool) (o : Opening) → (opening_next I W boot o).runs ≡ W.runs
   unfolding opened
   opening_runs W boot Succeeded = refl
   opening_runs W boot (Failing taken) = by taken where
