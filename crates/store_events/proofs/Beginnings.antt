@@ -1,10 +1,10 @@
 -- A beginning is an event of the machine.
-use Rattle.std.proofs.Common.{◌≡◌, inl, inr, ◌⊎◌, ⊎_elim, Result, Ok, Err, refl, sym, subst}
+use Rattle.std.proofs.Common.{inl, inr, ◌⊎◌, ⊎_elim, Result, Ok, refl, sym, subst}
 use Rattle.outside.specs.Tree.{Tree}
-use Rattle.outside.specs.History.{History, tree_of}
+use Rattle.outside.specs.History.{History, tree_of, IsImage}
 use Rattle.outside.specs.Since.{EachSince}
 use Rattle.outside.proofs.Crash.{settled_image}
-use Rattle.outside.proofs.Since.{since_map, since_both}
+use Rattle.outside.proofs.Since.{since_start, since_map, since_both}
 use Rattle.commit_journal.specs.Files.{files_below}
 use Rattle.version_links.specs.Chain.{Resolves, nowhere, found}
 use Rattle.version_links.specs.declared.version.Version.{Version}
@@ -16,7 +16,6 @@ use Rattle.machine_disk.specs.Store.{HasStore, HasFiles, Recovers}
 use Rattle.machine_disk.specs.Ran.{IsWorldOf}
 use Rattle.machine_disk.proofs.Runs.{recovers_paid}
 use Rattle.machine_disk.proofs.Whole.{not_nowhere}
-use Rattle.store_open.specs.World.{HasWorld, IsAtRest}
 use Rattle.store_open.specs.Beginning as beginning
 use Rattle.store_open.specs.Beginning.{Begins, first_world}
 use Rattle.store_open.specs.declared.begin_error.InitError.{InitError}
@@ -82,6 +81,16 @@ module _ (I : Image) (good : IsGood I) (W : World) (version : Version) where
       at_exit = λ c left. subst (Recovers I N) (sym (settled_image new at_rest.rest.settled c left))
           (record { store = store; etc = λ path e. inl (etc.each path e) });
     }
+
+-- A disk without a store that is as before has none.
+pub bare_stays : (I : Image) (W : World) (version : Version) (h : History) → IsBare W h → IsBeginning I (next I W (Began version)) h h
+bare_stays I W version h bare = record {
+  any_moment = since_start (λ c. Resolves c nowhere ⊎ Recovers I (next I W (Began version)) c) h (λ c left. inl (none c left));
+  image_paid = since_start (λ c. (X : World) → IsWorldOf c X → Paid I X) h (λ c left X is. absurd (not_nowhere X c is.store (none c left)));
+}
+  where
+    none : (c : Tree) → IsImage h c → Resolves c nowhere
+    none c left = subst (λ (t : Tree). Resolves t nowhere) (sym (settled_image h bare.settled c left)) bare.none
 
 pub beginnings_are_whole : BeginningsAreWhole
 beginnings_are_whole I good W version result old new bare begins = whole I good W version result old new bare begins

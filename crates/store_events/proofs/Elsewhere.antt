@@ -1,14 +1,13 @@
 -- What changes in the store leave elsewhere.
-use Rattle.std.proofs.Common.{◌≡◌, inl, inr, ◌∙◌, true, List, ◌∷◌, [], codes, ap, sym}
-use Rattle.std.specs.FinMap.{get}
+use Rattle.std.proofs.Common.{◌≡◌, ◌∙◌, true, ◌∷◌, [], codes, ap, sym}
 use Rattle.outside.specs.Names.{Names}
-use Rattle.outside.specs.Tree.{Tree, node_at, file_in}
+use Rattle.outside.specs.Tree.{node_at, file_in}
 use Rattle.outside.specs.History.{History, tree_of, IsSettled}
 use Rattle.outside.specs.Since.{EachSince, IsAtOrSync, Touches}
 use Rattle.outside.proofs.Goes.{since_goes, may_leave_untouched, tree_untouched}
 use Rattle.commit_journal.specs.Files.{IsBelow}
 use Rattle.settings_machine.specs.World.{Files, is_etc}
-use Rattle.machine_disk.specs.Store.{bytes_at, HasFiles}
+use Rattle.machine_disk.specs.Store.{HasFiles}
 use Rattle.machine_disk.proofs.Apart.{first_name}
 
 -- The path is strictly below the folder of the store.

@@ -1,3 +1,4 @@
 pub mod Elsewhere
 pub mod Beginnings
+pub mod Stays
 pub mod Moves

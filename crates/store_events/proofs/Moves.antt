@@ -1,54 +1,33 @@
 -- A move is an event of the machine, or none.
-use Rattle.std.proofs.Common.{◌≡◌, ◌≢◌, inl, inr, ◌⊎◌, ⊎_elim, ℕ, Bool, true, false, List, [], ◌∷◌, ◌++◌, Option, Some, None, Result, Ok, Err, refl, sym, ◌∙◌, ap, subst}
+use Rattle.std.proofs.Common.{◌≡◌, inl, inr, ◌⊎◌, ⊎_elim, ℕ, List, [], ◌∷◌, ◌++◌, Option, Some, Result, Ok, Err, refl, sym, ◌∙◌, ap, subst}
 use Rattle.std.proofs.lemmas.List.{append_cancel_left}
 use Rattle.outside.specs.Tree.{Tree}
 use Rattle.outside.specs.History.{History, tree_of, EachImage, IsSettled}
 use Rattle.outside.specs.Since.{EachSince}
-use Rattle.outside.proofs.Crash.{settled_image, tree_is_image}
-use Rattle.outside.proofs.Since.{since_map, since_both, since_now}
+use Rattle.outside.proofs.Crash.{settled_image}
+use Rattle.outside.proofs.Since.{since_map, since_both}
 use Rattle.settings_tree.specs.declared.held.Held.{Held}
-use Rattle.version_links.specs.Chain.{Resolves, found}
 use Rattle.version_links.specs.declared.version.Version.{Version}
 use Rattle.version_links.specs.declared.chain.Place.{Place}
 use Rattle.release_file.specs.declared.transition.Transition.{Transition}
 use Rattle.release_file.specs.declared.work.Named.{Named}
 use Rattle.settings_machine.specs.World.{Image, World}
-use Rattle.settings_machine.specs.Events.{Event, Moved, next, after, acknowledges}
+use Rattle.settings_machine.specs.Events.{Event, Moved, next, after}
 use Rattle.settings_machine.specs.Paid.{Paid, IsGood}
 use Rattle.settings_machine.proofs.PaidLaws.{migrations_pay}
 use Rattle.machine_disk.specs.Store as disk
 use Rattle.machine_disk.specs.Store.{HasFiles, Recovers}
-use Rattle.machine_disk.specs.Ran.{AtPrefix, AtLatePrefix, IsWorldOf, RunsTo, Starts}
+use Rattle.machine_disk.specs.Ran.{AtPrefix, IsWorldOf, RunsTo, Starts}
 use Rattle.machine_disk.proofs.Runs.{recovers_paid, at_start}
-use Rattle.migrate_chain.specs.Store.{at_place, HasStore}
+use Rattle.migrate_chain.specs.Store.{HasStore}
 use Rattle.migrate_chain.specs.Tasks.{Task, Mapped, Refused, AreDone}
-use Rattle.migrate_chain.specs.Moving as moving
 use Rattle.migrate_chain.specs.Moving.{IsCarried}
 use Rattle.migrate_chain.specs.Migrating.{HasMigrated, IsThere, Migrates}
 use Rattle.migrate_chain.specs.declared.moving.Moved as answer
 use Rattle.migrate_chain.specs.declared.move_error.MoveError.{MoveError}
-use Rattle.migrate_chain.specs.declared.move_error.MoveError.TheVariants.{Failed}
 use Rattle.store_events.specs.Laws.{IsMade, IsMoving, HasMoved, HasStayed, MovesAreWhole, MovesMove, RefusedMovesStay}
 use Rattle.store_events.proofs.Elsewhere.{files_stand, files_left}
-
--- ---- the store of a tree, as the machine says it and as a move does
-
-module _ (W : World) (tree : Tree) where
-  abbrev place_in : disk.HasStore W tree → Place
-  place_in has = record { version = W.version; directory = has.directory }
-
-  to_move : (has : disk.HasStore W tree) → HasStore (place_in has) W.held W.format tree
-  to_move has = record { led = has.resolves; stands = record { files = has.holds.files; found = has.holds.stands_for; stands = has.holds.stands } }
-
--- A store at a place of the world's version, which stands for what the world holds in its format, is the world's.
-from_place : (W : World) (place : Place) (held : Held) (format : ℕ) (tree : Tree) → place.version ≡ W.version → held ≡ W.held → format ≡ W.format → HasStore place held format tree → disk.HasStore W tree
-from_place W place held format tree version_is held_is format_is has = record {
-  directory = place.directory;
-  resolves = subst (λ (v : Version). Resolves tree (found v place.directory)) version_is has.led;
-  holds = subst (λ (h : Held). disk.HoldsIn place.directory h W.format tree) held_is
-      (subst (λ (n : ℕ). disk.HoldsIn place.directory held n tree) format_is
-      (record { files = has.stands.files; stands_for = has.stands.found; stands = has.stands.stands }));
-}
+use Rattle.store_events.proofs.Stays.{place_in, to_move, from_place, store_stays}
 
 -- ---- what the migrations made is one
 
@@ -75,30 +54,9 @@ one_made first second held kept now made other one two =
     same_some : {T : Type 0} {a b : T} → Some a ≡ Some b → a ≡ b
     same_some e = cc e
 
--- ---- runs of one event, and of none
+-- ---- runs of one event
 
 module _ (I : Image) (good : IsGood I) (W : World) (old new : History) where
-  -- Where a crash at any moment recovers to W, nothing happened.
-  stayed : Paid I W → disk.HasStore W (tree_of new) → HasFiles W.etc (tree_of new) → EachSince (Recovers I W) old new → HasStayed I W old new
-  stayed paid store etc since = record {
-    runs = record {
-      store = store;
-      etc = etc;
-      paid = none_paid;
-      any_moment = since_map (Recovers I W) (AtPrefix I W []) old new (λ c r. at_start I W [] c r) since;
-      at_exit = λ c left. record {
-        prefix = record { first = []; rest = []; whole = refl; recovers = since_now (Recovers I W) old new since c left };
-        unacknowledged = refl;
-      };
-      image_paid = since_map (Recovers I W) (λ c. (X : World) → IsWorldOf c X → Paid I X) old new (λ c r X is. recovers_paid I good W X c r is paid) since;
-    };
-    recovers = since_now (Recovers I W) old new since;
-  }
-    where
-      none_paid : (first rest : List Event) → [] ≡ first ++ rest → Paid I (after I W first)
-      none_paid [] rest whole = paid
-      none_paid (e ∷ first) rest whole = absurd (cc whole)
-
   -- Where a crash at any moment recovers to W or to the world after a move, and now to that, the move happened.
   moved : (to : Version) (made : Held) → Paid I W → disk.HasStore (next I W (Moved to made)) (tree_of new) → HasFiles W.etc (tree_of new)
       → EachSince (λ c. Recovers I W c ⊎ Recovers I (next I W (Moved to made)) c) old new → EachImage (Recovers I (next I W (Moved to made))) new
@@ -146,11 +104,8 @@ module _ (I : Image) (good : IsGood I) (W : World) (to : Version) (transitions :
   files_now : HasFiles W.etc (tree_of new)
   files_now = files_stand W.etc old new (migrates.outside place was.led) starts.etc
 
-  as_it_was : (c : Tree) → HasStore place W.held W.format c → disk.HasStore W c
-  as_it_was c has = from_place W place W.held W.format c refl refl refl has
-
   recovers_was : (c : Tree) → HasStore place W.held W.format c → HasFiles W.etc c → Recovers I W c
-  recovers_was c has etc = record { store = as_it_was c has; etc = λ path e. inl (etc.each path e) }
+  recovers_was c has etc = record { store = from_place W place W.held W.format c refl refl refl has; etc = λ path e. inl (etc.each path e) }
 
   -- What has moved has the store of the world after the move.
   moved_store : (c : Tree) (has : HasMigrated place W.held to transitions migrations before now c) → disk.HasStore (N has.moved.made) c
@@ -184,10 +139,7 @@ module _ (I : Image) (good : IsGood I) (W : World) (to : Version) (transitions :
 
   -- The store is as it was at every moment.
   keeps : EachSince (HasStore place W.held W.format) old new → HasStayed I W old new
-  keeps kept = stayed I good W old new starts.paid
-      (as_it_was (tree_of new) (since_now (HasStore place W.held W.format) old new kept (tree_of new) (tree_is_image new))) files_now
-      (since_map (λ c. HasStore place W.held W.format c × HasFiles W.etc c) (Recovers I W) old new (λ c both. recovers_was c both.0 both.1)
-      (since_both (HasStore place W.held W.format) (HasFiles W.etc) old new kept files))
+  keeps kept = store_stays I good W old new starts (migrates.outside place was.led) kept
 
 pub moves_are_whole : MovesAreWhole
 moves_are_whole I good W to transitions migrations before now p q result old new starts migrates =

@@ -1,5 +1,5 @@
 -- Laws of beginnings and moves: what they make of the machine's run.
-use Rattle.std.specs.Prelude.{◌≡◌, ◌≢◌, ◌⊎◌, List, [], ◌∷◌, Option, Some, Result, Ok, Err}
+use Rattle.std.specs.Prelude.{◌≡◌, ◌≢◌, ◌⊎◌, ℕ, List, [], ◌∷◌, Option, Some, Result, Ok, Err}
 use Rattle.outside.specs.History.{History, tree_of, EachImage, IsSettled}
 use Rattle.outside.specs.Since.{EachSince}
 use Rattle.settings_tree.specs.declared.held.Held.{Held}
@@ -17,10 +17,12 @@ use Rattle.store_open.specs.Beginning.{Begins}
 use Rattle.store_open.specs.declared.begin_error.InitError.{InitError}
 use Rattle.migrate_chain.specs.Migrating.{Migrates}
 use Rattle.migrate_chain.specs.Moving.{IsCarried}
+use Rattle.migrate_chain.specs.Pruning.{Prunes}
 use Rattle.migrate_chain.specs.Tasks.{Mapped, Refused, tasks_of}
 use Rattle.migrate_chain.specs.declared.moving.Moved as answer
 use Rattle.migrate_chain.specs.declared.move_error.MoveError.{MoveError}
 use Rattle.migrate_chain.specs.declared.move_error.MoveError.TheVariants.{Failed}
+use Rattle.migrate_chain.specs.declared.prune_error.PruneError.{PruneError}
 
 -- ---- beginnings
 
@@ -101,3 +103,13 @@ abbrev pub RefusedMovesStay : Type 0
 RefusedMovesStay = (I : Image) → IsGood I → (W : World) (to : Version) (transitions : List Transition) (migrations : List Named) (before now : Option (List Mapped))
     (refused_before refused_now : Option (List Refused)) (error : MoveError) (old new : History) → error ≢ Failed → Starts I W old
     → Migrates to transitions migrations before now refused_before refused_now (Err error) old new → HasStayed I W old new
+
+-- ---- what is no event
+
+-- A disk that is as before is no event.
+abbrev pub SameDisksStay : Type 0
+SameDisksStay = (I : Image) → IsGood I → (W : World) (h : History) → Starts I W h → HasStayed I W h h
+
+-- A pruning is none, whatever it comes to.
+abbrev pub PruningsStay : Type 0
+PruningsStay = (I : Image) → IsGood I → (W : World) (result : Result ℕ PruneError) (old new : History) → Starts I W old → Prunes result old new → HasStayed I W old new
