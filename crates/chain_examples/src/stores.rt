@@ -1,7 +1,7 @@
 //! Small stores of a disk in memory, and runs over them.
 use disk_memory::{MemoryDisk, MemoryDoor, MemorySink, MemorySpawner, Node};
 use outside::{Disk, Path};
-use settings_cmd::run;
+use settings_run::run;
 use std::alloc::{AllocError, Global};
 use std::test::Fail;
 use version_links::resolve;

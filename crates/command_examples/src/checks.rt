@@ -1,7 +1,7 @@
 //! The command `check`.
 use crate::runs::{disk_of, runs, words_of};
 use disk_memory::{MemoryDoor, MemorySink, MemorySpawner};
-use settings_cmd::run;
+use settings_run::run;
 use std::test::Fail;
 
 // A host whose file chrony is covered, or not: the second part is added to the model.

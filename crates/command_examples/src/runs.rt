@@ -1,7 +1,7 @@
 //! One run over devices in memory.
 use disk_memory::{MemoryDisk, MemoryDoor, MemorySink, MemorySpawner};
 use outside::{Disk, Path};
-use settings_cmd::run;
+use settings_run::run;
 use std::alloc::{AllocError, Global};
 use std::test::Fail;
 

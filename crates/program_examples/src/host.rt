@@ -1,7 +1,7 @@
 //! A host in memory whose release asks programs.
 use disk_memory::{MemoryDisk, MemoryDoor, MemorySink, MemorySpawner};
 use outside::{Answer, Disk, Path};
-use settings_cmd::run;
+use settings_run::run;
 use std::alloc::{AllocError, Global};
 use std::test::Fail;
 

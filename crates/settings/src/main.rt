@@ -5,7 +5,7 @@ mod usage;
 
 use crate::usage::PAGE;
 use outside_real::{RealDisk, RealDoor, RealSink, RealSpawner};
-use settings_cmd::run;
+use settings_run::run;
 use std::env;
 use std::io::{self, ErrorKind, Write};
 use std::process::ExitCode;

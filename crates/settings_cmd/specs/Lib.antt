@@ -5,5 +5,4 @@ pub mod Handing
 pub mod Laws
 pub mod Prunes
 pub mod Releases
-pub mod Runs
 pub mod Serving

@@ -1,5 +1,5 @@
 -- What `serve` comes to, and what it makes of the machine's run.
-use Rattle.std.specs.Prelude.{◌≡◌, ℕ, Bool, true, false, List, [], Option, Result, Ok, Err, OnErr, IfErr, OnOk}
+use Rattle.std.specs.Prelude.{◌≡◌, ◌⊎◌, ℕ, Bool, true, false, List, [], Option, Result, Ok, Err, OnErr, IfErr, OnOk}
 use Rattle.outside.specs.Exchange.{Exchange}
 use Rattle.outside.specs.History.{History}
 use Rattle.outside.specs.Spawner.{Run}
@@ -67,3 +67,14 @@ pub record IsServed (boot : Bool) (slice : Option ℕ) (told_before told_after :
   pub hands : IfErr opening (λ e. outcome ≡ Err (not_opened e))
   pub unserved : OnErr opening ((told_after ≡ told_before) × (ran_after ≡ ran_before))
   pub makes : Moves d d' (Serves boot slice fine opening told_before told_after ran_before ran_after)
+
+-- Memory was wanting before it began: no connection was accepted, and no program run.
+pub record HasNotBegun (told_before told_after : Option (List Exchange)) (ran_before ran_after : Option (List Run)) (outcome : Outcome) (d d' : Option History) : Type 0 where
+  pub outcome_is : outcome ≡ Err refused.Memory
+  pub no_connections : told_after ≡ told_before
+  pub no_runs : ran_after ≡ ran_before
+  pub same : d' ≡ d
+
+-- The store was opened and served, or memory was wanting before.
+abbrev pub HasServed : Bool → Option ℕ → Option (List Exchange) → Option (List Exchange) → Option (List Run) → Option (List Run) → Outcome → Option History → Option History → Type 0
+HasServed boot slice x x' r r' outcome d d' = IsServed boot slice x x' r r' outcome d d' ⊎ HasNotBegun x x' r r' outcome d d'

@@ -8,7 +8,7 @@ ghost use Rattle.command_words.specs.Orders.{Order, Spells, SpellsNone, serve as
 ghost use Rattle.core_commands.specs.Carried.{Carried as Commanded, CarriesOut, set_requests, apply_requests};
 ghost use Rattle.core_commands.specs.Lines.{IsSettingsLine, IsJobLine};
 ghost use Rattle.api_server.specs.Serving.{wanted};
-ghost use Rattle.settings_cmd.specs.Serving.{IsServed};
+ghost use Rattle.settings_cmd.specs.Serving.{HasServed};
 ghost use Rattle.version_links.specs.declared.version.Version.{Version};
 ghost use Rattle.settings_cmd.specs.Carried.{Carried, IsMisused, IsBegun, IsGot, IsChecked, IsMigrated, IsPruned, IsUnbuilt, ServesNot, RunsNothing, is_built};
 
@@ -45,7 +45,7 @@ pub fn carry_out<D: Disk, S: Asker, N: Door>(
     ensures init { (version : Version) → Spells (texts words.now) (InitOrder version)
         → Carried (IsBegun version) result (D.told disk.old) (D.told disk.new) }
     ensures serve { (boot : Bool) (slice connections : Option ℕ) → Spells (texts words.now) (ServeOrder boot slice connections)
-        → Carried (IsServed boot slice (N.told door.old) (N.told door.new) (S.runs spawner.old) (S.runs spawner.new)) result (D.told disk.old) (D.told disk.new) }
+        → HasServed boot slice (N.told door.old) (N.told door.new) (S.runs spawner.old) (S.runs spawner.new) result (D.told disk.old) (D.told disk.new) }
     ensures served { (boot : Bool) (slice connections : Option ℕ) → Spells (texts words.now) (ServeOrder boot slice connections)
         → IsOk result → ((N.state door.new).accepted ≡ wanted connections) ⊎ ((N.state door.new).ended ≡ true) }
     ensures set { (pairs : List (List (List ℕ) × Value)) → Spells (texts words.now) (SetOrder pairs)

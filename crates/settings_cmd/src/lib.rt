@@ -6,7 +6,6 @@
 mod beginning;
 mod carrying;
 mod checking;
-mod command;
 mod getting;
 mod law;
 mod migrating;
@@ -18,7 +17,6 @@ mod version_line;
 pub use beginning::begin;
 pub use carrying::carry_out;
 pub use checking::check;
-pub use command::run;
 pub use getting::get;
 pub use law::laws;
 pub use migrating::migrate_to;

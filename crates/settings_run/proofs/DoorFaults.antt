@@ -1,5 +1,5 @@
 -- How a run ends by its status: well, or because of the door.
-use Rattle.std.proofs.Common.{arith, ◌≡◌, inl, inr, ℕ, List, Option, Result, Ok, Err, IsOk, refl, sym, ◌∙◌, ap}
+use Rattle.std.proofs.Common.{arith, ◌≡◌, inl, inr, ℕ, List, Option, Ok, Err, IsOk, refl, sym, ◌∙◌, ap}
 use Rattle.std.specs.Result.{IsErrOf}
 use Rattle.outside.specs.Faults.{Rose}
 use Rattle.command_outcome.specs.Ends.{Outcome, status_in, Ends}

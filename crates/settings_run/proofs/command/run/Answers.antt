@@ -1,7 +1,22 @@
-use Rattle.settings_cmd.proofs.Spawned.{unspawned, spawned}
-use Rattle.settings_cmd.proofs.Unfaulted.{unfaulted, faulted}
-use Rattle.settings_cmd.proofs.DoorFaults.{door_failed, ended_well}
-use Rattle.settings_cmd.proofs.command.run.Goals as goal
+use Rattle.settings_run.proofs.SpawnerFaults.{unspawned, spawned}
+use Rattle.settings_run.proofs.DiskFaults.{unfaulted, faulted}
+use Rattle.settings_run.proofs.DoorFaults.{door_failed, ended_well}
+use Rattle.settings_run.proofs.Headlines.{headline}
+use Rattle.settings_run.proofs.command.run.Goals as goal
+
+pub returns-clause-headline : goal.returns-clause-headline
+returns-clause-headline g c = headline _ c.carry_out-outcome.result _ _ _ _ _ _ _ _ c.tell.result _ _ c.tell.ensures.ends (record {
+  unrun = c.carry_out-outcome.ensures.unrun;
+  inits = c.carry_out-outcome.ensures.init;
+  serves = c.carry_out-outcome.ensures.serve;
+  sets = c.carry_out-outcome.ensures.set;
+  gets = c.carry_out-outcome.ensures.get;
+  applies = c.carry_out-outcome.ensures.apply;
+  checks = c.carry_out-outcome.ensures.check;
+  migrates = c.carry_out-outcome.ensures.migrate;
+  prunes = c.carry_out-outcome.ensures.prune;
+  unbuilt = c.carry_out-outcome.ensures.not_built;
+})
 
 pub returns-clause-usage : goal.returns-clause-usage
 returns-clause-usage g c none = record { outcome = c.carry_out-outcome.result; comes = c.carry_out-outcome.ensures.usage none; ends = c.tell.ensures.ends }

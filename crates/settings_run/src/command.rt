@@ -9,14 +9,15 @@ ghost use Rattle.command_words.specs.Orders.{Order, Spells, SpellsNone, serve as
 ghost use Rattle.core_commands.specs.Carried.{Carried as Commanded, set_requests, apply_requests};
 ghost use Rattle.core_commands.specs.Lines.{IsSettingsLine, IsJobLine};
 ghost use Rattle.api_server.specs.Serving.{wanted};
-ghost use Rattle.settings_cmd.specs.Serving.{IsServed};
+ghost use Rattle.settings_cmd.specs.Serving.{HasServed};
 ghost use Rattle.version_links.specs.declared.version.Version.{Version};
 ghost use Rattle.settings_cmd.specs.Carried.{IsMisused, IsBegun, IsGot, IsChecked, IsMigrated, IsPruned, IsUnbuilt, ServesNot, RunsNothing, is_built};
-ghost use Rattle.settings_cmd.specs.Runs.{Runs, RunsAs};
+ghost use Rattle.settings_run.specs.Headline.{Headline, devices};
+ghost use Rattle.settings_run.specs.Runs.{Runs, RunsAs};
 
-use crate::carrying::carry_out;
 use command_outcome::tell;
 use outside::{Asker, Disk, Door, Sink};
+use settings_cmd::carry_out;
 use std::alloc::Global;
 
 /// Runs one command, from its words to the devices and the output, and answers the exit status.
@@ -35,11 +36,17 @@ pub fn run<D: Disk, S: Asker, N: Door, O: Sink>(
 ) -> u8
     requires idle { (N.state door.old).busy ≡ false }
     requires unused { (N.state door.old).accepted ≡ 0 }
+    // Each list of words that orders something is a run of the map machine, where the disk tells, was settled at the start and had a paid store, or none.
+    ensures headline { Headline (texts words.now) result
+        (devices (D.told disk.old) (N.told door.old) (S.runs spawner.old) (O.told out.old))
+        (devices (D.told disk.new) (N.told door.new) (S.runs spawner.new) (O.told out.new)) }
+
+    // What each command does, on any disk.
     ensures usage { SpellsNone (texts words.now) → Runs IsMisused result (D.told disk.old) (D.told disk.new) (O.told out.old) (O.told out.new) }
     ensures init { (version : Version) → Spells (texts words.now) (InitOrder version)
         → Runs (IsBegun version) result (D.told disk.old) (D.told disk.new) (O.told out.old) (O.told out.new) }
     ensures serve { (boot : Bool) (slice connections : Option ℕ) → Spells (texts words.now) (ServeOrder boot slice connections)
-        → Runs (IsServed boot slice (N.told door.old) (N.told door.new) (S.runs spawner.old) (S.runs spawner.new)) result (D.told disk.old) (D.told disk.new) (O.told out.old) (O.told out.new) }
+        → RunsAs (λ outcome. HasServed boot slice (N.told door.old) (N.told door.new) (S.runs spawner.old) (S.runs spawner.new) outcome (D.told disk.old) (D.told disk.new)) result (O.told out.old) (O.told out.new) }
     ensures served { (boot : Bool) (slice connections : Option ℕ) → Spells (texts words.now) (ServeOrder boot slice connections)
         → result ≡ 0 → ((N.state door.new).accepted ≡ wanted connections) ⊎ ((N.state door.new).ended ≡ true) }
     ensures set { (pairs : List (List (List ℕ) × Value)) → Spells (texts words.now) (SetOrder pairs)

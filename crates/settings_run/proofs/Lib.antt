@@ -1,0 +1,11 @@
+pub mod DiskFaults
+pub mod DoorFaults
+pub mod SpawnerFaults
+pub mod Calm
+pub mod PaidFiles
+pub mod Answered
+pub mod Beginnings
+pub mod Commands
+pub mod Moves
+pub mod Words
+pub mod Headlines

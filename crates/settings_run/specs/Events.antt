@@ -1,0 +1,50 @@
+-- The events of each command, by what it came to.
+use Rattle.std.specs.Prelude.{◌≡◌, ◌⊎◌, ◌++◌, List, [], ◌∷◌, codes, Option, Some, Ok, Err}
+use Rattle.outside.specs.Exchange.{Exchange}
+use Rattle.settings_machine.specs.World.{Image, World}
+use Rattle.settings_machine.specs.Events.{Event}
+use Rattle.machine_disk.specs.Kept.{Folder}
+use Rattle.version_links.specs.declared.version.Version.{Version}
+use Rattle.version_links.specs.Versions.{version_text}
+use Rattle.release_file.specs.declared.release.Release.{Release}
+use Rattle.migrate_chain.specs.Tasks.{Mapped}
+use Rattle.store_events.specs.Laws.{MoveEvents}
+use Rattle.command_outcome.specs.Ends.{Outcome}
+use Rattle.command_outcome.specs.declared.refusal.Refusal.TheVariants as refused
+use Rattle.command_words.specs.Orders.{Order, init, serve, set, get, apply, check, migrate, prune, load, generate, user_data}
+use Rattle.core_commands.specs.Carried.{set_requests, apply_requests}
+use Rattle.core_commands.specs.Lines.{IsSettingsLine, IsJobLine}
+use Rattle.settings_cmd.specs.Releases.{IsReleaseIn}
+use Rattle.command_runs.specs.Laws.{RequestEvents, ServeEvents, GetEvents}
+
+-- The release of the image, and what its migrations made, led from W to the version by these events: one, or none where the store was there
+-- in format 2.
+pub record MovesBy (folder : Folder) (W : World) (to : Version) (events : List Event) : Type 0 where
+  pub release : Release
+  pub read : IsReleaseIn (λ path. folder (codes "image" ∷ path)) release
+  pub mapped : List Mapped
+  pub events_are : MoveEvents W to release.transitions.items release.migrations.items (Some []) (Some mapped) events
+
+-- The version is printed of a store that was moved; a move that was refused is no event.
+abbrev pub MigrateEvents : Folder → World → Version → Outcome → List Event → Type 0
+MigrateEvents folder W to (Ok line) events = (line ≡ version_text to ++ 10 ∷ []) × MovesBy folder W to events
+MigrateEvents folder W to (Err refusal) events = events ≡ []
+
+-- Memory was wanting before anything was done.
+abbrev pub IsUnbegun : Outcome → List Event → Type 0
+IsUnbegun outcome events = (outcome ≡ Err refused.Memory) × (events ≡ [])
+
+-- What each command makes of W, where a store is there. `init`, `check`, `prune` and `load` make no event. The connections are those that the door
+-- has accepted, before and after.
+abbrev pub Makes : Order → Image → Folder → World → Option (List Exchange) → Option (List Exchange) → Outcome → List Event → Type 0
+Makes (init version) I folder W x x' outcome events = events ≡ []
+Makes (serve boot slice connections) I folder W x x' outcome events = ServeEvents I W boot slice x x' outcome events ⊎ (IsUnbegun outcome events × (x' ≡ x))
+Makes (set pairs) I folder W x x' outcome events = RequestEvents I W (set_requests pairs) IsSettingsLine outcome events ⊎ IsUnbegun outcome events
+Makes (get keys) I folder W x x' outcome events = GetEvents I W keys outcome events ⊎ IsUnbegun outcome events
+Makes apply I folder W x x' outcome events = RequestEvents I W apply_requests IsJobLine outcome events ⊎ IsUnbegun outcome events
+Makes check I folder W x x' outcome events = events ≡ []
+Makes (migrate to) I folder W x x' outcome events = MigrateEvents folder W to outcome events
+Makes prune I folder W x x' outcome events = events ≡ []
+Makes (load count) I folder W x x' outcome events = events ≡ []
+Makes generate I folder W x x' outcome events = events ≡ []
+Makes (user_data path) I folder W x x' outcome events = events ≡ []

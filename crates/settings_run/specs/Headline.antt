@@ -1,0 +1,123 @@
+-- The headline: what every run of the program is, said of the map machine.
+use Rattle.std.specs.Prelude.{◌≡◌, ◌⊎◌, ◌++◌, ℕ, Bool, true, false, List, Option, Err, OnOk}
+use Rattle.outside.specs.Exchange.{Exchange}
+use Rattle.outside.specs.History.{History, tree_of, EachImage}
+use Rattle.outside.specs.Since.{EachSince}
+use Rattle.outside.specs.Spawner.{Run}
+use Rattle.outside.specs.Told.{Moves}
+use Rattle.settings_machine.specs.World.{Image, World, owes_none, due}
+use Rattle.settings_machine.specs.Covered.{IsCovered}
+use Rattle.settings_machine.specs.Events.{Event, Began, next, after}
+use Rattle.settings_machine.specs.Jobs.{RunInOrder}
+use Rattle.settings_machine.specs.Paid.{IsCurrent, Paid, IsGood}
+use Rattle.machine_disk.specs.Kept.{Folder}
+use Rattle.machine_disk.specs.Ran.{AtPrefix, AtLatePrefix, IsWorldOf}
+use Rattle.machine_disk.specs.Store.{HasStore, HasFiles, Recovers}
+use Rattle.store_open.specs.Laws.{IsImageOfFolder}
+use Rattle.store_events.specs.Laws.{IsBare, IsBeginning, HasBegun}
+use Rattle.version_links.specs.declared.version.Version.{Version}
+use Rattle.command_outcome.specs.Ends.{Outcome, Ends}
+use Rattle.command_outcome.specs.declared.refusal.Refusal.TheVariants as refused
+use Rattle.command_words.specs.Orders.{Order, Spells, init, serve, migrate}
+use Rattle.core_commands.specs.Carried.{RunsBy}
+use Rattle.command_runs.specs.Laws.{Begins}
+use Rattle.settings_run.specs.Events.{Makes, MovesBy}
+
+-- ---- what the devices tell
+
+-- The disk's history, the connections that were accepted, the programs that were run, and what was written to the output, where each is told.
+pub record Devices : Type 0 where
+  pub disk : Option History
+  pub connections : Option (List Exchange)
+  pub runs : Option (List Run)
+  pub output : Option (List ℕ)
+
+-- These four.
+abbrev pub devices : Option History → Option (List Exchange) → Option (List Run) → Option (List ℕ) → Devices
+devices disk connections runs output = record { disk = disk; connections = connections; runs = runs; output = output }
+
+-- ---- the five points
+
+-- The replies and lines are those of the machine after the events, and so are the settings and the configuration files of the disk.
+pub record IsMachines (order : Order) (I : Image) (folder : Folder) (W : World) (x x' : Option (List Exchange)) (outcome : Outcome) (events : List Event) (new : History) : Type 0 where
+  pub made : Makes order I folder W x x' outcome events
+  pub settings : HasStore (after I W events) (tree_of new)
+  pub files : HasFiles (after I W events).etc (tree_of new)
+
+-- Whether a command acknowledges all its events by ending well. `serve` acknowledges requests alone, each by its reply.
+abbrev pub acknowledges_all : Order → Bool
+acknowledges_all (serve boot slice connections) = false
+acknowledges_all _ = true
+
+-- A crash at any moment recovers to a prefix of the events, and at the end to one behind which no event is acknowledged: to all of them where a
+-- command other than `serve` has ended well.
+pub record RecoversToPrefix (order : Order) (I : Image) (W : World) (outcome : Outcome) (events : List Event) (old new : History) : Type 0 where
+  pub any_moment : EachSince (AtPrefix I W events) old new
+  pub at_exit : EachImage (AtLatePrefix I W events) new
+  pub ended_well : acknowledges_all order ≡ true → OnOk outcome (EachImage (Recovers I (after I W events)) new)
+
+-- Each covered file is what its template renders to from scratch, or it is due; so where no key is owed, each is.
+pub record ArePaid (I : Image) (X : World) : Type 0 where
+  pub paid : Paid I X
+  pub current : owes_none (due I X.held) ≡ true → (file : List ℕ) → IsCovered I file → IsCurrent I X file
+
+-- So it is after each prefix of the events, and of what a crash at any moment leaves.
+pub record FilesArePaid (I : Image) (W : World) (events : List Event) (old new : History) : Type 0 where
+  pub any_prefix : (first rest : List Event) → events ≡ first ++ rest → ArePaid I (after I W first)
+  pub any_moment : EachSince (λ image. (X : World) → IsWorldOf image X → ArePaid I X) old new
+
+-- The programs that were run are those of the events' jobs, and each job ran the commands of the services that what was owed when it began affects,
+-- in order, up to the first that failed.
+pub record RestartsAffected (I : Image) (W : World) (events : List Event) (ran_before ran_after : Option (List Run)) : Type 0 where
+  pub restarts : RunInOrder I W events
+  pub ran : RunsBy I W events ran_before ran_after
+
+-- ---- a run where a store is there
+
+-- It is these events of the machine.
+pub record IsRun (order : Order) (I : Image) (folder : Folder) (W : World) (x x' : Option (List Exchange)) (r r' : Option (List Run)) (outcome : Outcome) (old new : History)
+    : Type 0 where
+  pub events : List Event
+  pub machine : IsMachines order I folder W x x' outcome events new
+  pub crashes : RecoversToPrefix order I W outcome events old new
+  pub paid_files : FilesArePaid I W events old new
+  pub restarts : RestartsAffected I W events r r'
+
+-- The disk failed a move, and it happened or not: a crash recovers to the world before it, or to the one after it.
+pub record FailsToMove (order : Order) (I : Image) (folder : Folder) (W : World) (r r' : Option (List Run)) (outcome : Outcome) (old new : History) : Type 0 where
+  pub to : Version
+  pub order_is : order ≡ migrate to
+  pub outcome_is : outcome ≡ Err refused.Disk
+  pub any_moment : EachSince (λ image. Recovers I W image ⊎ ((events : List Event) × MovesBy folder W to events × Recovers I (after I W events) image)) old new
+  pub paid_files : EachSince (λ image. (X : World) → IsWorldOf image X → ArePaid I X) old new
+  pub no_runs : r' ≡ r
+
+-- A run is a list of events; but where the disk failed a move, that happened or not.
+abbrev pub RunsOver : Order → Image → Folder → World → Option (List Exchange) → Option (List Exchange) → Option (List Run) → Option (List Run) → Outcome → History → History
+    → Type 0
+RunsOver order I folder W x x' r r' outcome old new = IsRun order I folder W x x' r r' outcome old new ⊎ FailsToMove order I folder W r r' outcome old new
+
+-- By each image that the folder makes, and each world that the disk begins at, settled and paid.
+abbrev pub RunsOverAll : Order → Option (List Exchange) → Option (List Exchange) → Option (List Run) → Option (List Run) → Outcome → History → History → Type 0
+RunsOverAll order x x' r r' outcome old new = (I : Image) → IsGood I → (folder : Folder) → IsImageOfFolder I folder → (W : World) → Begins I folder W old
+    → RunsOver order I folder W x x' r r' outcome old new
+
+-- ---- a run where no store is there
+
+-- A store of the version is begun, which is one event: a crash at any moment leaves none, or it, whole; and where the command ended well, it.
+pub record BeginsStore (version : Version) (outcome : Outcome) (old new : History) : Type 0 where
+  pub each : (I : Image) → IsGood I → (W : World) → IsBare W old
+      → IsBeginning I (next I W (Began version)) old new × OnOk outcome (HasBegun I (next I W (Began version)) new)
+
+-- ---- the headline
+
+-- A command came to something, whose status and text the run ended with; and it is a run of the machine, crash included.
+pub record IsRunOfMachine (order : Order) (status : ℕ) (before now : Devices) : Type 0 where
+  pub outcome : Outcome
+  pub ends : Ends outcome status before.output now.output
+  pub runs : Moves before.disk now.disk (RunsOverAll order before.connections now.connections before.runs now.runs outcome)
+  pub begins : (version : Version) → order ≡ init version → Moves before.disk now.disk (BeginsStore version outcome)
+
+-- So it is of every list of words that orders something.
+abbrev pub Headline : List (List ℕ) → ℕ → Devices → Devices → Type 0
+Headline words status before now = (order : Order) → Spells words order → IsRunOfMachine order status before now

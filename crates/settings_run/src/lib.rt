@@ -1,0 +1,6 @@
+//! The public call of the program `settings`: one run, from its words to the devices and the output, and its headline.
+#![tactic(auto)]
+
+mod command;
+
+pub use command::run;
