@@ -1,0 +1,4 @@
+pub mod Numbers
+pub mod Image
+pub mod Files
+pub mod Requests
