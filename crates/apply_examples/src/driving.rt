@@ -1,156 +1,133 @@
-//! Jobs that are driven on, turn by turn.
+//! A job on a disk, driven on turn by turn, with the machine in memory beside it.
 ghost use Rattle.std.specs.Prelude.{All};
 ghost use Rattle.affected_apply.specs.Sees.{HasRow};
 
+use crate::shown::{files_of, machine_files, machine_runs, machine_stands, runs_of, same, stands};
 use affected_apply::{Cause, Job, Turn, View};
-use disk_memory::{MemoryDisk, MemorySpawner};
-use key_names::read_list;
-use settings_tree::{Content, KeyList, Owed};
+use disk_memory::{MemoryDisk, MemorySpawner, Node};
+use key_names::{Bytes, Text};
+use plain_machine::{PlainImage, PlainMachine, TurnAnswer};
+use settings_machine::Job as MachineJob;
 use std::alloc::{AllocError, Global};
 use std::test::Fail;
-use store_image::Image;
 
-/// The text is the wanted one.
-pub fn same(shown: &str, wanted: &str, at: &str) -> Result<(), Fail> {
-    if shown == wanted {
-        return Ok(());
+// The file that is next.
+fn next_file(job: &MachineJob) -> Option<&Text> {
+    match job {
+        MachineJob::Running(work) => work.files.first(),
+        _ => None,
     }
-    Err(Fail::new(format_args!("{shown}, not {wanted}, at {at}")))
 }
 
-/// The keys that the text lists, rising, and none for the empty text.
-pub fn keys_of(alloc: Global, text: &str) -> Result<KeyList, Fail> {
-    if text.is_empty() {
-        return Ok(KeyList::new(alloc));
+// What a failed write left at the path of the file.
+fn left(
+    alloc: Global,
+    image: &PlainImage,
+    file: &Text,
+    disk: &MemoryDisk,
+) -> Result<Option<Bytes>, AllocError> {
+    let Some(row) = image.manifest.file(file.as_str().as_bytes()) else {
+        return Ok(None);
+    };
+    match disk.node(&row.path) {
+        Some(Node::File(bytes)) => Ok(Some(Bytes::of(bytes.as_slice().to_vec(alloc)?))),
+        _ => Ok(None),
     }
-    let keys = read_list(alloc, text.as_bytes())?;
-    if KeyList::rise(&keys) {
-        return Ok(KeyList::of(keys));
-    }
-    Err(Fail::new(format_args!("{text} doesn't rise")))
 }
 
-/// What is owed: all, or the keys that the text lists.
-pub fn owed_of(alloc: Global, text: &str) -> Result<Owed, Fail> {
-    if text == "all" {
-        return Ok(Owed::All);
-    }
-    Ok(Owed::Keys(keys_of(alloc, text)?))
-}
-
-fn cause_line(alloc: Global, cause: &Cause) -> Result<String, AllocError> {
+// What the outside let the turn come to, where it failed for this cause.
+fn answer_of(
+    alloc: Global,
+    image: &PlainImage,
+    cause: &Cause,
+    machine: &PlainMachine,
+    disk: &MemoryDisk,
+) -> Result<TurnAnswer, AllocError> {
     match cause {
-        Cause::Disk => String::from_str(alloc, "failed disk\n"),
-        Cause::Memory => String::from_str(alloc, "failed memory\n"),
-        Cause::Spawn { service } => {
-            let service = service.as_str();
-            format!(in alloc; "failed spawn {service}\n")
-        }
-        Cause::Render { file, error: _ } => {
-            let file = file.as_str();
-            format!(in alloc; "failed render {file}\n")
-        }
-        Cause::Status { service, number } => {
-            let service = service.as_str();
-            format!(in alloc; "failed status {service} {number}\n")
-        }
+        Cause::Disk => match next_file(&machine.job) {
+            Some(file) => {
+                let left = left(alloc, image, file, disk)?;
+                Ok(TurnAnswer::FileFault { left })
+            }
+            None => Ok(TurnAnswer::SyncFault),
+        },
+        Cause::Spawn { .. } => Ok(TurnAnswer::NoSpawn),
+        Cause::Status { number, .. } => Ok(TurnAnswer::Fine { status: *number }),
+        Cause::Memory => Ok(TurnAnswer::NoRoom),
+        Cause::Render { .. } => Ok(TurnAnswer::Fine { status: 0 }),
     }
 }
 
-fn line(alloc: Global, turn: &Turn) -> Result<String, AllocError> {
-    match turn {
-        Turn::Wrote { file } => {
-            let file = file.as_str();
-            format!(in alloc; "wrote {file}\n")
-        }
-        Turn::Ran { service, index } => {
-            let service = service.as_str();
-            format!(in alloc; "ran {service} {index}\n")
-        }
-        Turn::Done => String::from_str(alloc, "done\n"),
-        Turn::Failed { cause } => cause_line(alloc, cause),
-    }
+// The machine makes the turn too.
+fn follow(
+    alloc: Global,
+    image: &PlainImage,
+    turn: &Turn,
+    machine: &mut PlainMachine,
+    disk: &MemoryDisk,
+) -> Result<(), AllocError> {
+    let answer = match turn {
+        Turn::Failed { cause } => answer_of(alloc, image, cause, machine, disk)?,
+        _ => TurnAnswer::Fine { status: 0 },
+    };
+    machine.turn(alloc, image, answer)
 }
 
-// One turn over these live settings, whose line is put at the end of the log. It answers whether the job goes on.
+// The disk and the programs are as the machine has them.
+fn agree(
+    alloc: Global,
+    machine: &PlainMachine,
+    disk: &MemoryDisk,
+    spawner: &MemorySpawner,
+) -> Result<(), Fail> {
+    let files = machine_files(alloc, machine)?;
+    same(files_of(alloc, disk)?.as_str(), files.as_str(), "the files")?;
+    let runs = machine_runs(alloc, machine)?;
+    same(runs_of(alloc, spawner)?.as_str(), runs.as_str(), "the runs")
+}
+
+// One turn of both, after which job, files and programs are the same. It answers how the job stands.
 fn step(
     alloc: Global,
-    image: &Image,
-    live: &Content,
+    image: &PlainImage,
+    machine: &mut PlainMachine,
     job: &mut Job,
     disk: &mut MemoryDisk,
     spawner: &mut MemorySpawner,
-    log: &mut String,
-) -> Result<bool, Fail>
+) -> Result<String, Fail>
     requires { All (HasRow image.now.manifest) job.old.work.files }
     ensures { All (HasRow image.now.manifest) job.new.work.files }
 {
     let view = View {
-        live,
-        os: &image.model.os,
+        live: &machine.held.live,
+        os: &image.os,
         manifest: &image.manifest,
         templates: &image.templates,
     };
     let turn = job.turn(&view, disk, spawner);
-    log.push_str(line(alloc, &turn)?.as_str())?;
-    Ok(matches!(turn, Turn::Wrote { .. } | Turn::Ran { .. }))
+    follow(alloc, image, &turn, machine, disk)?;
+    let shown = stands(alloc, &turn)?;
+    let wanted = machine_stands(alloc, &machine.job)?;
+    same(shown.as_str(), wanted.as_str(), "the job")?;
+    agree(alloc, machine, disk, spawner)?;
+    Ok(shown)
 }
 
-/// Turns over these live settings until the job is done or fails, whose lines are put at the end of the log.
+/// Turns of a job of all that is owed, until it is done or fails. It answers how many went well, and how the job stands.
 pub fn drive(
     alloc: Global,
-    image: &Image,
-    live: &Content,
-    job: &mut Job,
+    image: &PlainImage,
+    machine: &mut PlainMachine,
     disk: &mut MemoryDisk,
     spawner: &mut MemorySpawner,
-    log: &mut String,
-) -> Result<(), Fail>
-    requires { All (HasRow image.now.manifest) job.old.work.files }
-{
-    for _ in 0..20 {
-        if !step(alloc, image, live, job, disk, spawner, log)? {
-            return Ok(());
+) -> Result<String, Fail> {
+    let mut job = Job::begin(&image.manifest, &machine.held.owed)?;
+    for went_well in 0..20 {
+        let shown = step(alloc, image, machine, &mut job, disk, spawner)?;
+        if shown.as_str() != "running" {
+            let shown = shown.as_str();
+            return Ok(format!(in alloc; "{went_well} {shown}")?);
         }
     }
-    Ok(())
-}
-
-/// A job of what is owed, driven on over these live settings; its lines are put at the end of the log.
-pub fn run(
-    alloc: Global,
-    image: &Image,
-    live: &Content,
-    owed: &str,
-    disk: &mut MemoryDisk,
-    spawner: &mut MemorySpawner,
-    log: &mut String,
-) -> Result<(), Fail> {
-    let owed = owed_of(alloc, owed)?;
-    let mut job = Job::begin(&image.manifest, &owed)?;
-    drive(alloc, image, live, &mut job, disk, spawner, log)
-}
-
-/// A spawner whose runs end with these statuses, None being a failure, and those past them with 0.
-pub fn spawner_of(alloc: Global, statuses: &[Option<u16>]) -> Result<MemorySpawner, AllocError> {
-    Ok(MemorySpawner::of_statuses(alloc, statuses.to_vec(alloc)?))
-}
-
-fn push_words(shown: &mut String, words: &[String]) -> Result<(), AllocError> {
-    for word in words {
-        shown.push_str(word.as_str())?;
-        shown.push(' ')?;
-    }
-    Ok(())
-}
-
-/// The programs that were run, a line for each, with its words and its status.
-pub fn runs_of(alloc: Global, spawner: &MemorySpawner) -> Result<String, AllocError> {
-    let mut shown = String::new(alloc);
-    for run in spawner.runs() {
-        push_words(&mut shown, &run.words)?;
-        let status = run.status;
-        shown.push_str(format!(in alloc; "{status}\n")?.as_str())?;
-    }
-    Ok(shown)
+    Err(Fail::new("a job without end"))
 }

@@ -1,9 +1,12 @@
 //! A small host: three services with a file each, and four commands.
-use disk_memory::{MemoryDisk, Node};
+use disk_memory::MemoryDisk;
+use key_names::Bytes;
 use outside::{Disk, Path};
+use plain_machine::{PlainImage, PlainMachine};
 use std::alloc::Global;
 use std::test::Fail;
-use store_image::{Image, read_image};
+use store_image::read_image;
+use version_links::Version;
 
 const HOST: &str = "[types]
 \"settings.motd\" = \"line\"
@@ -34,9 +37,11 @@ affected-services = [\"chronyd\"]
 [metadata.settings.kernel.sysctl]
 affected-services = [\"sysctl\"]
 [settings]
+motd = \"Welcome\"
+ntp.time-servers = [\"a\", \"b\"]
 ";
 
-// The files that stand there at first, but for the model.
+// The files that stand there at first.
 const FILES: &[(&str, &str)] = &[
     ("image/templates/motd", "{{settings.motd}}"),
     (
@@ -47,6 +52,7 @@ const FILES: &[(&str, &str)] = &[
         "image/templates/sysctl",
         "{{#if settings.kernel.sysctl}}{{#each settings.kernel.sysctl}}{{@key}}={{this}} {{/each}}{{/if}}",
     ),
+    ("image/model.toml", HOST),
     ("etc/chrony.conf", "old"),
     ("etc/motd", "old"),
     ("etc/sysctl", "old"),
@@ -58,39 +64,51 @@ fn put(alloc: Global, disk: &mut MemoryDisk, path: &str, bytes: &str) -> Result<
     Ok(())
 }
 
-/// The disk of the host with these default settings, synced.
-pub fn disk_of(alloc: Global, settings: &str) -> Result<MemoryDisk, Fail> {
+/// The disk of the host, synced.
+pub fn disk_of(alloc: Global) -> Result<MemoryDisk, Fail> {
     let mut disk = MemoryDisk::new(alloc)?;
     for (path, bytes) in FILES {
         put(alloc, &mut disk, path, bytes)?;
     }
-    let model = format!(in alloc; "{HOST}{settings}")?;
-    put(alloc, &mut disk, "image/model.toml", model.as_str())?;
     disk.sync()?;
     Ok(disk)
 }
 
-/// The image of the host with these default settings.
-pub fn image_of(alloc: Global, settings: &str) -> Result<Image, Fail> {
-    let mut disk = disk_of(alloc, settings)?;
-    Ok(read_image(alloc, &mut disk)?)
+/// The image of the host.
+pub fn image_of(alloc: Global) -> Result<PlainImage, Fail> {
+    let image = read_image(alloc, &mut disk_of(alloc)?)?;
+    Ok(PlainImage {
+        types: image.model.types,
+        os: image.model.os,
+        defaults: image.model.content,
+        manifest: image.manifest,
+        templates: image.templates,
+        text: image.text,
+    })
 }
 
-fn push_file(alloc: Global, shown: &mut String, disk: &MemoryDisk, path: &str) -> Result<(), Fail> {
-    let path = Path::read(alloc, path.as_bytes())?;
-    if let Some(Node::File(bytes)) = disk.node(&path) {
-        let text = String::from_utf8_lossy(alloc, bytes.as_slice())?;
-        shown.push_str(text.as_str())?;
+/// The configuration files.
+pub const WRITTEN: &[&str] = &["/etc/chrony.conf", "/etc/motd", "/etc/sysctl"];
+
+// The machine with the old files, which owes all and runs no job.
+fn resting(alloc: Global, image: &PlainImage) -> Result<PlainMachine, Fail> {
+    let version = Version {
+        major: 1,
+        minor: 5,
+        patch: 2,
+    };
+    let mut machine = PlainMachine::new(alloc, version);
+    machine.held.live = image.defaults.copy()?;
+    for path in WRITTEN {
+        let path = Path::read(alloc, path.as_bytes())?;
+        machine.etc.insert(path, Bytes::of(b"old".to_vec(alloc)?))?;
     }
-    shown.push('|')?;
-    Ok(())
+    Ok(machine)
 }
 
-/// What the files of chrony, motd and sysctl hold, each followed by a bar.
-pub fn files_of(alloc: Global, disk: &MemoryDisk) -> Result<String, Fail> {
-    let mut shown = String::new(alloc);
-    for path in ["etc/chrony.conf", "etc/motd", "etc/sysctl"] {
-        push_file(alloc, &mut shown, disk, path)?;
-    }
-    Ok(shown)
+/// The machine with the old files, which owes all and runs a job of it.
+pub fn machine_of(alloc: Global, image: &PlainImage) -> Result<PlainMachine, Fail> {
+    let mut machine = resting(alloc, image)?;
+    machine.apply(alloc, image)?;
+    Ok(machine)
 }

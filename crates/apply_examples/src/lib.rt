@@ -7,4 +7,6 @@ mod driving;
 #[cfg(test)]
 mod host;
 #[cfg(test)]
+mod shown;
+#[cfg(test)]
 mod tests;

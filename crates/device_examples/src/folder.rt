@@ -1,7 +1,7 @@
 //! Folders for tests.
 use std::{env, fs, io, process};
 
-// A new folder for this test.
+/// A new folder for this test.
 pub fn new_folder(rt: &HostRuntime, name: &str) -> io::Result<String> {
     let base = env::temp_dir(rt)?;
     let base = base.as_str();

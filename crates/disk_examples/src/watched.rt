@@ -10,6 +10,7 @@ use std::rt::Files;
 use std::test::Fail;
 use std::{env, process};
 
+/// The path that the text spells.
 pub fn path(alloc: Global, text: &str) -> Result<Path, Fail> {
     Ok(Path::read(alloc, text.as_bytes())?)
 }
@@ -25,7 +26,7 @@ fn new_folder(rt: &HostRuntime, name: &str) -> io::Result<String> {
     Ok(folder)
 }
 
-// The calls to the system below a folder.
+/// The calls to the system below a folder.
 #[derive(Drop)]
 pub struct Watched {
     rt: HostRuntime,
@@ -36,7 +37,7 @@ pub struct Watched {
     left: Rc<Cell<u64>>,
 }
 
-// A file that was opened there.
+/// A file that was opened there.
 #[derive(Drop)]
 pub struct WatchedFile {
     file: File,
@@ -45,7 +46,7 @@ pub struct WatchedFile {
 }
 
 impl Watched {
-    // Those below a new folder.
+    /// Those below a new folder.
     pub fn new(rt: &HostRuntime, name: &str) -> io::Result<Watched> {
         let alloc = rt.alloc();
         Ok(Watched {
@@ -56,22 +57,22 @@ impl Watched {
         })
     }
 
-    // A disk below the folder.
+    /// A disk below the folder.
     pub fn disk(&self) -> Result<RealDisk<Watched>, AllocError> {
         RealDisk::new(self.clone()?, self.root.as_str())
     }
 
-    // The place of what lies there below the folder.
+    /// The place of what lies there below the folder.
     pub fn place(&self, below: &str) -> Result<String, AllocError> {
         format!(in self.rt.alloc(); "{}/{below}", self.root)
     }
 
-    // Makes the k-th of the next calls fail; none for 0.
+    /// Makes the k-th of the next calls fail; none for 0.
     pub fn fail(&self, k: u64) {
         self.left.set(k);
     }
 
-    // Writes a line down.
+    /// Writes a line down.
     pub fn write_down(&self, line: &str) -> Result<(), AllocError> {
         let mut log = self.trace();
         log.push_str(line)?;
@@ -80,12 +81,12 @@ impl Watched {
         Ok(())
     }
 
-    // What was written down since the last time.
+    /// What was written down since the last time.
     pub fn trace(&self) -> String {
         self.log.replace(String::new(self.rt.alloc()))
     }
 
-    // Removes the folder.
+    /// Removes the folder.
     pub fn end(&self) -> io::Result<()> {
         fs::remove_dir_all(&self.rt, self.root.as_str())
     }

@@ -1,40 +1,14 @@
 //! A machine in memory that is ready.
-ghost use Rattle.std.specs.Prelude.{◌≡◌, IfOk};
+ghost use Rattle.std.specs.Prelude.{IfOk};
 ghost use Rattle.model_file.specs.Model.{AreTyped};
+ghost use Rattle.opening_step.specs.Step.{AreSettings};
 ghost use Rattle.settings_machine.specs.Typed.{IsTypedHeld};
+ghost use Rattle.typed_settings.specs.Order.{IsTable};
 
-use key_names::read_list;
-use plain_machine::{PlainImage, PlainMachine, TurnAnswer};
-use settings_tree::{Content, Held, KeyList, Owed, PendMaps};
+use plain_machine::{OpeningAnswer, PlainImage, PlainMachine, TurnAnswer};
 use std::alloc::{AllocError, Global};
 use std::test::Fail;
 use version_links::Version;
-
-// The default content, with weak settings.
-fn first_content(alloc: Global, defaults: &Content) -> Result<Content, Fail>
-    ensures { IfOk result (λ live. live.values ≡ defaults.now.values) }
-{
-    let mut live = defaults.copy()?;
-    let weak = read_list(alloc, b"settings.motd,settings.ntp.time-servers")?;
-    if !KeyList::rise(&weak) || !live.may_be_weak(&weak) {
-        return Err(Fail::new("no weak keys"));
-    }
-    live.set_weak(KeyList::of(weak));
-    Ok(live)
-}
-
-// What a new store holds once it is opened.
-fn first_held(alloc: Global, image: &PlainImage) -> Result<Held, Fail>
-    requires { AreTyped image.now.types image.now.defaults.values }
-    ensures { IfOk result (λ held. IsTypedHeld image.now.types held) }
-{
-    Ok(Held {
-        live: first_content(alloc, &image.defaults)?,
-        pending: PendMaps::new(alloc),
-        owed: Owed::All,
-        image: image.text.copy()?,
-    })
-}
 
 /// Nine turns, in which each program ends with the status. No job of the rows takes more.
 pub fn turns(
@@ -54,7 +28,9 @@ pub fn turns(
 
 /// A machine whose store is opened, with all paid that was owed.
 pub fn ready(alloc: Global, image: &PlainImage) -> Result<PlainMachine, Fail>
-    requires { AreTyped image.now.types image.now.defaults.values }
+    requires table { IsTable image.now.types }
+    requires defaults { AreTyped image.now.types image.now.defaults.values }
+    requires settings { AreSettings image.now.defaults.values }
     ensures { IfOk result (λ machine. IsTypedHeld image.now.types machine.held) }
 {
     let version = Version {
@@ -63,7 +39,7 @@ pub fn ready(alloc: Global, image: &PlainImage) -> Result<PlainMachine, Fail>
         patch: 2,
     };
     let mut machine = PlainMachine::new(alloc, version);
-    machine.migrate(version, first_held(alloc, image)?);
+    machine.open_store(alloc, image, true, OpeningAnswer::Succeeded)?;
     machine.apply(alloc, image)?;
     turns(alloc, image, &mut machine, 0)?;
     machine.runs.clear();

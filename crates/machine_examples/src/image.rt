@@ -1,6 +1,7 @@
 //! The image of a host with a message of the day, a time service and kernel settings.
 ghost use Rattle.std.specs.Prelude.{IfOk};
 ghost use Rattle.model_file.specs.Model.{AreTyped};
+ghost use Rattle.opening_step.specs.Step.{AreSettings};
 ghost use Rattle.typed_settings.specs.Order.{IsTable};
 
 use crate::texts::{bytes, text};
@@ -77,6 +78,7 @@ fn templates(alloc: Global) -> Result<Templates, Fail> {
 pub fn image(alloc: Global) -> Result<PlainImage, Fail>
     ensures table { IfOk result (λ image. IsTable image.types) }
     ensures typed { IfOk result (λ image. AreTyped image.types image.defaults.values) }
+    ensures settings { IfOk result (λ image. AreSettings image.defaults.values) }
 {
     let model = Model::read(alloc, MODEL.as_bytes())?;
     let _ = model.types.len();

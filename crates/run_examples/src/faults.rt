@@ -1,8 +1,8 @@
 //! Devices that fail.
-use crate::host::ready;
+use crate::host::{WHOLE, begun, ready};
 use crate::runs::{Given, asked, holds, runs, same, told};
-use disk_memory::{MemoryDisk, Pick};
-use std::alloc::Global;
+use disk_memory::{Bytes, MemoryDisk, Pick};
+use std::alloc::{AllocError, Global};
 use std::test::Fail;
 
 const READS: &str = "GET /os\nGET /os\nGET /os";
@@ -187,4 +187,76 @@ fn a_patch_is_there_whole_or_not(rt: HostRuntime) -> Result<(), Fail> {
     let mut new = disk.crash(&[Pick::New])?;
     let there = "0 \n200 [\"default\"]\n";
     runs(alloc, &mut new, "serve", asked("GET /tx/list"), there)
+}
+
+// Commands that ask for nothing, and what is printed.
+const READS_ALONE: &[(&str, &str)] = &[
+    (
+        "get",
+        "0 {\"settings\":{\"motd\":\"Welcome\",\"ntp\":{\"time-servers\":[\"a.example\",\"b.example\"]}}}\n",
+    ),
+    ("check", "0 chrony covered\nmotd covered\nsysctl covered\n"),
+];
+
+fn pick(alloc: Global, kind: &str) -> Result<Pick, AllocError> {
+    Ok(match kind {
+        "old" => Pick::Old,
+        "torn" => Pick::Torn(Bytes::of(b"xx".to_vec(alloc)?)),
+        _ => Pick::New,
+    })
+}
+
+// What a crash leaves, where this is left of each path that isn't on the disk.
+fn left(alloc: Global, disk: &MemoryDisk, kind: &str) -> Result<MemoryDisk, Fail> {
+    let mut picks = Vec::new(alloc);
+    for _ in 0..40 {
+        picks.push(pick(alloc, kind)?)?;
+    }
+    Ok(disk.crash(&picks)?)
+}
+
+// The run makes so many calls, of which the one behind so many fails, and then each; whatever a crash leaves, the next run of
+// the words prints what it is to print, and `apply` pays.
+fn fails(
+    alloc: Global,
+    from: &MemoryDisk,
+    line: &str,
+    wanted: &str,
+    calls: u64,
+) -> Result<(), Fail> {
+    let mut disk = failing(alloc, from, calls.saturating_add(1))?;
+    runs(alloc, &mut disk, line, asked(""), "3 settings: disk\n")?;
+    runs(alloc, &mut disk, line, asked(""), wanted)?;
+    let mut disk = from.crash(&[])?;
+    disk.stop_after(calls);
+    runs(alloc, &mut disk, line, asked(""), "3 settings: disk\n")?;
+    for kind in ["old", "new", "torn"] {
+        let mut disk = left(alloc, &disk, kind)?;
+        runs(alloc, &mut disk, line, asked(""), wanted)?;
+        begins(alloc, &mut disk, "apply", "", IDLE)?;
+        holds(alloc, &disk, "etc/motd", "Welcome\n")?;
+    }
+    Ok(())
+}
+
+// Over a host that was never opened, and one that is ready.
+#[test]
+fn each_call_of_a_reading_fails(rt: HostRuntime) -> Result<(), Fail> {
+    let alloc = rt.alloc();
+    for from in [begun(alloc, WHOLE)?, ready(alloc)?] {
+        for (line, wanted) in READS_ALONE {
+            each_fails(alloc, &from, line, wanted)?;
+        }
+    }
+    Ok(())
+}
+
+// Each call of the run fails.
+fn each_fails(alloc: Global, from: &MemoryDisk, line: &str, wanted: &str) -> Result<(), Fail> {
+    let mut disk = from.crash(&[])?;
+    runs(alloc, &mut disk, line, asked(""), wanted)?;
+    for calls in 0..disk.calls() {
+        fails(alloc, from, line, wanted, calls)?;
+    }
+    Ok(())
 }

@@ -1,7 +1,7 @@
 //! Runs over devices in memory, and what is told of them.
 use disk_memory::{Input, MemoryDisk, MemoryDoor, MemorySink, MemorySpawner, Node};
 use outside::Path;
-use settings_cmd::run;
+use settings_run::run;
 use std::alloc::{AllocError, Global};
 use std::test::Fail;
 

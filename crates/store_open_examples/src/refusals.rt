@@ -1,5 +1,5 @@
 //! Each refusal, and which of two is told.
-use crate::stores::{File, host, same, store};
+use crate::stores::{File, MODEL, host, same, store};
 use crate::words::{begun, opened};
 use outside::{Disk, Path};
 use std::alloc::Global;
@@ -141,4 +141,23 @@ fn refuses_links(rt: HostRuntime) -> Result<(), Fail> {
         "bad link store/current",
         "a beginning",
     )
+}
+
+// A model that is cut there makes another image, or it is told what is wrong with it.
+fn cut(alloc: Global, length: usize) -> Result<(), Fail> {
+    let mut disk = store(alloc, &[("image/model.toml", MODEL.get(..length))])?;
+    let told = opened(alloc, &mut disk, false)?;
+    let told = told.as_str();
+    if told == "open" || told.starts_with("bad image model.toml ") {
+        return Ok(());
+    }
+    same(told, "open", "a model that is cut")
+}
+
+#[test]
+fn tells_of_models_that_are_cut(rt: HostRuntime) -> Result<(), Fail> {
+    for length in 0..MODEL.len() {
+        cut(rt.alloc(), length)?;
+    }
+    Ok(())
 }

@@ -7,7 +7,7 @@ use store_open::init;
 use version_links::Version;
 
 /// The model of a host with two default settings, one service and one file.
-const MODEL: &str = "[types]
+pub const MODEL: &str = "[types]
 \"settings.motd\" = \"line\"
 \"settings.ntp.time-servers\" = \"list line\"
 [settings]
@@ -29,6 +29,7 @@ pub const IMAGE_TEXT: &str =
 template motd e3tzZXR0aW5ncy5tb3RkfX0K
 ";
 
+/// The version of the host's store.
 pub const V1_5_2: Version = Version {
     major: 1,
     minor: 5,

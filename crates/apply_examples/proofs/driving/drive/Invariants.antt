@@ -3,5 +3,5 @@ use Rattle.affected_apply.specs.Sees.{HasRow}
 use Rattle.apply_examples.proofs.driving.drive.Given as goal
 
 -- each file that is still to do has a row
-abbrev pub invariant-loop : goal.invariant-loop
-invariant-loop l = All (HasRow l.image.manifest) l.job.work.files
+abbrev pub invariant-loop-went_well : goal.invariant-loop-went_well
+invariant-loop-went_well l = All (HasRow l.image.manifest) l.job.work.files

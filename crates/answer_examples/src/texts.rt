@@ -1,0 +1,61 @@
+//! Texts, and what is made of them.
+ghost use Rattle.machine_answers.specs.Replies.{MayNest};
+
+use api_http::{Answer, print_reply};
+use key_names::{Key, Text};
+use machine_answers::MachineReply;
+use settings_tree::TxName;
+use std::alloc::{AllocError, Global};
+use std::test::Fail;
+
+/// The text, owned.
+pub fn text(alloc: Global, text: &str) -> Result<Text, AllocError> {
+    Ok(Text::of(String::from_str(alloc, text)?))
+}
+
+/// The key that the text is.
+pub fn key(alloc: Global, text: &str) -> Result<Key, Fail> {
+    Ok(Key::read(alloc, text.as_bytes())?)
+}
+
+/// The name of a transaction.
+pub fn tx(alloc: Global, name: &str) -> Result<TxName, Fail> {
+    match TxName::read(alloc, name.as_bytes())? {
+        Some(tx) => Ok(tx),
+        None => Err(Fail::new("no name of a transaction")),
+    }
+}
+
+/// The text is the wanted one.
+pub fn same(shown: &str, wanted: &str) -> Result<(), Fail> {
+    if shown == wanted {
+        return Ok(());
+    }
+    Err(Fail::new(format_args!("{shown}, not {wanted}")))
+}
+
+/// The bytes of the whole answer.
+pub fn whole(alloc: Global, answer: &Answer) -> Result<String, AllocError> {
+    let reply = print_reply(alloc, answer)?;
+    String::from_utf8_lossy(alloc, reply.bytes())
+}
+
+fn body(alloc: Global, answer: &Answer) -> Result<String, AllocError> {
+    match answer {
+        Answer::Json { text } => String::from_str(alloc, text.as_str()),
+        Answer::Empty => Ok(String::new(alloc)),
+        Answer::Refused { refusal } => String::from_str(alloc, refusal.body(alloc)?.as_str()),
+    }
+}
+
+/// The status of the answer that says the reply, and its body.
+pub fn said(alloc: Global, reply: MachineReply) -> Result<String, AllocError>
+    requires { MayNest reply }
+{
+    let answer = reply.into_answer(alloc)?;
+    let printed = print_reply(alloc, &answer)?;
+    let status = printed.status();
+    let body = body(alloc, &answer)?;
+    let body = body.as_str();
+    format!(in alloc; "{status} {body}")
+}
