@@ -1,8 +1,15 @@
-# The two commands of the set-up: `make first-run` and `make test`.
+# `make first-run` and `make test` are the set-up; `make install` lays the programs, their manual pages and the unit of the system.
 
-# Builds the program, which `rt run` does only once all of it is proved, and makes the first run on the least host, in a folder
-# of its own. An earlier build goes first, so what runs is what was proved now. The run without words is refused (status 2) and
-# touches nothing; whether the build went well shows in the program that it leaves.
+PREFIX = /usr/local
+DESTDIR =
+BINDIR = $(PREFIX)/bin
+MANDIR = $(PREFIX)/share/man
+LIBDIR = $(PREFIX)/lib
+# The built programs, which `rt ci` and `make programs` leave here.
+SETTINGS ?= crates/settings/out/settings
+SETTINGSCTL ?= crates/settingsctl/out/settingsctl
+
+# Builds the program and makes the first run on the least host, in a folder of its own.
 first-run:
 	rm -f crates/settings/out/settings
 	cd crates/settings && { rt run > /dev/null || test -x out/settings; }
@@ -11,8 +18,37 @@ first-run:
 	cd out/first-run && ../../crates/settings/out/settings set 'settings.motd="hi"'
 	cat out/first-run/etc/motd
 
+# Builds the programs, which `rt run` does only once all of them is proved. Earlier builds go first, so what is there was proved now.
+# The runs without words are refused (status 2) and touch nothing; whether the build went well shows in the programs that it leaves.
+programs:
+	rm -f crates/settings/out/settings crates/settingsctl/out/settingsctl
+	cd crates/settings && { rt run > /dev/null || test -x out/settings; }
+	cd crates/settingsctl && { rt run > /dev/null || test -x out/settingsctl; }
+
 # Every proof, edit, test and program.
 test:
 	rt ci
 
-.PHONY: first-run test
+# Lays what is built and proves nothing. With PREFIX=/usr the system finds the unit and the two lists beside it by itself.
+install:
+	@test -x "$(SETTINGS)" -a -x "$(SETTINGSCTL)" || { echo 'the programs are not built: make programs' >&2; exit 1; }
+	install -d "$(DESTDIR)$(BINDIR)" "$(DESTDIR)$(MANDIR)/man1" "$(DESTDIR)$(MANDIR)/man5" "$(DESTDIR)$(MANDIR)/man8"
+	install -d "$(DESTDIR)$(LIBDIR)/systemd/system" "$(DESTDIR)$(LIBDIR)/sysusers.d" "$(DESTDIR)$(LIBDIR)/tmpfiles.d"
+	install -m 755 "$(SETTINGS)" "$(DESTDIR)$(BINDIR)/settings"
+	install -m 755 "$(SETTINGSCTL)" "$(DESTDIR)$(BINDIR)/settingsctl"
+	install -m 644 man/settingsctl.1 "$(DESTDIR)$(MANDIR)/man1"
+	install -m 644 man/settings-image.5 "$(DESTDIR)$(MANDIR)/man5"
+	install -m 644 man/settings.8 "$(DESTDIR)$(MANDIR)/man8"
+	sed 's|@BINDIR@|$(BINDIR)|' packaging/settings.service > "$(DESTDIR)$(LIBDIR)/systemd/system/settings.service"
+	chmod 644 "$(DESTDIR)$(LIBDIR)/systemd/system/settings.service"
+	install -m 644 packaging/settings.sysusers "$(DESTDIR)$(LIBDIR)/sysusers.d/settings.conf"
+	install -m 644 packaging/settings.tmpfiles "$(DESTDIR)$(LIBDIR)/tmpfiles.d/settings.conf"
+
+# Takes away what `install` has laid. The working folder, the user and what the host has set stay.
+uninstall:
+	rm -f "$(DESTDIR)$(BINDIR)/settings" "$(DESTDIR)$(BINDIR)/settingsctl"
+	rm -f "$(DESTDIR)$(MANDIR)/man1/settingsctl.1" "$(DESTDIR)$(MANDIR)/man5/settings-image.5" "$(DESTDIR)$(MANDIR)/man8/settings.8"
+	rm -f "$(DESTDIR)$(LIBDIR)/systemd/system/settings.service"
+	rm -f "$(DESTDIR)$(LIBDIR)/sysusers.d/settings.conf" "$(DESTDIR)$(LIBDIR)/tmpfiles.d/settings.conf"
+
+.PHONY: first-run programs test install uninstall
