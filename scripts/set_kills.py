@@ -1,8 +1,8 @@
 #!/usr/bin/env python3
-"""set_kills.py PROGRAM [N]: kills `set` at random moments, N times, and looks at the setting and its file each time.
+"""set_kills.py PROGRAM [N]: kills `set` and then `apply` at random moments, N times, and looks at the setting and its file each time.
 
-PROGRAM is the program `settings`. After each kill `get` has to answer the text of before or the new one, and the new one where
-`set` had ended with status 0; then `apply` ends with 0 and `etc/motd` is the text, rendered."""
+PROGRAM is the program `settings`. After each kill of `set` `get` has to answer the text of before or the new one, and the new one where
+`set` had ended with status 0; then `apply` is killed, and the next one ends with 0 and `etc/motd` is the text, rendered."""
 import os
 import random
 import shutil
@@ -36,8 +36,8 @@ def seconds_of(program, folder):
     return time.monotonic() - began
 
 
-def fault_of(program, folder, old, new, status):
-    """What is wrong after `set` of the new text, or None; and the text that stands."""
+def fault_of(program, folder, old, new, status, most):
+    """What is wrong after `set` of the new text, and after an `apply` that is killed, or None; and the text that stands."""
     code, line = run(program, folder, 'get', 'settings.motd')
     texts = {'{"settings":{"motd":"%s"}}' % text: text for text in (old, new)}
     if code != 0 or line not in texts:
@@ -45,6 +45,7 @@ def fault_of(program, folder, old, new, status):
     text = texts[line]
     if status == 0 and text != new:
         return f'set ended with 0, and the text is {text}', text
+    killed(program, folder, most, 'apply')
     code, line = run(program, folder, 'apply')
     with open(f'{folder}/etc/motd', encoding='utf-8') as file:
         written = file.read()
@@ -63,7 +64,7 @@ def main():
     text, ends, new_texts, faults = '0', [], 0, []
     for number in range(1, rounds + 1):
         status = killed(program, folder, most, 'set', f'settings.motd="{number}"')
-        fault, now = fault_of(program, folder, text, str(number), status)
+        fault, now = fault_of(program, folder, text, str(number), status, most)
         ends.append(status)
         new_texts += status is None and now == str(number)
         text = now
