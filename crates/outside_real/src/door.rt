@@ -15,6 +15,9 @@ use std::os::unix::net::{UnixListener, UnixStream};
 use std::rt::{Files, Net};
 use std::time::Clock;
 
+/// How many seconds a client is waited for, and how many more it may take to read its answer.
+const PATIENCE: u64 = 10;
+
 /// A door over the Unix socket `api.sock` in a folder, to which its owner and its group may connect. It is never at its
 /// end.
 ///
@@ -118,7 +121,7 @@ where
                 accepted: 0,
                 broken: false,
             },
-            patience: Patience::new(),
+            patience: Patience::of_seconds(PATIENCE),
             faults: Faults::new(),
         })
     }
@@ -171,7 +174,7 @@ where
         let answer = self.client();
         match self.faults.counted(answer) {
             Ok(stream) => {
-                self.patience = Patience::new();
+                self.patience = Patience::of_seconds(PATIENCE);
                 self.clients.last = Some(stream);
                 self.clients.accepted += 1;
                 Ok(true)

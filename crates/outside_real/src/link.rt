@@ -11,9 +11,13 @@ use std::os::unix::net::UnixStream;
 use std::rt::Net;
 use std::time::Clock;
 
+/// How many seconds a server is waited for. It answers one client after another, and each may hold it for some twenty seconds: one
+/// that keeps silent must not make the next give up.
+const PATIENCE: u64 = 30;
+
 /// A link to the Unix socket `api.sock` in a folder. Each error of the system is a fault.
 ///
-/// So is a server that keeps the calls of the connection waiting for ten seconds in all, those that read or those that
+/// So is a server that keeps the calls of the connection waiting for thirty seconds in all, those that read or those that
 /// write.
 #[derive(Drop)]
 pub struct RealLink<R: Net + Clock + Drop> {
@@ -32,7 +36,7 @@ impl<R: Net + Clock + AllocGlobal + Drop> RealLink<R> {
             rt,
             place,
             stream: None,
-            patience: Patience::new(),
+            patience: Patience::of_seconds(PATIENCE),
             faults: Faults::new(),
         })
     }
@@ -49,7 +53,7 @@ impl<R: Net + Clock + Drop> Link for RealLink<R> {
         let answer = UnixStream::connect(&self.rt, self.place.as_str());
         let stream = self.faults.counted(answer)?;
         self.stream = Some(stream);
-        self.patience = Patience::new();
+        self.patience = Patience::of_seconds(PATIENCE);
         Ok(())
     }
 

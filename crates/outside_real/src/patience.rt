@@ -6,10 +6,6 @@ use std::net::Shutdown;
 use std::os::unix::net::UnixStream;
 use std::time::{Clock, Duration, Instant};
 
-/// How many seconds the calls that read a connection may wait in all, and how many those that write it. Who keeps them
-/// waiting longer is parted from.
-const PATIENCE: u64 = 10;
-
 /// How many seconds the end of a finished client is waited for.
 const PARTING: u64 = 1;
 
@@ -58,11 +54,12 @@ fn write_once(
 }
 
 impl Patience {
-    /// That of a new connection.
-    pub fn new() -> Patience {
+    /// That of a new connection: the calls that read it may wait so many seconds in all, and so may those that write it. Who keeps
+    /// them waiting longer is parted from.
+    pub fn of_seconds(seconds: u64) -> Patience {
         Patience {
-            read: Duration::from_secs(PATIENCE),
-            write: Duration::from_secs(PATIENCE),
+            read: Duration::from_secs(seconds),
+            write: Duration::from_secs(seconds),
         }
     }
 
