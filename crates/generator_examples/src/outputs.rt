@@ -1,0 +1,33 @@
+//! Outputs at the limit of their length.
+use crate::read::same;
+use crate::spawned::{answer, given};
+use std::alloc::{AllocError, Global};
+use std::test::Fail;
+
+// A number with spaces behind it, of so many bytes.
+fn output(alloc: Global, len: usize) -> Result<Vec<u8>, AllocError> {
+    let mut output = Vec::new(alloc);
+    output.push(b'1')?;
+    output.resize(len, b' ')?;
+    Ok(output)
+}
+
+fn gives(alloc: Global, len: usize, wanted: &str) -> Result<(), Fail> {
+    let output = output(alloc, len)?;
+    let mut answers = Vec::new(alloc);
+    answers.push(answer(alloc, 0, b"0")?)?;
+    answers.push(answer(alloc, 0, &output)?)?;
+    let given = given(alloc, "settings.a", answers)?;
+    same(given.as_str(), wanted)
+}
+
+#[test]
+fn takes_an_output_up_to_the_limit(rt: HostRuntime) -> Result<(), Fail> {
+    let alloc = rt.alloc();
+    gives(
+        alloc,
+        1_048_576,
+        "settings.b=0 settings.c.d=1 ?gen-b ?gen-d x ",
+    )?;
+    gives(alloc, 1_048_577, "settings.c.d output?gen-b ?gen-d x ")
+}
