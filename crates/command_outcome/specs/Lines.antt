@@ -6,7 +6,7 @@ use Rattle.version_links.specs.Versions.{version_text}
 use Rattle.template_eval.specs.declared.render_error.RenderError.{RenderError}
 use Rattle.template_eval.specs.declared.render_error.RenderError.TheVariants as render
 use Rattle.command_outcome.specs.declared.refusal.Refusal.{Refusal}
-use Rattle.command_outcome.specs.declared.refusal.Refusal.TheVariants.{Memory, Usage, Disk, Door, Spawn, NoStore, Damaged, BadLink, BadJournal, BadImage, IllTyped, NotCovered, Render, Status, Missing, Conflict, Refused, AlreadyThere, OldFormat, MigrationStatus, MigrationOutput, NotBuilt}
+use Rattle.command_outcome.specs.declared.refusal.Refusal.TheVariants.{Memory, Usage, Disk, Door, Spawn, NoStore, Damaged, BadLink, BadJournal, BadImage, IllTyped, NotCovered, Render, Status, Missing, Conflict, Refused, AlreadyThere, OldFormat, GeneratorStatus, GeneratorOutput, UserData, MigrationStatus, MigrationOutput}
 
 -- The status of a refused command.
 abbrev pub status_of : Refusal → ℕ
@@ -29,9 +29,11 @@ status_of (Conflict key) = 11
 status_of (Refused status body) = 13
 status_of (AlreadyThere version) = 14
 status_of (OldFormat directory) = 15
+status_of (GeneratorStatus key number) = 16
+status_of (GeneratorOutput key) = 16
+status_of (UserData kind at) = 17
 status_of (MigrationStatus name number) = 18
 status_of (MigrationOutput name) = 18
-status_of NotBuilt = 20
 
 -- A space and a text.
 abbrev pub spaced : List ℕ → List ℕ
@@ -74,9 +76,11 @@ told (Conflict key) = codes "conflict" ++ spaced (printed key)
 told (Refused status body) = codes "refused" ++ spaced (decimal status) ++ spaced body
 told (AlreadyThere version) = codes "already there" ++ spaced (version_text version)
 told (OldFormat directory) = codes "old format" ++ spaced (joined directory)
+told (GeneratorStatus key number) = codes "generator" ++ spaced (printed key) ++ codes " status " ++ decimal number
+told (GeneratorOutput key) = codes "generator" ++ spaced (printed key) ++ codes " output"
+told (UserData kind at) = codes "user data" ++ spaced kind ++ spaced at
 told (MigrationStatus name number) = codes "migration" ++ spaced name ++ codes " status " ++ decimal number
 told (MigrationOutput name) = codes "migration" ++ spaced name ++ codes " output"
-told NotBuilt = codes "not built"
 
 -- What is printed of a refusal.
 abbrev pub line_of : Refusal → List ℕ

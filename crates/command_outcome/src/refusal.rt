@@ -101,6 +101,25 @@ pub enum Refusal {
         /// Its data directory.
         directory: Path,
     },
+    /// 16: the program of a generator ended with another status than 0.
+    GeneratorStatus {
+        /// The key of the setting that it gives.
+        key: Key,
+        /// The status.
+        number: u16,
+    },
+    /// 16: the program of a generator gave no value.
+    GeneratorOutput {
+        /// The key of the setting that it should give.
+        key: Key,
+    },
+    /// 17: the file of user data is missing, or has a fault.
+    UserData {
+        /// The kind of its fault.
+        kind: Text,
+        /// Where the fault is.
+        at: Text,
+    },
     /// 18: the program of a migration ended with another status than 0.
     MigrationStatus {
         /// The migration.
@@ -113,8 +132,6 @@ pub enum Refusal {
         /// The migration.
         name: Text,
     },
-    /// 20: the command is not built yet.
-    NotBuilt,
 }
 
 impl From<AllocError> for Refusal {

@@ -140,21 +140,36 @@ fn push_status(line: &mut Vec<u8>, service: &Text, number: u16) -> Result<(), Al
     line.extend_from_slice(buffer.format(number).as_bytes())
 }
 
-fn push_migration_status(line: &mut Vec<u8>, name: &Text, number: u16) -> Result<(), AllocError>
+// Adds words, a space, a name, and the status of its program.
+fn push_program_status(
+    line: &mut Vec<u8>,
+    words: &str,
+    name: &Text,
+    number: u16,
+) -> Result<(), AllocError>
     ensures { OnOk result (line.new.items
-        ≡ line.old.items ++ (codes "migration" ++ spaced name.now ++ codes " status " ++ decimal number)) }
+        ≡ line.old.items ++ (words.now ++ spaced name.now ++ codes " status " ++ decimal number)) }
 {
     let mut buffer = Buffer::new();
-    push_name(line, "migration", name)?;
+    push_name(line, words, name)?;
     line.extend_from_slice(b" status ")?;
     line.extend_from_slice(buffer.format(number).as_bytes())
 }
 
-fn push_output(line: &mut Vec<u8>, name: &Text) -> Result<(), AllocError>
-    ensures { OnOk result (line.new.items ≡ line.old.items ++ (codes "migration" ++ spaced name.now ++ codes " output")) }
+// Adds words, a space, a name, and that its program's output is refused.
+fn push_output(line: &mut Vec<u8>, words: &str, name: &Text) -> Result<(), AllocError>
+    ensures { OnOk result (line.new.items ≡ line.old.items ++ (words.now ++ spaced name.now ++ codes " output")) }
 {
-    push_name(line, "migration", name)?;
+    push_name(line, words, name)?;
     line.extend_from_slice(b" output")
+}
+
+fn push_data(line: &mut Vec<u8>, kind: &Text, at: &Text) -> Result<(), AllocError>
+    ensures { OnOk result (line.new.items ≡ line.old.items ++ (codes "user data" ++ spaced kind.now ++ spaced at.now)) }
+{
+    line.extend_from_slice(b"user data")?;
+    push_text(line, kind)?;
+    push_text(line, at)
 }
 
 fn push_reply(line: &mut Vec<u8>, status: u16, body: &[u8]) -> Result<(), AllocError>
@@ -192,9 +207,15 @@ fn push_told(alloc: Global, line: &mut Vec<u8>, refusal: &Refusal) -> Result<(),
         Refusal::Refused { status, body } => push_reply(line, *status, body.as_slice()),
         Refusal::AlreadyThere { version } => push_there(alloc, line, version),
         Refusal::OldFormat { directory } => push_path(line, "old format", directory),
-        Refusal::MigrationStatus { name, number } => push_migration_status(line, name, *number),
-        Refusal::MigrationOutput { name } => push_output(line, name),
-        Refusal::NotBuilt => line.extend_from_slice(b"not built"),
+        Refusal::GeneratorStatus { key, number } => {
+            push_program_status(line, "generator", &key.print()?, *number)
+        }
+        Refusal::GeneratorOutput { key } => push_output(line, "generator", &key.print()?),
+        Refusal::UserData { kind, at } => push_data(line, kind, at),
+        Refusal::MigrationStatus { name, number } => {
+            push_program_status(line, "migration", name, *number)
+        }
+        Refusal::MigrationOutput { name } => push_output(line, "migration", name),
     }
 }
 
@@ -228,8 +249,9 @@ impl Refusal {
             Refusal::Refused { .. } => 13,
             Refusal::AlreadyThere { .. } => 14,
             Refusal::OldFormat { .. } => 15,
+            Refusal::GeneratorStatus { .. } | Refusal::GeneratorOutput { .. } => 16,
+            Refusal::UserData { .. } => 17,
             Refusal::MigrationStatus { .. } | Refusal::MigrationOutput { .. } => 18,
-            Refusal::NotBuilt => 20,
         }
     }
 

@@ -1,5 +1,5 @@
 //! How a command ended is told.
-ghost use Rattle.std.specs.Prelude.{◌≡◌, ◌≢◌, ◌⊎◌, Err, codes};
+ghost use Rattle.std.specs.Prelude.{◌≡◌, ◌≢◌, ◌⊎◌, Err, IsErrOf, codes};
 ghost use Rattle.outside.specs.Told.{Moves};
 ghost use Rattle.outside.specs.Faults.{Rose};
 ghost use Rattle.sink_text.specs.Said.{IsSaid};
@@ -55,9 +55,10 @@ fn tell_refusal<O: Sink>(alloc: Global, out: &mut O, refusal: &Refusal) -> u8
 
 /// Writes what a command printed, or the line of its refusal, and answers its status: 0 for what it printed, else that of the
 /// refusal. It is 12 in place of any but 1 where the output fails, some of the text being written then, from the first on; and 1
-/// where memory for the line is wanting.
+/// where memory for the line is wanting. Want of memory is 1 whatever the output does.
 pub fn tell<O: Sink>(alloc: Global, out: &mut O, outcome: &Result<Bytes, Refusal>) -> u8
     ensures ends { Ends outcome.now result (O.told out.old) (O.told out.new) }
+    ensures memory { IsErrOf outcome.now Refusal.Memory → result ≡ 1 }
     ensures sink_fault { result ≡ 12 → Rose (O.faults out.old) (O.faults out.new) }
     ensures sink_faults { result ≢ 1 → result ≢ 12 → O.faults out.new ≡ O.faults out.old }
     ensures memory_line { result ≡ 1 → Moves (O.told out.old) (O.told out.new) (IsSaid (codes "settings: memory\n")) ⊎ Rose (O.faults out.old) (O.faults out.new) }

@@ -1,5 +1,5 @@
 -- Requests one after another.
-use Rattle.std.proofs.Common.{arith, ◌≡◌, ◌≢◌, ℕ, ◌+◌, ◌<◌, ◌≤◌, length, get_or, take, drop, Bool, true, false, List, [], ◌∷◌, ◌++◌, Result, Ok, Err, refl, sym, ◌∙◌, ap, subst}
+use Rattle.std.proofs.Common.{arith, ◌≡◌, ◌≢◌, ℕ, ◌+◌, ◌<◌, ◌≤◌, length, get_or, take, drop, Bool, true, false, List, [], ◌∷◌, ◌++◌, Result, Ok, Err, append_assoc, refl, sym, ◌∙◌, ap, subst}
 use Rattle.std.proofs.lemmas.List.{take_more, drop_more, map-append, take-append-drop}
 use Rattle.outside.specs.Faults.{Rose, HasCauseOf}
 use Rattle.outside.specs.History.{History}
@@ -20,7 +20,7 @@ use Rattle.api_core.specs.Asks.{Says}
 use Rattle.api_core.specs.Cores.{core_state}
 use Rattle.api_core.specs.Handled.{IsHandled, Handles}
 use Rattle.api_core.specs.declared.serving.Core.{Core}
-use Rattle.core_commands.specs.Asking.{requests, asked_all, AllSucceed, Succeeds, AskedBy, AsksEach, is_of_success}
+use Rattle.core_commands.specs.Asking.{requests, asked_all, AllSucceed, Succeeds, Stops, AskedBy, AsksEach, AskedLastBy, AsksEachAndLast, is_of_success}
 use Rattle.core_commands.proofs.Replied.{says_success, alone, was_answered}
 
 asked-append : (qs ps : List Request) → asked_all (qs ++ ps) ≡ asked_all qs ++ asked_all ps
@@ -73,13 +73,13 @@ none_asked c old = record {
       record { events = []; asks = record { events_are = refl; answered = tt }; made = ran_none I folder W V old (core_state c) kept; holds = holds };
 }
 
--- One more request that was answered with success.
-pub one_more : (qs : List Request) (q : Request) (sent : Sent) (first mid now : Core) (old between new : History)
+-- One more request that was answered with success, with the reply to it.
+pub one_last : (qs : List Request) (q : Request) (sent : Sent) (first mid now : Core) (old between new : History)
     → mid.faulted ≡ false → is_of_success sent.status ≡ true → AsksEach qs (Ok tt) first mid old between
-    → Handles mid q sent now between new → AsksEach (qs ++ q ∷ []) (Ok tt) first now old new
-one_more qs q sent first mid now old between new calm fine so_far handles = record { each = by } where
+    → Handles mid q sent now between new → AsksEachAndLast qs q (Ok sent) first now old new
+one_last qs q sent first mid now old between new calm fine so_far handles = record { each = by } where
   by : (I : Image) → IsGood I → HoldsImage I first.image → (folder : Folder) (W V : World) → Kept I folder W V old (core_state first)
-      → AskedBy I folder W V (qs ++ q ∷ []) (Ok tt) first now old new
+      → AskedLastBy I folder W V qs q (Ok sent) first now old new
   by I good holds folder W V kept =
       let a : AskedBy I folder W V qs (Ok tt) first mid old between = so_far.each I good holds folder W V kept in
       let s : Succeeds I W qs a.events = a.asks in
@@ -89,17 +89,31 @@ one_more qs q sent first mid now old between new calm fine so_far handles = reco
       let success : is_success (request_next I X q o.outcome).reply ≡ true = sym (says_success (request_next I X q o.outcome).reply sent o.says) ∙ fine in
       let is : o.outcome ≡ Answered = was_answered I X q o.outcome success in
       let event : a.events ++ Asked q o.outcome ∷ [] ≡ a.events ++ Asked q Answered ∷ [] = ap (λ (x : Outcome). a.events ++ Asked q x ∷ []) is in
+      let reply : (request_next I X q o.outcome).reply ≡ (request_next I (after I W (asked_all qs)) q Answered).reply =
+      ap (λ (x : Outcome). (request_next I X q x).reply) is ∙ ap (λ (l : List Event). (request_next I (after I W l) q Answered).reply) s.events_are in
       record {
         events = a.events ++ Asked q o.outcome ∷ [];
-        asks = record {
-          events_are = event ∙ ap (λ (l : List Event). l ++ Asked q Answered ∷ []) s.events_are ∙ sym (asked-append qs (q ∷ []));
-          answered = succeed_more I W qs q s.answered
-              (subst (λ (l : List Event). is_success (request_next I (after I W l) q Answered).reply ≡ true) s.events_are
-              (subst (λ (x : Outcome). is_success (request_next I X q x).reply ≡ true) is success));
-        };
+        asks = (
+          record {
+            events_are = event ∙ ap (λ (l : List Event). l ++ Asked q Answered ∷ []) s.events_are ∙ sym (asked-append qs (q ∷ []));
+            answered = succeed_more I W qs q s.answered (subst (λ (r : Reply). is_success r ≡ true) reply success);
+          },
+          subst (λ (r : Reply). Says r sent) reply o.says,
+        );
         made = ran_more I folder W V a.events (Asked q o.outcome ∷ []) old between new (core_state first) (core_state mid) (core_state now) a.made o.made;
         holds = o.holds;
       }
+
+-- Without the reply to it.
+pub one_more : (qs : List Request) (q : Request) (sent : Sent) (first mid now : Core) (old between new : History)
+    → mid.faulted ≡ false → is_of_success sent.status ≡ true → AsksEach qs (Ok tt) first mid old between
+    → Handles mid q sent now between new → AsksEach (qs ++ q ∷ []) (Ok tt) first now old new
+one_more qs q sent first mid now old between new calm fine so_far handles = record {
+  each = λ I good holds folder W V kept.
+      let a : AskedLastBy I folder W V qs q (Ok sent) first now old new =
+      (one_last qs q sent first mid now old between new calm fine so_far handles).each I good holds folder W V kept in
+      record { events = a.events; asks = a.asks.0; made = a.made; holds = a.holds };
+}
 
 -- One more request, which was not.
 pub one_refused : (qs : List Request) (q : Request) (left all : List Request) (sent : Sent) (first mid now : Core)
@@ -136,6 +150,42 @@ one_refused qs q left all sent first mid now old between new whole calm bad so_f
         holds = o.holds;
       }
 
+-- ---- requests and a last one
+
+-- The last one is not answered with success.
+pub last_refused : (qs : List Request) (q : Request) (sent : Sent) (first mid now : Core) (old between new : History)
+    → mid.faulted ≡ false → is_of_success sent.status ≡ false → AsksEach qs (Ok tt) first mid old between
+    → Handles mid q sent now between new → AsksEachAndLast qs q (Err sent) first now old new
+last_refused qs q sent first mid now old between new calm bad so_far handles = record {
+  each = λ I good holds folder W V kept.
+      let a : AskedBy I folder W V (qs ++ q ∷ []) (Err sent) first now old new =
+      (one_refused qs q [] (qs ++ q ∷ []) sent first mid now old between new refl calm bad so_far handles).each I good holds folder W V kept in
+      record { events = a.events; asks = a.asks; made = a.made; holds = a.holds };
+}
+
+stops_before : (I : Image) (W : World) (qs : List Request) (q : Request) (reply : Reply) (events : List Event) → Stops I W qs reply events → Stops I W (qs ++ q ∷ []) reply events
+stops_before I W qs q reply events s = record {
+  first = s.first;
+  last = s.last;
+  left = s.left ++ q ∷ [];
+  all = ap (λ (l : List Request). l ++ q ∷ []) s.all ∙ append_assoc s.first (s.last ∷ s.left) (q ∷ []);
+  answered = s.answered;
+  outcome = s.outcome;
+  opens = s.opens;
+  reply_is = s.reply_is;
+  refused = s.refused;
+  events_are = s.events_are;
+}
+
+-- One before it is not, and it is not asked.
+pub first_refused : (qs : List Request) (q : Request) (sent : Sent) (first now : Core) (old new : History) → AsksEach qs (Err sent) first now old new
+    → AsksEachAndLast qs q (Err sent) first now old new
+first_refused qs q sent first now old new asks = record {
+  each = λ I good holds folder W V kept.
+      let a : AskedBy I folder W V qs (Err sent) first now old new = asks.each I good holds folder W V kept in
+      record { events = a.events; asks = (a.asks.0, a.asks.1, stops_before I W qs q a.asks.0 a.events a.asks.2); made = a.made; holds = a.holds };
+}
+
 -- ---- the requests up to one of them
 
 -- One more,
@@ -169,14 +219,24 @@ asked_last asks i ask below is sent first mid now old between new calm bad so_fa
     one_refused (requests (take i asks)) (request_of (question ask)) (requests (drop (i + 1) asks)) (requests asks) sent first mid now old between new
     (requests_split asks i ask below ∙ ap (λ (a : Ask). requests (take i asks) ++ request_of (question a) ∷ requests (drop (i + 1) asks)) (sym is)) calm bad so_far handles
 
+error_is : {T E : Type 0} (e f : E) → ◌≡◌ {A = Result T E} (Err e) (Err f) → e ≡ f
+error_is e f is = cc is
+
+-- An error tells of a failed disk as it did.
+pub cause_as : {A B E : Type 0} (e fault : E) (before now : ℕ) → HasCauseOf {T = A} fault before now (Err e) → HasCauseOf {T = B} fault before now (Err e)
+cause_as {A = A} {B = B} e fault before now c = record {
+  later = c.later;
+  failed = λ is. c.failed (ap (λ x. Err x) (error_is {T = B} e fault is));
+  kept = tt;
+  other = λ err not. c.other refl (λ is. not (ap (λ x. Err x) (error_is {T = A} e fault is)));
+}
+
 -- A reply without success tells of a failed disk exactly where the count rose.
-pub stop_cause : (sent fault : Sent) (before mid now : ℕ) → mid ≡ before → mid ≤ now → (sent ≡ fault → Rose mid now) → (sent ≢ fault → now ≡ mid)
-    → HasCauseOf {T = Unit {0}} fault before now (Err sent)
-stop_cause sent fault before mid now same later rose kept = record {
+pub stop_cause : {T : Type 0} (sent fault : Sent) (before mid now : ℕ) → mid ≡ before → mid ≤ now → (sent ≡ fault → Rose mid now) → (sent ≢ fault → now ≡ mid)
+    → HasCauseOf {T = T} fault before now (Err sent)
+stop_cause {T = T} sent fault before mid now same later rose kept = record {
   later = omega arith;
-  failed = λ is. subst (λ (n : ℕ). Rose n now) same (rose (of_error is));
+  failed = λ is. subst (λ (n : ℕ). Rose n now) same (rose (error_is {T = T} sent fault is));
   kept = tt;
   other = λ err not. kept (λ is. not (ap (λ (s : Sent). Err s) is)) ∙ same;
-} where
-  of_error : ◌≡◌ {A = Result (Unit {0}) Sent} (Err sent) (Err fault) → sent ≡ fault
-  of_error is = cc is
+}

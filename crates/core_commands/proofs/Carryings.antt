@@ -77,9 +77,11 @@ comes_err I W qs P Q (refused.Conflict key) asked turned comes = comes
 comes_err I W qs P Q (refused.Refused status body) asked turned comes = comes
 comes_err I W qs P Q (refused.AlreadyThere version) asked turned comes = comes
 comes_err I W qs P Q (refused.OldFormat directory) asked turned comes = comes
+comes_err I W qs P Q (refused.GeneratorStatus key number) asked turned comes = comes
+comes_err I W qs P Q (refused.GeneratorOutput key) asked turned comes = comes
+comes_err I W qs P Q (refused.UserData kind at) asked turned comes = comes
 comes_err I W qs P Q (refused.MigrationStatus name number) asked turned comes = comes
 comes_err I W qs P Q (refused.MigrationOutput name) asked turned comes = comes
-comes_err I W qs P Q refused.NotBuilt asked turned comes = comes
 
 module _ {A B : Type 0} (qs : List Request) (P : World → A → Type 0) (Q : World → B → Type 0) (r : Result A Refusal) (s : Result B Refusal) (ran_before ran_after : Option (List Run))
     (step : (I : Image) (W : World) (asked turned : List Event) → Comes I W qs P r asked turned → Comes I W qs Q s asked turned)

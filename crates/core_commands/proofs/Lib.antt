@@ -7,3 +7,4 @@ pub mod Carryings
 pub mod Told
 pub mod Causes
 pub mod Paying
+pub mod Commits

@@ -66,6 +66,25 @@ pub record AsksEach (qs : List Request) (result : Result Unit Sent) (c now : Cor
   pub each : (I : Image) → IsGood I → HoldsImage I c.image → (folder : Folder) (W V : World) → Kept I folder W V old (core_state c)
       → AskedBy I folder W V qs result c now old new
 
+-- ---- the reply to the last request
+
+-- All requests and a last one are answered with success, and this is sent for the last; or one of them isn't, and this is sent for it.
+abbrev pub AsksLast : Image → World → List Request → Request → Result Sent Sent → List Event → Type 0
+AsksLast I W qs q (Ok sent) events = Succeeds I W (qs ++ q ∷ []) events × Says (request_next I (after I W (asked_all qs)) q Answered).reply sent
+AsksLast I W qs q (Err sent) events = (reply : Reply) × Says reply sent × Stops I W (qs ++ q ∷ []) reply events
+
+-- They are asked, by the machine, crash included, and the core holds the image still.
+pub record AskedLastBy (I : Image) (folder : Folder) (W V : World) (qs : List Request) (q : Request) (result : Result Sent Sent) (c now : Core) (old new : History) : Type 0 where
+  pub events : List Event
+  pub asks : AsksLast I W qs q result events
+  pub made : Ran I folder W V events old new (core_state c) (core_state now)
+  pub holds : HoldsImage I now.image
+
+-- By each image that the core holds, and in each world at which disk and core are, where no call of the disk has failed.
+pub record AsksEachAndLast (qs : List Request) (q : Request) (result : Result Sent Sent) (c now : Core) (old new : History) : Type 0 where
+  pub each : (I : Image) → IsGood I → HoldsImage I c.image → (folder : Folder) (W V : World) → Kept I folder W V old (core_state c)
+      → AskedLastBy I folder W V qs q result c now old new
+
 -- ---- for private clauses
 
 -- Whether a status is one of success.

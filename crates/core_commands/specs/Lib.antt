@@ -1,5 +1,6 @@
 pub mod Asking
 pub mod Carried
+pub mod Committing
 pub mod Handing
 pub mod Laws
 pub mod Lines

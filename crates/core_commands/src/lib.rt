@@ -5,6 +5,7 @@
 mod applying;
 mod asking;
 mod carrying;
+mod committing;
 mod driving;
 mod handing;
 mod law;
@@ -12,8 +13,9 @@ mod lines;
 mod setting;
 
 pub use applying::apply;
-pub use asking::ask_each;
+pub use asking::{ask_each, ask_each_and_last};
 pub use carrying::carry;
+pub use committing::commit_pairs;
 pub use driving::drive;
 pub use handing::not_opened;
 pub use law::laws;

@@ -28,8 +28,11 @@ fn set_tx(alloc: Global) -> Result<TxName, AllocError>
     }
 }
 
-// Each value is to be set.
-fn puts_of(alloc: Global, pairs: &[(Key, Scalar)]) -> Result<Vec<(Key, Pending)>, AllocError>
+/// Each value is to be set. The only error is want of memory.
+pub(crate) fn puts_of(
+    alloc: Global,
+    pairs: &[(Key, Scalar)],
+) -> Result<Vec<(Key, Pending)>, AllocError>
     ensures { IfOk result (λ puts. puts.items ≡ puts_of pairs.now) }
 {
     let mut puts = Vec::new(alloc);

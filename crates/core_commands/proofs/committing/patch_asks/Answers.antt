@@ -1,0 +1,14 @@
+use Rattle.std.proofs.Common.{[], ◌∷◌, arith}
+use Rattle.std.proofs.lemmas.List.Elements.{All-cons}
+use Rattle.api_http.specs.Questions.{question, IsProper}
+use Rattle.api_http.specs.declared.ask.Ask.{Ask}
+use Rattle.api_http.specs.declared.ask.Ask.TheVariants.{DropTx, Patch}
+use Rattle.core_commands.proofs.Told.{settings_put}
+use Rattle.core_commands.proofs.committing.patch_asks.Goals as goal
+
+pub returns-clause-proper : goal.returns-clause-proper
+returns-clause-proper c =
+    let put = settings_put c.args.pairs.now c.in_ok-puts.puts.items c.in_ok-puts.ensures c.requires.settings in
+    let patch = Patch c.in_ok-copy-2.field-0 c.in_ok-puts.puts in
+    All-cons (λ (ask : Ask). IsProper (question ask)) (DropTx c.in_ok-copy.field-0) (patch ∷ []) tt
+    (All-cons (λ (ask : Ask). IsProper (question ask)) patch [] put (λ k d below. absurd (omega (arith, below))))

@@ -1,0 +1,96 @@
+//! Pairs are committed to a store that was just opened.
+ghost use Rattle.std.specs.Prelude.{◌≡◌, ◌++◌, ◌∷◌, [], All, IsTrue, IfOk, IfErr, codes};
+ghost use Rattle.outside.specs.Told.{Moves};
+ghost use Rattle.outside.specs.Faults.{HasCauseOf};
+ghost use Rattle.key_names.specs.Key.{is_prefix};
+ghost use Rattle.settings_tree.specs.Content.{settings_key};
+ghost use Rattle.api_http.specs.Questions.{question, IsProper};
+ghost use Rattle.store_open.specs.Opening.{IsSoundOpened};
+ghost use Rattle.core_commands.specs.Asking.{requests};
+ghost use Rattle.core_commands.specs.Committing.{patch_requests, Commits, IsOfCommit, HandsLast};
+
+use crate::asking::ask_each_and_last;
+use crate::handing::refused;
+use crate::lines::line_of;
+use crate::setting::puts_of;
+use api_core::Core;
+use api_http::{Ask, Reply};
+use command_outcome::Refusal;
+use key_names::{Bytes, Key, Text};
+use outside::Disk;
+use settings_tree::{Scalar, TxName};
+use std::alloc::{AllocError, Global};
+use store_open::Opened;
+
+// The requests before the commit: the transaction is dropped, and patched with the pairs.
+fn patch_asks(alloc: Global, tx: &TxName, pairs: &[(Key, Scalar)]) -> Result<[Ask; 2], AllocError>
+    requires settings { All (λ pair. IsTrue (is_prefix settings_key pair.0)) pairs.now }
+    ensures requests { IfOk result (λ asks. requests asks ≡ patch_requests tx.now pairs.now) }
+    ensures proper { IfOk result (λ asks. All (λ ask. IsProper (question ask)) asks) }
+{
+    let puts = puts_of(alloc, pairs)?;
+    Ok([
+        Ask::DropTx { tx: tx.copy()? },
+        Ask::Patch {
+            tx: tx.copy()?,
+            pairs: puts,
+        },
+    ])
+}
+
+// The body of the reply, as a line.
+fn body_line(alloc: Global, reply: &Reply) -> Result<Bytes, AllocError>
+    ensures { IfOk result (λ line. line ≡ reply.now.body ++ 10 ∷ []) }
+{
+    let mut line = reply.body().to_vec(alloc)?;
+    line.push(b'\n')?;
+    Ok(Bytes::of(line))
+}
+
+// The line that tells of no keys.
+fn no_keys(alloc: Global) -> Result<Bytes, Refusal>
+    ensures line { IfOk result (λ line. line ≡ codes "[]" ++ 10 ∷ []) }
+    ensures memory { IfErr result (λ refusal. refusal ≡ Refusal.Memory) }
+{
+    let text = Text::of(String::from_str(alloc, "[]")?);
+    Ok(line_of(alloc, &text)?)
+}
+
+// How the reply to the commit is told.
+fn told(alloc: Global, replied: Result<Reply, Reply>) -> Result<Bytes, Refusal>
+    ensures { HandsLast replied result }
+{
+    match replied {
+        Ok(reply) => Ok(body_line(alloc, &reply)?),
+        Err(reply) => Err(refused(alloc, &reply)),
+    }
+}
+
+/// Commits pairs to a store that was just opened: drops the transaction, patches it with the pairs in order, and commits it. It
+/// answers the keys that the commit has set, as a list in compact JSON (RFC 8259), and a line feed; `[]` where there are no pairs, and
+/// nothing is asked then. No job is begun.
+///
+/// Each key begins with `settings`. `Refused` where the types refuse a value, and nothing is set then; `Disk` where the disk failed;
+/// `Memory` where memory is wanting.
+pub fn commit_pairs<D: Disk>(
+    alloc: Global,
+    store: Opened,
+    tx: TxName,
+    pairs: &[(Key, Scalar)],
+    disk: &mut D,
+) -> Result<Bytes, Refusal>
+    requires opened { IsSoundOpened store }
+    requires settings { All (λ pair. IsTrue (is_prefix settings_key pair.0)) pairs.now }
+    ensures commits { Moves (D.told disk.old) (D.told disk.new) (Commits tx pairs.now store result) }
+    ensures of_commit { IfErr result IsOfCommit }
+    ensures cause { HasCauseOf Refusal.Disk (D.faults disk.old) (D.faults disk.new) result }
+{
+    if pairs.is_empty() {
+        return no_keys(alloc);
+    }
+    let asks = patch_asks(alloc, &tx, pairs)?;
+    let commit = Ask::Commit { tx };
+    let mut core = Core::new(store);
+    let replied = ask_each_and_last(alloc, &mut core, &asks, &commit, disk);
+    told(alloc, replied)
+}
