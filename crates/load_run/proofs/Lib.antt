@@ -1,0 +1,4 @@
+pub mod Replied
+pub mod Runs
+pub mod Nodes
+pub mod Connected
