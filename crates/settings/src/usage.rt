@@ -14,6 +14,7 @@ pub const PAGE: &str = "usage: settings COMMAND, in the folder of the host
   check                tells of each configuration file whether it is covered
   migrate --to V       moves the store to the version V
   prune                removes the files of other versions
-
-load N, generate and user-data PATH are not built yet.
+  generate             asks the image's generators for settings that have no value
+  user-data PATH       sets what the file of user data at the path says
+  load N               makes a generated run of N settings in memory, and prints its counts
 ";

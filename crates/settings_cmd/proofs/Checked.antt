@@ -36,9 +36,11 @@ told files image (Err (refused.Render file error)) read reports = absurd reports
 told files image (Err (refused.Status service number)) read reports = absurd reports
 told files image (Err (refused.Missing at target)) read reports = absurd reports
 told files image (Err (refused.Conflict key)) read reports = absurd reports
+told files image (Err (refused.GeneratorStatus key number)) read reports = absurd reports
+told files image (Err (refused.GeneratorOutput key)) read reports = absurd reports
+told files image (Err (refused.UserData kind at)) read reports = absurd reports
 told files image (Err (refused.MigrationStatus name number)) read reports = absurd reports
 told files image (Err (refused.MigrationOutput name)) read reports = absurd reports
-told files image (Err refused.NotBuilt) read reports = absurd reports
 
 -- The report on an image that was read.
 pub report_tells : (image : Image) (outcome : Outcome) (d : Option History) → WhereTold d (λ h. IsImageOf (sources_in (tree_of h)) image.model image.manifest image.templates image.text)

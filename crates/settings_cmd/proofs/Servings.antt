@@ -1,16 +1,12 @@
 -- A store is opened and served.
-use Rattle.std.proofs.Common.{◌≡◌, ℕ, Bool, true, false, List, Option, Result, Ok, Err, IsOk, refl, sym, ◌∙◌, ap, subst}
+use Rattle.std.proofs.Common.{◌≡◌, ℕ, Bool, true, false, List, Option, Ok, Err, IsOk, refl, sym, ◌∙◌, ap, subst}
 use Rattle.std.specs.Result.{IsErrOf}
 use Rattle.outside.specs.Exchange.{Exchange}
 use Rattle.outside.specs.History.{History}
 use Rattle.outside.specs.Spawner.{Run}
-use Rattle.store_image.specs.declared.image.Image as own
-use Rattle.version_links.specs.declared.chain.Place.{Place}
-use Rattle.settings_tree.specs.declared.held.Held.{Held}
 use Rattle.settings_machine.specs.World.{Image, World, Job, Idle, is_running}
 use Rattle.settings_machine.specs.Opening.{added_keys}
 use Rattle.settings_machine.specs.Step.{noting, opened}
-use Rattle.settings_machine.specs.Events.{Event}
 use Rattle.settings_machine.specs.Paid.{IsGood}
 use Rattle.machine_disk.specs.Kept.{Folder, CoreState, DiskAt}
 use Rattle.machine_disk.specs.Ran.{Ran, OpensTo}

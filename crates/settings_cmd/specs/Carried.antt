@@ -1,7 +1,9 @@
 -- What carrying out a command comes to, and what it does to the disk.
-use Rattle.std.specs.Prelude.{◌≡◌, ◌⊎◌, ℕ, Bool, true, false, List, [], ◌∷◌, ◌++◌, Option, Result, Ok, Err}
+use Rattle.std.specs.Prelude.{◌≡◌, ◌⊎◌, ℕ, Bool, false, List, [], ◌∷◌, ◌++◌, Option, Result, Ok, Err, IfOk, IfErr}
 use Rattle.outside.specs.History.{History, tree_of}
+use Rattle.outside.specs.Names.{Names}
 use Rattle.outside.specs.Told.{Moves, WhereTold}
+use Rattle.outside.specs.Tree.{node_at, file_in}
 use Rattle.outside.specs.Spawner.{Question}
 use Rattle.store_image.specs.Paths.{sources_in}
 use Rattle.version_links.specs.Versions.{version_text}
@@ -17,16 +19,21 @@ use Rattle.migrate_chain.specs.declared.move_error.MoveError.{MoveError}
 use Rattle.migrate_programs.specs.Moving.{MovesByPrograms}
 use Rattle.migrate_chain.specs.Pruning.{Prunes}
 use Rattle.migrate_chain.specs.declared.prune_error.PruneError.{PruneError}
-use Rattle.command_words.specs.Orders.{Order, Spells, init, serve, set, get, apply, check, migrate, prune}
+use Rattle.command_words.specs.Orders.{Spells, serve, set, apply, migrate, generate}
 use Rattle.json_trees.specs.declared.scalar.Scalar.{Scalar}
 use Rattle.command_outcome.specs.Ends.{Outcome}
 use Rattle.command_outcome.specs.declared.refusal.Refusal.{Refusal}
 use Rattle.command_outcome.specs.declared.refusal.Refusal.TheVariants as refused
+use Rattle.core_commands.specs.Handing.{not_opened}
+use Rattle.load_run.specs.Loads.{Loads}
 use Rattle.settings_cmd.specs.Checks.{TellsOfImage}
+use Rattle.settings_cmd.specs.Committing.{Made, CommitsMade}
+use Rattle.settings_cmd.specs.Generators.{generate_tx, IsGenerated}
 use Rattle.settings_cmd.specs.Gets.{AnswersOpening}
 use Rattle.settings_cmd.specs.Handing.{HandsBeginning, HandsMoving}
 use Rattle.settings_cmd.specs.Prunes.{AnswersPruning}
 use Rattle.settings_cmd.specs.Releases.{IsReleaseIn, TellsOfRelease}
+use Rattle.settings_cmd.specs.UserData.{data_tx, TellsOfData}
 
 -- What a command comes to, with the disk before and after, where the disk tells.
 abbrev pub Carrying : Type 1
@@ -40,21 +47,11 @@ Carried Does outcome d d' = Does outcome d d' ⊎ ((outcome ≡ Err refused.Memo
 abbrev pub IsMisused : Carrying
 IsMisused outcome d d' = (outcome ≡ Err refused.Usage) × (d' ≡ d)
 
--- The command is not built, and the disk is as before.
-abbrev pub IsUnbuilt : Carrying
-IsUnbuilt outcome d d' = (outcome ≡ Err refused.NotBuilt) × (d' ≡ d)
-
--- Whether a command is built.
-abbrev pub is_built : Order → Bool
-is_built (init version) = true
-is_built (get keys) = true
-is_built check = true
-is_built (migrate version) = true
-is_built prune = true
-is_built (set pairs) = true
-is_built apply = true
-is_built (serve boot slice connections) = true
-is_built _ = false
+-- The run is made over devices of its own: it comes to its lines, or memory was wanting. The disk is as before.
+pub record IsLoaded (count : ℕ) (outcome : Outcome) (d d' : Option History) : Type 0 where
+  pub lines : IfOk outcome (Loads count)
+  pub memory : IfErr outcome (λ refusal. refusal ≡ refused.Memory)
+  pub same : d' ≡ d
 
 -- The words order no `serve`.
 abbrev pub ServesNot : List (List ℕ) → Type 0
@@ -65,6 +62,11 @@ pub record RunsNothing (words : List (List ℕ)) : Type 0 where
   pub serves_not : ServesNot words
   pub sets_not : (pairs : List (List (List ℕ) × Scalar)) → Spells words (set pairs) → ⊥
   pub applies_not : Spells words apply → ⊥
+
+-- The words order nothing that asks programs.
+pub record AsksNothing (words : List (List ℕ)) : Type 0 where
+  pub migrates_not : (version : Version) → Spells words (migrate version) → ⊥
+  pub generates_not : Spells words generate → ⊥
 
 -- The version and a line feed where the store was begun, or why it was not.
 abbrev pub AnswersBeginning : Version → Result (Unit {0}) InitError → Outcome → Type 0
@@ -117,3 +119,51 @@ pub record IsPruned (outcome : Outcome) (d d' : Option History) : Type 0 where
 -- The image is told of, and the disk is as before.
 abbrev pub IsChecked : Carrying
 IsChecked outcome d d' = WhereTold d (λ h. TellsOfImage (sources_in (tree_of h)) outcome) × (d' ≡ d)
+
+-- ---- commands that make pairs of an open store
+
+-- The generators whose key has no live value in the store are asked, and the pairs that they give are committed.
+pub record Generates (a a' : Option (List Question)) (store : Opened) (outcome : Outcome) (d d' : Option History) : Type 0 where
+  pub made : Made
+  pub gives : IsGenerated a a' store made d
+  pub ends : CommitsMade generate_tx store made outcome d d'
+
+-- They are, where the store was opened. Why it was not is told as it is, and then nothing was asked.
+abbrev pub GeneratesAfter : Option (List Question) → Option (List Question) → Result Opened OpenError → Carrying
+GeneratesAfter a a' (Ok store) outcome d d' = Generates a a' store outcome d d'
+GeneratesAfter a a' (Err e) outcome d d' = (outcome ≡ Err (not_opened e)) × (d' ≡ d) × (a' ≡ a)
+
+-- The store is opened, generators are asked, and the pairs that they give are committed.
+pub record HasGenerated (a a' : Option (List Question)) (outcome : Outcome) (d d' : Option History) : Type 0 where
+  pub opening : Result Opened OpenError
+  pub between : Option History
+  pub opens : Moves d between (Opens false opening)
+  pub follows : GeneratesAfter a a' opening outcome between d'
+
+-- Memory was wanting before it began, and nothing was asked.
+pub record HasNotBegun (a a' : Option (List Question)) (outcome : Outcome) (d d' : Option History) : Type 0 where
+  pub answers : outcome ≡ Err refused.Memory
+  pub same : d' ≡ d
+  pub unasked : a' ≡ a
+
+-- One of the two; this is what was asked before and after.
+abbrev pub GeneratesOrNot : Option (List Question) → Option (List Question) → Carrying
+GeneratesOrNot a a' outcome d d' = HasGenerated a a' outcome d d' ⊎ HasNotBegun a a' outcome d d'
+
+-- The pairs of the user data at the path are committed to the store.
+pub record Provides (path : Names) (store : Opened) (outcome : Outcome) (d d' : Option History) : Type 0 where
+  pub made : Made
+  pub gives : WhereTold d (λ h. TellsOfData (file_in (node_at (tree_of h) path)) made)
+  pub ends : CommitsMade data_tx store made outcome d d'
+
+-- They are, where the store was opened. Why it was not is told as it is.
+abbrev pub ProvidesAfter : Names → Result Opened OpenError → Carrying
+ProvidesAfter path (Ok store) outcome d d' = Provides path store outcome d d'
+ProvidesAfter path (Err e) outcome d d' = (outcome ≡ Err (not_opened e)) × (d' ≡ d)
+
+-- The store is opened, and the pairs of the user data at the path are committed.
+pub record IsProvided (path : Names) (outcome : Outcome) (d d' : Option History) : Type 0 where
+  pub opening : Result Opened OpenError
+  pub between : Option History
+  pub opens : Moves d between (Opens false opening)
+  pub follows : ProvidesAfter path opening outcome between d'

@@ -1,12 +1,10 @@
 -- What `get` answers.
-use Rattle.std.specs.Prelude.{◌≡◌, ◌++◌, ℕ, List, [], ◌∷◌, All, Result, Ok, Err, ⊤}
-use Rattle.json_trees.specs.Nested.{NestsAs}
-use Rattle.json_trees.specs.Scalar.{scalar_data}
+use Rattle.std.specs.Prelude.{◌≡◌, ℕ, List, [], ◌∷◌, All, Result, Ok, Err, ⊤}
 use Rattle.settings_tree.specs.Content.{settings_key}
 use Rattle.api_http.specs.declared.refusal.Refusal.{Refusal}
 use Rattle.api_http.specs.declared.refusal.Refusal.TheVariants as http
 use Rattle.api_http.specs.Replies.{status_of, refusal_text}
-use Rattle.live_trees.specs.Below.{Values, values_below, HasBelow, IsFirstWithout}
+use Rattle.live_trees.specs.Below.{Values, HasBelow, IsFirstWithout}
 use Rattle.store_open.specs.declared.open_error.OpenError.{OpenError}
 use Rattle.store_open.specs.declared.opened.Opened.{Opened}
 use Rattle.command_outcome.specs.Ends.{Outcome}

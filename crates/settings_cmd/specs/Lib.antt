@@ -1,8 +1,11 @@
 pub mod Carried
 pub mod Checks
+pub mod Committing
+pub mod Generators
 pub mod Gets
 pub mod Handing
 pub mod Laws
 pub mod Prunes
 pub mod Releases
 pub mod Serving
+pub mod UserData

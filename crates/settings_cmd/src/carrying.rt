@@ -4,34 +4,36 @@ ghost use Rattle.outside.specs.Faults.{HasCauseOf, Rose};
 ghost use Rattle.outside.specs.Spawner.{texts};
 ghost use Rattle.core_commands.specs.Handing.{HasSpawnCause};
 ghost use Rattle.json_trees.specs.declared.scalar.Scalar.{Scalar as Value};
-ghost use Rattle.command_words.specs.Orders.{Order, Spells, SpellsNone, serve as ServeOrder, apply as ApplyOrder, init as InitOrder, get as GetOrder, check as CheckOrder, migrate as MigrateOrder, prune as PruneOrder, set as SetOrder};
+ghost use Rattle.command_words.specs.Orders.{Spells, SpellsNone, serve as ServeOrder, apply as ApplyOrder, init as InitOrder, get as GetOrder, check as CheckOrder, migrate as MigrateOrder, prune as PruneOrder, set as SetOrder, generate as GenerateOrder, user_data as UserDataOrder, load as LoadOrder};
 ghost use Rattle.core_commands.specs.Carried.{Carried as Commanded, CarriesOut, set_requests, apply_requests};
 ghost use Rattle.core_commands.specs.Lines.{IsSettingsLine, IsJobLine};
 ghost use Rattle.api_server.specs.Serving.{wanted};
 ghost use Rattle.settings_cmd.specs.Serving.{HasServed};
 ghost use Rattle.version_links.specs.declared.version.Version.{Version};
-ghost use Rattle.settings_cmd.specs.Carried.{Carried, IsMisused, IsBegun, IsGot, IsChecked, IsMigrated, IsPruned, IsUnbuilt, ServesNot, RunsNothing, is_built};
+ghost use Rattle.settings_cmd.specs.Carried.{Carried, IsMisused, IsBegun, IsGot, IsChecked, IsMigrated, IsPruned, IsProvided, GeneratesOrNot, IsLoaded, ServesNot, RunsNothing, AsksNothing};
 
 use crate::beginning::begin;
 use crate::checking::check;
+use crate::generating::generate;
 use crate::getting::get;
 use crate::migrating::migrate_to;
+use crate::provisioning::provision;
 use crate::pruning::prune_others;
 use crate::serving::serve_store;
 use command_outcome::Refusal;
 use command_words::{Command, WordsError};
 use core_commands::{apply, set};
 use key_names::Bytes;
+use load_run::load;
 use outside::{Asker, Disk, Door};
 use std::alloc::Global;
 
 /// Carries out the command that the words spell, and answers what it prints, or why it is refused.
 ///
-/// `Usage` exactly where the words spell no command, `NotBuilt` exactly where their command is not built. The other refusals are those
-/// of the commands.
+/// `Usage` exactly where the words spell no command. The other refusals are those of the commands.
 ///
-/// `migrate` alone asks programs: the words of its release, where that has any. `serve`, `set` and `apply` alone run programs, and
-/// `serve` alone has to do with the door.
+/// `migrate` and `generate` alone ask programs: those of a release, and those of generators. `serve`, `set` and `apply` alone run
+/// programs, and `serve` alone has to do with the door.
 pub fn carry_out<D: Disk, S: Asker, N: Door>(
     alloc: Global,
     words: &[String],
@@ -58,9 +60,13 @@ pub fn carry_out<D: Disk, S: Asker, N: Door>(
     ensures migrate { (version : Version) → Spells (texts words.now) (MigrateOrder version)
         → IsMigrated version (S.asked spawner.old) (S.asked spawner.new) result (D.told disk.old) (D.told disk.new) }
     ensures prune { Spells (texts words.now) PruneOrder → Carried IsPruned result (D.told disk.old) (D.told disk.new) }
-    ensures not_built { (order : Order) → Spells (texts words.now) order → is_built order ≡ false
-        → Carried IsUnbuilt result (D.told disk.old) (D.told disk.new) }
-    ensures unasked { ((version : Version) → Spells (texts words.now) (MigrateOrder version) → ⊥) → S.asked spawner.new ≡ S.asked spawner.old }
+    ensures generate { Spells (texts words.now) GenerateOrder
+        → GeneratesOrNot (S.asked spawner.old) (S.asked spawner.new) result (D.told disk.old) (D.told disk.new) }
+    ensures user_data { (path : List (List ℕ)) → Spells (texts words.now) (UserDataOrder path)
+        → Carried (IsProvided path) result (D.told disk.old) (D.told disk.new) }
+    ensures load { (count : ℕ) → Spells (texts words.now) (LoadOrder count)
+        → Carried (IsLoaded count) result (D.told disk.old) (D.told disk.new) }
+    ensures unasked { AsksNothing (texts words.now) → S.asked spawner.new ≡ S.asked spawner.old }
     ensures unrun { RunsNothing (texts words.now) → S.runs spawner.new ≡ S.runs spawner.old }
     ensures shut { ServesNot (texts words.now) → N.told door.new ≡ N.told door.old }
     ensures idle { (N.state door.new).busy ≡ false }
@@ -85,7 +91,9 @@ pub fn carry_out<D: Disk, S: Asker, N: Door>(
         Ok(Command::Check) => check(alloc, disk),
         Ok(Command::Migrate { to }) => migrate_to(alloc, disk, spawner, &to),
         Ok(Command::Prune) => prune_others(alloc, disk),
-        Ok(_) => Err(Refusal::NotBuilt),
+        Ok(Command::Generate) => generate(alloc, disk, spawner),
+        Ok(Command::UserData { path }) => provision(alloc, disk, &path),
+        Ok(Command::Load { count }) => load(alloc, count),
         Err(WordsError::Usage) => Err(Refusal::Usage),
         Err(WordsError::Memory) => Err(Refusal::Memory),
     }

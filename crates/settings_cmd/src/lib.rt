@@ -1,14 +1,15 @@
 //! The commands of the program `settings`, from their words to the disk and the output.
-//!
-//! `load`, `generate` and `user-data` are not built yet.
 #![tactic(auto)]
 
 mod beginning;
 mod carrying;
 mod checking;
+mod generating;
+mod generator_file;
 mod getting;
 mod law;
 mod migrating;
+mod provisioning;
 mod pruning;
 mod releasing;
 mod serving;
@@ -17,8 +18,10 @@ mod version_line;
 pub use beginning::begin;
 pub use carrying::carry_out;
 pub use checking::check;
+pub use generating::generate;
 pub use getting::get;
 pub use law::laws;
 pub use migrating::migrate_to;
+pub use provisioning::provision;
 pub use pruning::prune_others;
 pub use serving::serve_store;
