@@ -2,7 +2,7 @@
 use Rattle.std.proofs.Common.{◌≡◌, true, List, [], Option, Result, Ok, Err, OnOk}
 use Rattle.outside.specs.Exchange.{Exchange}
 use Rattle.outside.specs.History.{History, EachImage}
-use Rattle.outside.specs.Spawner.{Run}
+use Rattle.outside.specs.Spawner.{Run, Question}
 use Rattle.outside.proofs.Told.{moves_same}
 use Rattle.settings_machine.specs.World.{Image, World}
 use Rattle.settings_machine.specs.Events.{Event, after}
@@ -16,7 +16,7 @@ use Rattle.store_events.proofs.Stays.{same_disks_stay}
 use Rattle.command_outcome.specs.Ends.{Outcome}
 use Rattle.command_words.specs.Orders.{Order}
 use Rattle.core_commands.specs.Carried.{RunsBy}
-use Rattle.command_runs.specs.Laws.{Begins}
+use Rattle.settings_run.specs.Laws.{Begins}
 use Rattle.settings_run.specs.Events.{Makes}
 use Rattle.settings_run.specs.Headline.{IsRun, acknowledges_all}
 use Rattle.settings_run.proofs.PaidFiles.{files_paid}
@@ -26,11 +26,11 @@ pub where_well : {T : Type 0} {A E : Type 0} (result : Result A E) → T → OnO
 where_well (Ok said) t = t
 where_well (Err e) t = tt
 
-module _ (order : Order) (I : Image) (good : IsGood I) (folder : Folder) (W : World) (x x' : Option (List Exchange)) (r r' : Option (List Run)) (outcome : Outcome) where
+module _ (order : Order) (I : Image) (good : IsGood I) (folder : Folder) (W : World) (x x' : Option (List Exchange)) (a a' : Option (List Question)) (r r' : Option (List Run)) (outcome : Outcome) where
   module _ (old new : History) (begins : Begins I folder W old) where
     -- A run of these events.
-    pub run_of : (events : List Event) → Makes order I folder W x x' outcome events → RunsTo I W events old new → RunsBy I W events r r'
-        → (acknowledges_all order ≡ true → OnOk outcome (EachImage (Recovers I (after I W events)) new)) → IsRun order I folder W x x' r r' outcome old new
+    pub run_of : (events : List Event) → Makes order I folder W x x' a a' outcome old events → RunsTo I W events old new → RunsBy I W events r r'
+        → (acknowledges_all order ≡ true → OnOk outcome (EachImage (Recovers I (after I W events)) new)) → IsRun order I folder W x x' a a' r r' outcome old new
     run_of events made runs ran well = record {
       events = events;
       machine = record { made = made; settings = runs.store; files = runs.etc };
@@ -40,9 +40,9 @@ module _ (order : Order) (I : Image) (good : IsGood I) (folder : Folder) (W : Wo
     }
 
     -- A run of none.
-    pub stays : Makes order I folder W x x' outcome [] → r' ≡ r → HasStayed I W old new → IsRun order I folder W x x' r r' outcome old new
+    pub stays : Makes order I folder W x x' a a' outcome old [] → r' ≡ r → HasStayed I W old new → IsRun order I folder W x x' a a' r r' outcome old new
     stays made same stayed = run_of [] made stayed.runs (moves_same same (λ s was. was)) (λ all. where_well outcome stayed.recovers)
 
   -- Nothing was done.
-  pub untouched : (h : History) → Begins I folder W h → Makes order I folder W x x' outcome [] → r' ≡ r → IsRun order I folder W x x' r r' outcome h h
+  pub untouched : (h : History) → Begins I folder W h → Makes order I folder W x x' a a' outcome h [] → r' ≡ r → IsRun order I folder W x x' a a' r r' outcome h h
   untouched h begins made same = stays h h begins made same (same_disks_stay I good W h begins.starts)

@@ -1,5 +1,6 @@
 -- Where a command has ended well, no call of the disk has failed since its opening.
-use Rattle.std.proofs.Common.{◌≡◌, inl, inr, ℕ, Bool, true, false, List, [], ◌∷◌, ◌++◌, Ok, refl, ◌∙◌, ap}
+use Rattle.std.proofs.Common.{◌≡◌, inl, inr, ℕ, Bool, true, false, List, [], ◌∷◌, ◌++◌, Ok, Err, OnOk, refl, ◌∙◌, ap}
+use Rattle.outside.specs.History.{History, EachImage}
 use Rattle.settings_machine.specs.World.{Image, World, Work, Job, Idle, Failed, Running, is_running}
 use Rattle.settings_machine.specs.Requests.{Request}
 use Rattle.settings_machine.specs.Step.{Answer, Fine, NoRoom, FileFault, NoSpawn, SyncFault, OwedFault, Command, after_files_turn, work_turn, job_turn, turn_next, opened}
@@ -8,9 +9,11 @@ use Rattle.settings_machine.specs.declared.cause.Cause.{Cause}
 use Rattle.settings_machine.specs.declared.cause.Cause.TheVariants as cause
 use Rattle.settings_machine.proofs.Sequences.{faulted-append}
 use Rattle.machine_disk.specs.Ran.{IsDriven}
+use Rattle.machine_disk.specs.Store.{Recovers}
+use Rattle.command_outcome.specs.Ends.{Outcome}
 use Rattle.core_commands.specs.Asking.{asked_all}
 use Rattle.core_commands.specs.Carried.{HasEnded}
-use Rattle.command_runs.specs.Laws.{RequestEvents, GetEvents}
+use Rattle.settings_run.specs.Laws.{RequestEvents, GetEvents}
 
 -- ---- a turn in which the disk failed
 
@@ -78,7 +81,7 @@ module _ (I : Image) where
 
 -- ---- requests that were all answered, and turns until the job is idle
 
-asked_calm : (qs : List Request) → faulted_after false (asked_all qs) ≡ false
+pub asked_calm : (qs : List Request) → faulted_after false (asked_all qs) ≡ false
 asked_calm [] = refl
 asked_calm (q ∷ qs) = asked_calm qs
 
@@ -104,3 +107,9 @@ gets_calm I W keys said events (inl (is, answers)) = ap (faulted_after true) is
 gets_calm I W keys said events (inr (inl (taken, is, inl told))) = absurd (cc told)
 gets_calm I W keys said events (inr (inl (taken, is, inr told))) = absurd (cc told)
 gets_calm I W keys said events (inr (inr (is, e, refusal, told))) = absurd (cc told)
+
+-- A run that ended well recovers to its last world, where no call of the disk has failed since its opening.
+pub ends_calm : (I : Image) (W : World) (events : List Event) (outcome : Outcome) (new : History) → ((said : List ℕ) → outcome ≡ Ok said → faulted_after true events ≡ false)
+    → (faulted_after true events ≡ false → EachImage (Recovers I (after I W events)) new) → OnOk outcome (EachImage (Recovers I (after I W events)) new)
+ends_calm I W events (Ok said) new well calm = calm (well said refl)
+ends_calm I W events (Err e) new well calm = tt

@@ -1,137 +1,129 @@
 -- What each command came to is a run of the machine, where a store is there.
-use Rattle.std.proofs.Common.{◌≡◌, inl, inr, ℕ, Bool, true, false, List, [], Option, Some, None, Ok, Err, OnOk, refl, sym, subst}
+use Rattle.std.proofs.Common.{◌≡◌, inl, inr, ℕ, Bool, List, [], Option, Some, None, Err, refl, sym, subst}
 use Rattle.outside.specs.Exchange.{Exchange}
-use Rattle.outside.specs.History.{History, EachImage}
-use Rattle.outside.specs.Spawner.{Run}
+use Rattle.outside.specs.History.{History}
+use Rattle.outside.specs.Spawner.{Run, Question}
 use Rattle.outside.specs.Told.{Moves}
 use Rattle.outside.proofs.Told.{moves_same, moves_map}
 use Rattle.json_trees.specs.declared.scalar.Scalar.{Scalar}
 use Rattle.settings_machine.specs.World.{Key, Image, World}
 use Rattle.settings_machine.specs.Requests.{Request}
-use Rattle.settings_machine.specs.Events.{Event, after, faulted_after}
+use Rattle.settings_machine.specs.Events.{Event}
 use Rattle.machine_disk.specs.Kept.{Folder}
-use Rattle.machine_disk.specs.Store.{Recovers}
 use Rattle.version_links.specs.declared.version.Version.{Version}
 use Rattle.store_open.specs.Beginning.{Begins}
 use Rattle.store_events.proofs.Stays.{prunings_stay}
 use Rattle.command_outcome.specs.Ends.{Outcome}
 use Rattle.command_outcome.specs.declared.refusal.Refusal.TheVariants as refused
-use Rattle.command_words.specs.Orders.{Order, init, serve, set, get, apply, check, prune}
+use Rattle.command_words.specs.Orders.{Order, init, serve, set, get, apply, check, prune, load}
 use Rattle.core_commands.specs.Carried.{set_requests, apply_requests, CarriesOut, Carried as Commanded}
 use Rattle.core_commands.specs.Lines.{IsSettingsLine, IsJobLine}
-use Rattle.settings_cmd.specs.Carried.{Carried, IsBegun, IsGot, IsChecked, IsPruned, IsUnbuilt}
+use Rattle.settings_cmd.specs.Carried.{Carried, IsBegun, IsGot, IsChecked, IsPruned, IsLoaded}
 use Rattle.settings_cmd.specs.Serving.{HasServed, IsServed}
-use Rattle.command_runs.specs.Laws as runs
-use Rattle.command_runs.specs.Laws.{RequestEvents, ServeEvents, GetEvents}
-use Rattle.command_runs.proofs.Commands.{requests_run, serves_run, gets_run}
+use Rattle.settings_run.specs.Laws as runs
+use Rattle.settings_run.specs.Laws.{RequestEvents, ServeEvents, GetEvents}
+use Rattle.settings_run.proofs.CommandRuns.{requests_run, serves_run, gets_run}
 use Rattle.settings_run.specs.Events.{Makes}
 use Rattle.settings_run.specs.Headline.{RunsOver, RunsOverAll}
 use Rattle.settings_run.proofs.Answered.{run_of, stays, untouched}
-use Rattle.settings_run.proofs.Calm.{requests_calm, gets_calm}
+use Rattle.settings_run.proofs.Calm.{ends_calm, requests_calm, gets_calm}
 
--- A run that ended well recovers to its last world, where no call of the disk has failed since its opening.
-ends_calm : (I : Image) (W : World) (events : List Event) (outcome : Outcome) (new : History) → ((said : List ℕ) → outcome ≡ Ok said → faulted_after true events ≡ false)
-    → (faulted_after true events ≡ false → EachImage (Recovers I (after I W events)) new) → OnOk outcome (EachImage (Recovers I (after I W events)) new)
-ends_calm I W events (Ok said) new well calm = calm (well said refl)
-ends_calm I W events (Err e) new well calm = tt
-
-module _ (x x' : Option (List Exchange)) (r r' : Option (List Run)) (outcome : Outcome) where
+module _ (x x' : Option (List Exchange)) (a a' : Option (List Question)) (r r' : Option (List Run)) (outcome : Outcome) where
   -- The disk is as before, and there is no event.
-  unmoved : (order : Order) (d d' : Option History) → d' ≡ d → r' ≡ r → ((I : Image) (folder : Folder) (W : World) → Makes order I folder W x x' outcome [])
-      → Moves d d' (RunsOverAll order x x' r r' outcome)
+  pub unmoved : (order : Order) (d d' : Option History) → d' ≡ d → r' ≡ r → ((I : Image) (folder : Folder) (W : World) (h : History) → Makes order I folder W x x' a a' outcome h [])
+      → Moves d d' (RunsOverAll order x x' a a' r r' outcome)
   unmoved order d d' same no_runs made =
-      moves_same same (λ h I good folder image W at. inl (untouched order I good folder W x x' r r' outcome h at (made I folder W) no_runs))
+      moves_same same (λ h I good folder image W at. inl (untouched order I good folder W x x' a a' r r' outcome h at (made I folder W h) no_runs))
 
   -- ---- commands that make no event
 
-  pub inits : (version : Version) (d d' : Option History) → r' ≡ r → Carried (IsBegun version) outcome d d' → Moves d d' (RunsOverAll (init version) x x' r r' outcome)
+  pub inits : (version : Version) (d d' : Option History) → r' ≡ r → Carried (IsBegun version) outcome d d' → Moves d d' (RunsOverAll (init version) x x' a a' r r' outcome)
   inits version d d' no_runs (inl is) = moves_map begun is.begins where
-    begun : (old new : History) → Begins version is.result old new → RunsOverAll (init version) x x' r r' outcome old new
+    begun : (old new : History) → Begins version is.result old new → RunsOverAll (init version) x x' a a' r r' outcome old new
     begun old new begins I good folder image W at =
         let same : new ≡ old = begins.still W.version at.starts.store.directory at.starts.store.resolves in
-        subst (λ (h : History). RunsOver (init version) I folder W x x' r r' outcome old h) (sym same)
-        (inl (untouched (init version) I good folder W x x' r r' outcome old at refl no_runs))
-  inits version d d' no_runs (inr none) = unmoved (init version) d d' none.1 no_runs (λ I folder W. refl)
+        subst (λ (h : History). RunsOver (init version) I folder W x x' a a' r r' outcome old h) (sym same)
+        (inl (untouched (init version) I good folder W x x' a a' r r' outcome old at refl no_runs))
+  inits version d d' no_runs (inr none) = unmoved (init version) d d' none.1 no_runs (λ I folder W h. refl)
 
-  pub checks : (d d' : Option History) → r' ≡ r → Carried IsChecked outcome d d' → Moves d d' (RunsOverAll check x x' r r' outcome)
-  checks d d' no_runs (inl is) = unmoved check d d' is.1 no_runs (λ I folder W. refl)
-  checks d d' no_runs (inr none) = unmoved check d d' none.1 no_runs (λ I folder W. refl)
+  pub checks : (d d' : Option History) → r' ≡ r → Carried IsChecked outcome d d' → Moves d d' (RunsOverAll check x x' a a' r r' outcome)
+  checks d d' no_runs (inl is) = unmoved check d d' is.1 no_runs (λ I folder W h. refl)
+  checks d d' no_runs (inr none) = unmoved check d d' none.1 no_runs (λ I folder W h. refl)
 
-  pub prunes : (d d' : Option History) → r' ≡ r → Carried IsPruned outcome d d' → Moves d d' (RunsOverAll prune x x' r r' outcome)
+  pub prunes : (d d' : Option History) → r' ≡ r → Carried IsPruned outcome d d' → Moves d d' (RunsOverAll prune x x' a a' r r' outcome)
   prunes d d' no_runs (inl is) = moves_map (λ old new pruned I good folder image W at.
-      inl (stays prune I good folder W x x' r r' outcome old new at refl no_runs (prunings_stay I good W is.result old new at.starts pruned))) is.prunes
-  prunes d d' no_runs (inr none) = unmoved prune d d' none.1 no_runs (λ I folder W. refl)
+      inl (stays prune I good folder W x x' a a' r r' outcome old new at refl no_runs (prunings_stay I good W is.result old new at.starts pruned))) is.prunes
+  prunes d d' no_runs (inr none) = unmoved prune d d' none.1 no_runs (λ I folder W h. refl)
 
-  -- A command that is not built.
-  pub unbuilt : (order : Order) → ((I : Image) (folder : Folder) (W : World) → Makes order I folder W x x' outcome []) → (d d' : Option History) → r' ≡ r
-      → Carried IsUnbuilt outcome d d' → Moves d d' (RunsOverAll order x x' r r' outcome)
-  unbuilt order made d d' no_runs (inl is) = unmoved order d d' is.1 no_runs made
-  unbuilt order made d d' no_runs (inr none) = unmoved order d d' none.1 no_runs made
+  pub loads : (count : ℕ) (d d' : Option History) → r' ≡ r → Carried (IsLoaded count) outcome d d' → Moves d d' (RunsOverAll (load count) x x' a a' r r' outcome)
+  loads count d d' no_runs (inl is) = unmoved (load count) d d' is.same no_runs (λ I folder W h. refl)
+  loads count d d' no_runs (inr none) = unmoved (load count) d d' none.1 no_runs (λ I folder W h. refl)
 
   -- ---- commands that ask requests
 
   module _ (order : Order) (qs : List Request) (Tells : World → List ℕ → Type 0)
-      (form : (I : Image) (folder : Folder) (W : World) (events : List Event) → RequestEvents I W qs Tells outcome events → Makes order I folder W x x' outcome events)
-      (unbegun : outcome ≡ Err refused.Memory → (I : Image) (folder : Folder) (W : World) → Makes order I folder W x x' outcome []) where
-    requested : (old new : History) → CarriesOut qs Tells outcome r r' (Some old) (Some new) → RunsOverAll order x x' r r' outcome old new
+      (form : (I : Image) (folder : Folder) (W : World) (h : History) (events : List Event) → RequestEvents I W qs Tells outcome events
+      → Makes order I folder W x x' a a' outcome h events)
+      (unbegun : outcome ≡ Err refused.Memory → (I : Image) (folder : Folder) (W : World) (h : History) → Makes order I folder W x x' a a' outcome h []) where
+    requested : (old new : History) → CarriesOut qs Tells outcome r r' (Some old) (Some new) → RunsOverAll order x x' a a' r r' outcome old new
     requested old new carries I good folder image W at =
         let run : runs.IsRun I W (RequestEvents I W qs Tells outcome) r r' old new = requests_run qs Tells I good folder image W outcome r r' old new at carries in
-        inl (run_of order I good folder W x x' r r' outcome old new at run.events (form I folder W run.events run.form_is) run.runs_to run.ran
+        inl (run_of order I good folder W x x' a a' r r' outcome old new at run.events (form I folder W old run.events run.form_is) run.runs_to run.ran
         (λ all. ends_calm I W run.events outcome new
         (λ said is. requests_calm I W qs Tells said run.events (subst (λ (o : Outcome). RequestEvents I W qs Tells o run.events) is run.form_is)) run.calm))
 
-    carries_out : (d d' : Option History) → CarriesOut qs Tells outcome r r' d d' → Moves d d' (RunsOverAll order x x' r r' outcome)
+    carries_out : (d d' : Option History) → CarriesOut qs Tells outcome r r' d d' → Moves d d' (RunsOverAll order x x' a a' r r' outcome)
     carries_out None None carries = record { told = tt }
     carries_out (Some old) (Some new) carries = record { told = requested old new carries }
     carries_out None (Some new) carries = absurd carries.makes.told
     carries_out (Some old) None carries = absurd carries.makes.told
 
-    pub commanded : (d d' : Option History) → Commanded qs Tells outcome r r' d d' → Moves d d' (RunsOverAll order x x' r r' outcome)
+    pub commanded : (d d' : Option History) → Commanded qs Tells outcome r r' d d' → Moves d d' (RunsOverAll order x x' a a' r r' outcome)
     commanded d d' (inl carries) = carries_out d d' carries
     commanded d d' (inr none) = unmoved order d d' none.same none.no_runs (unbegun none.result_is)
 
   pub sets : (pairs : List (Key × Scalar)) (d d' : Option History) → Commanded (set_requests pairs) IsSettingsLine outcome r r' d d'
-      → Moves d d' (RunsOverAll (set pairs) x x' r r' outcome)
-  sets pairs = commanded (set pairs) (set_requests pairs) IsSettingsLine (λ I folder W events is. inl is) (λ memory I folder W. inr (memory, refl))
+      → Moves d d' (RunsOverAll (set pairs) x x' a a' r r' outcome)
+  sets pairs = commanded (set pairs) (set_requests pairs) IsSettingsLine (λ I folder W h events is. inl is) (λ memory I folder W h. inr (memory, refl))
 
-  pub applies : (d d' : Option History) → Commanded apply_requests IsJobLine outcome r r' d d' → Moves d d' (RunsOverAll apply x x' r r' outcome)
-  applies = commanded apply apply_requests IsJobLine (λ I folder W events is. inl is) (λ memory I folder W. inr (memory, refl))
+  pub applies : (d d' : Option History) → Commanded apply_requests IsJobLine outcome r r' d d' → Moves d d' (RunsOverAll apply x x' a a' r r' outcome)
+  applies = commanded apply apply_requests IsJobLine (λ I folder W h events is. inl is) (λ memory I folder W h. inr (memory, refl))
 
   -- ---- get
 
   module _ (keys : List (List (List ℕ))) (no_runs : r' ≡ r) where
-    got : (old new : History) → IsGot keys outcome (Some old) (Some new) → RunsOverAll (get keys) x x' r r' outcome old new
+    got : (old new : History) → IsGot keys outcome (Some old) (Some new) → RunsOverAll (get keys) x x' a a' r r' outcome old new
     got old new is I good folder image W at =
         let run : runs.IsRun I W (GetEvents I W keys outcome) r r' old new =
         subst (λ (s : Option (List Run)). runs.IsRun I W (GetEvents I W keys outcome) r s old new) (sym no_runs) (gets_run I good folder image W keys outcome r old new at is) in
-        inl (run_of (get keys) I good folder W x x' r r' outcome old new at run.events (inl run.form_is) run.runs_to run.ran
+        inl (run_of (get keys) I good folder W x x' a a' r r' outcome old new at run.events (inl run.form_is) run.runs_to run.ran
         (λ all. ends_calm I W run.events outcome new
         (λ said told. gets_calm I W keys said run.events (subst (λ (o : Outcome). GetEvents I W keys o run.events) told run.form_is)) run.calm))
 
-    got_by : (d d' : Option History) → IsGot keys outcome d d' → Moves d d' (RunsOverAll (get keys) x x' r r' outcome)
+    got_by : (d d' : Option History) → IsGot keys outcome d d' → Moves d d' (RunsOverAll (get keys) x x' a a' r r' outcome)
     got_by None None is = record { told = tt }
     got_by (Some old) (Some new) is = record { told = got old new is }
     got_by None (Some new) is = absurd is.opens.told
     got_by (Some old) None is = absurd is.opens.told
 
-    pub gets : (d d' : Option History) → Carried (IsGot keys) outcome d d' → Moves d d' (RunsOverAll (get keys) x x' r r' outcome)
+    pub gets : (d d' : Option History) → Carried (IsGot keys) outcome d d' → Moves d d' (RunsOverAll (get keys) x x' a a' r r' outcome)
     gets d d' (inl is) = got_by d d' is
-    gets d d' (inr none) = unmoved (get keys) d d' none.1 no_runs (λ I folder W. inr (none.0, refl))
+    gets d d' (inr none) = unmoved (get keys) d d' none.1 no_runs (λ I folder W h. inr (none.0, refl))
 
   -- ---- serve
 
   module _ (boot : Bool) (slice connections : Option ℕ) where
-    served : (old new : History) → IsServed boot slice x x' r r' outcome (Some old) (Some new) → RunsOverAll (serve boot slice connections) x x' r r' outcome old new
+    served : (old new : History) → IsServed boot slice x x' r r' outcome (Some old) (Some new) → RunsOverAll (serve boot slice connections) x x' a a' r r' outcome old new
     served old new is I good folder image W at =
         let run : runs.IsRun I W (ServeEvents I W boot slice x x' outcome) r r' old new = serves_run I good folder image W boot slice x x' outcome r r' old new at is in
-        inl (run_of (serve boot slice connections) I good folder W x x' r r' outcome old new at run.events (inl run.form_is) run.runs_to run.ran (λ all. absurd (cc all)))
+        inl (run_of (serve boot slice connections) I good folder W x x' a a' r r' outcome old new at run.events (inl run.form_is) run.runs_to run.ran (λ all. absurd (cc all)))
 
-    served_by : (d d' : Option History) → IsServed boot slice x x' r r' outcome d d' → Moves d d' (RunsOverAll (serve boot slice connections) x x' r r' outcome)
+    served_by : (d d' : Option History) → IsServed boot slice x x' r r' outcome d d' → Moves d d' (RunsOverAll (serve boot slice connections) x x' a a' r r' outcome)
     served_by None None is = record { told = tt }
     served_by (Some old) (Some new) is = record { told = served old new is }
     served_by None (Some new) is = absurd is.makes.told
     served_by (Some old) None is = absurd is.makes.told
 
-    pub serves : (d d' : Option History) → HasServed boot slice x x' r r' outcome d d' → Moves d d' (RunsOverAll (serve boot slice connections) x x' r r' outcome)
+    pub serves : (d d' : Option History) → HasServed boot slice x x' r r' outcome d d' → Moves d d' (RunsOverAll (serve boot slice connections) x x' a a' r r' outcome)
     serves d d' (inl is) = served_by d d' is
-    serves d d' (inr none) = unmoved (serve boot slice connections) d d' none.same none.no_runs (λ I folder W. inr ((none.outcome_is, refl), none.no_connections))
+    serves d d' (inr none) = unmoved (serve boot slice connections) d d' none.same none.no_runs (λ I folder W h. inr ((none.outcome_is, refl), none.no_connections))

@@ -45,9 +45,11 @@ disk_alone (refused.Conflict key) is = absurd (omega (arith, is))
 disk_alone (refused.Refused status body) is = absurd (omega (arith, is))
 disk_alone (refused.AlreadyThere version) is = absurd (omega (arith, is))
 disk_alone (refused.OldFormat directory) is = absurd (omega (arith, is))
+disk_alone (refused.GeneratorStatus key number) is = absurd (omega (arith, is))
+disk_alone (refused.GeneratorOutput key) is = absurd (omega (arith, is))
+disk_alone (refused.UserData kind at) is = absurd (omega (arith, is))
 disk_alone (refused.MigrationStatus name number) is = absurd (omega (arith, is))
 disk_alone (refused.MigrationOutput name) is = absurd (omega (arith, is))
-disk_alone refused.NotBuilt is = absurd (omega (arith, is))
 
 rose : (outcome : Outcome) {P : Type 0} → (IsErrOf outcome refused.Disk → P) → status_in outcome ≡ 3 → P
 rose (Ok text) failed is = absurd (omega (arith, is))

@@ -7,5 +7,12 @@ pub mod Answered
 pub mod Beginnings
 pub mod Commands
 pub mod Moves
+pub mod Inputs
 pub mod Words
 pub mod Headlines
+pub mod CommandRuns
+pub mod Keeping
+pub mod MoveRuns
+pub mod Pairs
+pub mod Served
+pub mod Whole

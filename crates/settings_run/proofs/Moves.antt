@@ -28,7 +28,7 @@ use Rattle.command_words.specs.Orders.{migrate}
 use Rattle.settings_cmd.specs.Carried.{IsMigrated, AnswersMoving}
 use Rattle.settings_cmd.specs.Handing.{HandsMoving}
 use Rattle.settings_cmd.specs.Releases.{IsReleaseIn, release_path}
-use Rattle.command_runs.specs.Laws.{Begins}
+use Rattle.settings_run.specs.Laws.{Begins}
 use Rattle.settings_run.specs.Events.{MovesBy}
 use Rattle.settings_run.specs.Headline.{RunsOver, RunsOverAll}
 use Rattle.settings_run.proofs.Answered.{run_of, stays, untouched}
@@ -48,12 +48,12 @@ told_as (moving.Spawn name) outcome told = (_, told)
 told_as moving.Failed outcome told = (_, told)
 told_as moving.Memory outcome told = (_, told)
 
-module _ (x x' : Option (List Exchange)) (r r' : Option (List Run)) (no_runs : r' ≡ r) (to : Version) where
+module _ (x x' : Option (List Exchange)) (a a' : Option (List Question)) (r r' : Option (List Run)) (no_runs : r' ≡ r) (to : Version) where
   module _ (I : Image) (good : IsGood I) (folder : Folder) (W : World) (old new : History) (at : Begins I folder W old) where
     -- A refusal of a disk that stayed is no event.
-    stayed_as : (outcome : Outcome) (refusal : Refusal) → outcome ≡ Err refusal → HasStayed I W old new → RunsOver (migrate to) I folder W x x' r r' outcome old new
-    stayed_as outcome refusal told stayed = subst (λ (o : Outcome). RunsOver (migrate to) I folder W x x' r r' o old new) (sym told)
-        (inl (stays (migrate to) I good folder W x x' r r' (Err refusal) old new at refl no_runs stayed))
+    stayed_as : (outcome : Outcome) (refusal : Refusal) → outcome ≡ Err refusal → HasStayed I W old new → RunsOver (migrate to) I folder W x x' a a' r r' outcome old new
+    stayed_as outcome refusal told stayed = subst (λ (o : Outcome). RunsOver (migrate to) I folder W x x' a a' r r' o old new) (sym told)
+        (inl (stays (migrate to) I good folder W x x' a a' r r' (Err refusal) old new at refl no_runs stayed))
 
     module _ (release : Release) (read : IsReleaseIn (sources_in (tree_of old)) release) (mapped : List Mapped) (p q : Option (List Refused)) where
       -- The release of the tree is that of the folder.
@@ -71,23 +71,23 @@ module _ (x x' : Option (List Exchange)) (r r' : Option (List Run)) (no_runs : r
 
       module _ (outcome : Outcome) where
         answered : (done : answer.Moved) → Migrates to release.transitions.items release.migrations.items (Some []) (Some mapped) p q (Ok done) old new
-            → outcome ≡ Ok (version_text to ++ 10 ∷ []) → RunsOver (migrate to) I folder W x x' r r' outcome old new
+            → outcome ≡ Ok (version_text to ++ 10 ∷ []) → RunsOver (migrate to) I folder W x x' a a' r r' outcome old new
         answered done migrates told =
             let has : HasMoved I W to release.transitions.items release.migrations.items (Some []) (Some mapped) old new =
             moves_move I good W to release.transitions.items release.migrations.items [] (Some mapped) p q done old new at.starts migrates in
-            subst (λ (o : Outcome). RunsOver (migrate to) I folder W x x' r r' o old new) (sym told)
-            (inl (run_of (migrate to) I good folder W x x' r r' (Ok (version_text to ++ 10 ∷ [])) old new at has.events (refl, moves_by has.events has.form) has.runs
+            subst (λ (o : Outcome). RunsOver (migrate to) I folder W x x' a a' r r' o old new) (sym told)
+            (inl (run_of (migrate to) I good folder W x x' a a' r r' (Ok (version_text to ++ 10 ∷ [])) old new at has.events (refl, moves_by has.events has.form) has.runs
             (moves_same no_runs (λ s was. was ∙ sym (no_program has.events has.form))) (λ all. has.recovers)))
 
         stopped : (e : MoveError) → e ≢ moving.Failed → Migrates to release.transitions.items release.migrations.items (Some []) (Some mapped) p q (Err e) old new
-            → HandsMoving e outcome → RunsOver (migrate to) I folder W x x' r r' outcome old new
+            → HandsMoving e outcome → RunsOver (migrate to) I folder W x x' a a' r r' outcome old new
         stopped e other migrates told =
             let refusal = told_as e outcome told in
             stayed_as outcome refusal.0 refusal.1
             (refused_moves_stay I good W to release.transitions.items release.migrations.items (Some []) (Some mapped) p q e old new other at.starts migrates)
 
         failed : Migrates to release.transitions.items release.migrations.items (Some []) (Some mapped) p q (Err moving.Failed) old new → outcome ≡ Err refused.Disk
-            → RunsOver (migrate to) I folder W x x' r r' outcome old new
+            → RunsOver (migrate to) I folder W x x' a a' r r' outcome old new
         failed migrates told =
             let moves : IsMoving I W to release.transitions.items release.migrations.items (Some []) (Some mapped) old new =
             moves_are_whole I good W to release.transitions.items release.migrations.items (Some []) (Some mapped) p q (Err moving.Failed) old new at.starts migrates in
@@ -102,7 +102,7 @@ module _ (x x' : Option (List Exchange)) (r r' : Option (List Run)) (no_runs : r
             })
 
         by_result : (result : Result answer.Moved MoveError) → Migrates to release.transitions.items release.migrations.items (Some []) (Some mapped) p q result old new
-            → AnswersMoving to result outcome → RunsOver (migrate to) I folder W x x' r r' outcome old new
+            → AnswersMoving to result outcome → RunsOver (migrate to) I folder W x x' a a' r r' outcome old new
         by_result (Ok done) migrates told = answered done migrates told
         by_result (Err moving.Failed) migrates told = failed migrates told
         by_result (Err moving.NoStore) migrates told = stopped moving.NoStore (λ is. cc is) migrates told
@@ -116,11 +116,11 @@ module _ (x x' : Option (List Exchange)) (r r' : Option (List Run)) (no_runs : r
         by_result (Err (moving.Spawn name)) migrates told = stopped (moving.Spawn name) (λ is. cc is) migrates told
         by_result (Err moving.Memory) migrates told = stopped moving.Memory (λ is. cc is) migrates told
 
-  pub migrates : (a a' : Option (List Question)) (outcome : Outcome) (d d' : Option History) → IsMigrated to a a' outcome d d'
-      → Moves d d' (RunsOverAll (migrate to) x x' r r' outcome)
-  migrates a a' outcome d d' (inl none) = moves_same none.same (λ h I good folder image W at.
-      subst (λ (o : Outcome). RunsOver (migrate to) I folder W x x' r r' o h h) (sym none.answers)
-      (inl (untouched (migrate to) I good folder W x x' r r' (Err none.refusal) h at refl no_runs)))
-  migrates a a' outcome d d' (inr is) = moves_map (λ old new both I good folder image W at.
+  pub migrates : (outcome : Outcome) (d d' : Option History) → IsMigrated to a a' outcome d d'
+      → Moves d d' (RunsOverAll (migrate to) x x' a a' r r' outcome)
+  migrates outcome d d' (inl none) = moves_same none.same (λ h I good folder image W at.
+      subst (λ (o : Outcome). RunsOver (migrate to) I folder W x x' a a' r r' o h h) (sym none.answers)
+      (inl (untouched (migrate to) I good folder W x x' a a' r r' (Err none.refusal) h at refl no_runs)))
+  migrates outcome d d' (inr is) = moves_map (λ old new both I good folder image W at.
       by_result I good folder W old new at is.release both.0 is.moves.mapped (Some []) (Some is.moves.refused) outcome is.result both.1 is.answers)
       (moves_where is.read is.moves.migrates)

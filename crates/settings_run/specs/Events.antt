@@ -1,6 +1,8 @@
 -- The events of each command, by what it came to.
 use Rattle.std.specs.Prelude.{◌≡◌, ◌⊎◌, ◌++◌, List, [], ◌∷◌, codes, Option, Some, Ok, Err}
 use Rattle.outside.specs.Exchange.{Exchange}
+use Rattle.outside.specs.History.{History}
+use Rattle.outside.specs.Spawner.{Question}
 use Rattle.settings_machine.specs.World.{Image, World}
 use Rattle.settings_machine.specs.Events.{Event}
 use Rattle.machine_disk.specs.Kept.{Folder}
@@ -15,7 +17,7 @@ use Rattle.command_words.specs.Orders.{Order, init, serve, set, get, apply, chec
 use Rattle.core_commands.specs.Carried.{set_requests, apply_requests}
 use Rattle.core_commands.specs.Lines.{IsSettingsLine, IsJobLine}
 use Rattle.settings_cmd.specs.Releases.{IsReleaseIn}
-use Rattle.command_runs.specs.Laws.{RequestEvents, ServeEvents, GetEvents}
+use Rattle.settings_run.specs.Laws.{RequestEvents, ServeEvents, GetEvents, GenerateEvents, ProvisionEvents}
 
 -- The release of the image, and what its migrations made, led from W to the version by these events: one, or none where the store was there
 -- in format 2.
@@ -34,17 +36,18 @@ MigrateEvents folder W to (Err refusal) events = events ≡ []
 abbrev pub IsUnbegun : Outcome → List Event → Type 0
 IsUnbegun outcome events = (outcome ≡ Err refused.Memory) × (events ≡ [])
 
--- What each command makes of W, where a store is there. `init`, `check`, `prune` and `load` make no event. The connections are those that the door
--- has accepted, before and after.
-abbrev pub Makes : Order → Image → Folder → World → Option (List Exchange) → Option (List Exchange) → Outcome → List Event → Type 0
-Makes (init version) I folder W x x' outcome events = events ≡ []
-Makes (serve boot slice connections) I folder W x x' outcome events = ServeEvents I W boot slice x x' outcome events ⊎ (IsUnbegun outcome events × (x' ≡ x))
-Makes (set pairs) I folder W x x' outcome events = RequestEvents I W (set_requests pairs) IsSettingsLine outcome events ⊎ IsUnbegun outcome events
-Makes (get keys) I folder W x x' outcome events = GetEvents I W keys outcome events ⊎ IsUnbegun outcome events
-Makes apply I folder W x x' outcome events = RequestEvents I W apply_requests IsJobLine outcome events ⊎ IsUnbegun outcome events
-Makes check I folder W x x' outcome events = events ≡ []
-Makes (migrate to) I folder W x x' outcome events = MigrateEvents folder W to outcome events
-Makes prune I folder W x x' outcome events = events ≡ []
-Makes (load count) I folder W x x' outcome events = events ≡ []
-Makes generate I folder W x x' outcome events = events ≡ []
-Makes (user_data path) I folder W x x' outcome events = events ≡ []
+-- What each command makes of W, where a store is there, on a disk with this history. `init`, `check`, `prune` and `load` make no event. The connections
+-- that the door has accepted, and the programs that were asked, are those before and after.
+abbrev pub Makes : Order → Image → Folder → World → Option (List Exchange) → Option (List Exchange) → Option (List Question) → Option (List Question) → Outcome → History
+    → List Event → Type 0
+Makes (init version) I folder W x x' a a' outcome old events = events ≡ []
+Makes (serve boot slice connections) I folder W x x' a a' outcome old events = ServeEvents I W boot slice x x' outcome events ⊎ (IsUnbegun outcome events × (x' ≡ x))
+Makes (set pairs) I folder W x x' a a' outcome old events = RequestEvents I W (set_requests pairs) IsSettingsLine outcome events ⊎ IsUnbegun outcome events
+Makes (get keys) I folder W x x' a a' outcome old events = GetEvents I W keys outcome events ⊎ IsUnbegun outcome events
+Makes apply I folder W x x' a a' outcome old events = RequestEvents I W apply_requests IsJobLine outcome events ⊎ IsUnbegun outcome events
+Makes check I folder W x x' a a' outcome old events = events ≡ []
+Makes (migrate to) I folder W x x' a a' outcome old events = MigrateEvents folder W to outcome events
+Makes prune I folder W x x' a a' outcome old events = events ≡ []
+Makes (load count) I folder W x x' a a' outcome old events = events ≡ []
+Makes generate I folder W x x' a a' outcome old events = GenerateEvents I folder W a a' outcome events ⊎ (IsUnbegun outcome events × (a' ≡ a))
+Makes (user_data path) I folder W x x' a a' outcome old events = ProvisionEvents I W path outcome old events ⊎ IsUnbegun outcome events

@@ -1,9 +1,10 @@
 -- The headline: what every run of the program is, said of the map machine.
 use Rattle.std.specs.Prelude.{◌≡◌, ◌⊎◌, ◌++◌, ℕ, Bool, true, false, List, Option, Err, OnOk}
 use Rattle.outside.specs.Exchange.{Exchange}
+use Rattle.outside.specs.Faults.{Rose}
 use Rattle.outside.specs.History.{History, tree_of, EachImage}
 use Rattle.outside.specs.Since.{EachSince}
-use Rattle.outside.specs.Spawner.{Run}
+use Rattle.outside.specs.Spawner.{Run, Question}
 use Rattle.outside.specs.Told.{Moves}
 use Rattle.settings_machine.specs.World.{Image, World, owes_none, due}
 use Rattle.settings_machine.specs.Covered.{IsCovered}
@@ -20,27 +21,41 @@ use Rattle.command_outcome.specs.Ends.{Outcome, Ends}
 use Rattle.command_outcome.specs.declared.refusal.Refusal.TheVariants as refused
 use Rattle.command_words.specs.Orders.{Order, Spells, init, serve, migrate}
 use Rattle.core_commands.specs.Carried.{RunsBy}
-use Rattle.command_runs.specs.Laws.{Begins}
+use Rattle.settings_run.specs.Laws.{Begins}
 use Rattle.settings_run.specs.Events.{Makes, MovesBy}
 
 -- ---- what the devices tell
 
--- The disk's history, the connections that were accepted, the programs that were run, and what was written to the output, where each is told.
+-- How often disk, door and spawner have failed.
+pub record Faults : Type 0 where
+  pub disk : ℕ
+  pub door : ℕ
+  pub spawner : ℕ
+
+-- These three.
+abbrev pub faults : ℕ → ℕ → ℕ → Faults
+faults disk door spawner = record { disk = disk; door = door; spawner = spawner }
+
+-- The disk's history, the connections that were accepted, the programs that were asked and that were run, and what was written to the output, where
+-- each is told; and how often they have failed.
 pub record Devices : Type 0 where
   pub disk : Option History
   pub connections : Option (List Exchange)
+  pub asked : Option (List Question)
   pub runs : Option (List Run)
   pub output : Option (List ℕ)
+  pub failed : Faults
 
--- These four.
-abbrev pub devices : Option History → Option (List Exchange) → Option (List Run) → Option (List ℕ) → Devices
-devices disk connections runs output = record { disk = disk; connections = connections; runs = runs; output = output }
+-- These six.
+abbrev pub devices : Option History → Option (List Exchange) → Option (List Question) → Option (List Run) → Option (List ℕ) → Faults → Devices
+devices disk connections asked runs output failed = record { disk = disk; connections = connections; asked = asked; runs = runs; output = output; failed = failed }
 
 -- ---- the five points
 
 -- The replies and lines are those of the machine after the events, and so are the settings and the configuration files of the disk.
-pub record IsMachines (order : Order) (I : Image) (folder : Folder) (W : World) (x x' : Option (List Exchange)) (outcome : Outcome) (events : List Event) (new : History) : Type 0 where
-  pub made : Makes order I folder W x x' outcome events
+pub record IsMachines (order : Order) (I : Image) (folder : Folder) (W : World) (x x' : Option (List Exchange)) (a a' : Option (List Question)) (outcome : Outcome)
+    (events : List Event) (old new : History) : Type 0 where
+  pub made : Makes order I folder W x x' a a' outcome old events
   pub settings : HasStore (after I W events) (tree_of new)
   pub files : HasFiles (after I W events).etc (tree_of new)
 
@@ -75,10 +90,10 @@ pub record RestartsAffected (I : Image) (W : World) (events : List Event) (ran_b
 -- ---- a run where a store is there
 
 -- It is these events of the machine.
-pub record IsRun (order : Order) (I : Image) (folder : Folder) (W : World) (x x' : Option (List Exchange)) (r r' : Option (List Run)) (outcome : Outcome) (old new : History)
+pub record IsRun (order : Order) (I : Image) (folder : Folder) (W : World) (x x' : Option (List Exchange)) (a a' : Option (List Question)) (r r' : Option (List Run)) (outcome : Outcome) (old new : History)
     : Type 0 where
   pub events : List Event
-  pub machine : IsMachines order I folder W x x' outcome events new
+  pub machine : IsMachines order I folder W x x' a a' outcome events old new
   pub crashes : RecoversToPrefix order I W outcome events old new
   pub paid_files : FilesArePaid I W events old new
   pub restarts : RestartsAffected I W events r r'
@@ -93,14 +108,15 @@ pub record FailsToMove (order : Order) (I : Image) (folder : Folder) (W : World)
   pub no_runs : r' ≡ r
 
 -- A run is a list of events; but where the disk failed a move, that happened or not.
-abbrev pub RunsOver : Order → Image → Folder → World → Option (List Exchange) → Option (List Exchange) → Option (List Run) → Option (List Run) → Outcome → History → History
-    → Type 0
-RunsOver order I folder W x x' r r' outcome old new = IsRun order I folder W x x' r r' outcome old new ⊎ FailsToMove order I folder W r r' outcome old new
+abbrev pub RunsOver : Order → Image → Folder → World → Option (List Exchange) → Option (List Exchange) → Option (List Question) → Option (List Question) → Option (List Run)
+    → Option (List Run) → Outcome → History → History → Type 0
+RunsOver order I folder W x x' a a' r r' outcome old new = IsRun order I folder W x x' a a' r r' outcome old new ⊎ FailsToMove order I folder W r r' outcome old new
 
 -- By each image that the folder makes, and each world that the disk begins at, settled and paid.
-abbrev pub RunsOverAll : Order → Option (List Exchange) → Option (List Exchange) → Option (List Run) → Option (List Run) → Outcome → History → History → Type 0
-RunsOverAll order x x' r r' outcome old new = (I : Image) → IsGood I → (folder : Folder) → IsImageOfFolder I folder → (W : World) → Begins I folder W old
-    → RunsOver order I folder W x x' r r' outcome old new
+abbrev pub RunsOverAll : Order → Option (List Exchange) → Option (List Exchange) → Option (List Question) → Option (List Question) → Option (List Run) → Option (List Run)
+    → Outcome → History → History → Type 0
+RunsOverAll order x x' a a' r r' outcome old new = (I : Image) → IsGood I → (folder : Folder) → IsImageOfFolder I folder → (W : World) → Begins I folder W old
+    → RunsOver order I folder W x x' a a' r r' outcome old new
 
 -- ---- a run where no store is there
 
@@ -111,11 +127,20 @@ pub record BeginsStore (version : Version) (outcome : Outcome) (old new : Histor
 
 -- ---- the headline
 
+-- Want of memory is told by status 1 and no other; and that a device failed is what a command came to only where its count of faults rose, whatever the
+-- status is.
+pub record HasCauses (outcome : Outcome) (status : ℕ) (before now : Faults) : Type 0 where
+  pub memory : outcome ≡ Err refused.Memory → status ≡ 1
+  pub disk : outcome ≡ Err refused.Disk → Rose before.disk now.disk
+  pub door : outcome ≡ Err refused.Door → Rose before.door now.door
+  pub spawner : (name : List ℕ) → outcome ≡ Err (refused.Spawn name) → Rose before.spawner now.spawner
+
 -- A command came to something, whose status and text the run ended with; and it is a run of the machine, crash included.
 pub record IsRunOfMachine (order : Order) (status : ℕ) (before now : Devices) : Type 0 where
   pub outcome : Outcome
   pub ends : Ends outcome status before.output now.output
-  pub runs : Moves before.disk now.disk (RunsOverAll order before.connections now.connections before.runs now.runs outcome)
+  pub causes : HasCauses outcome status before.failed now.failed
+  pub runs : Moves before.disk now.disk (RunsOverAll order before.connections now.connections before.asked now.asked before.runs now.runs outcome)
   pub begins : (version : Version) → order ≡ init version → Moves before.disk now.disk (BeginsStore version outcome)
 
 -- So it is of every list of words that orders something.

@@ -1,3 +1,4 @@
 pub mod Runs
 pub mod Events
 pub mod Headline
+pub mod Laws

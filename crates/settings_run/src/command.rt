@@ -5,14 +5,14 @@ ghost use Rattle.outside.specs.Faults.{Rose};
 ghost use Rattle.outside.specs.Spawner.{texts};
 ghost use Rattle.json_trees.specs.declared.scalar.Scalar.{Scalar as Value};
 ghost use Rattle.sink_text.specs.Said.{IsSaid};
-ghost use Rattle.command_words.specs.Orders.{Order, Spells, SpellsNone, serve as ServeOrder, apply as ApplyOrder, init as InitOrder, get as GetOrder, check as CheckOrder, migrate as MigrateOrder, prune as PruneOrder, set as SetOrder};
+ghost use Rattle.command_words.specs.Orders.{Spells, SpellsNone, serve as ServeOrder, apply as ApplyOrder, init as InitOrder, get as GetOrder, check as CheckOrder, migrate as MigrateOrder, prune as PruneOrder, set as SetOrder, generate as GenerateOrder, user_data as UserDataOrder, load as LoadOrder};
 ghost use Rattle.core_commands.specs.Carried.{Carried as Commanded, set_requests, apply_requests};
 ghost use Rattle.core_commands.specs.Lines.{IsSettingsLine, IsJobLine};
 ghost use Rattle.api_server.specs.Serving.{wanted};
 ghost use Rattle.settings_cmd.specs.Serving.{HasServed};
 ghost use Rattle.version_links.specs.declared.version.Version.{Version};
-ghost use Rattle.settings_cmd.specs.Carried.{IsMisused, IsBegun, IsGot, IsChecked, IsMigrated, IsPruned, IsUnbuilt, ServesNot, RunsNothing, is_built};
-ghost use Rattle.settings_run.specs.Headline.{Headline, devices};
+ghost use Rattle.settings_cmd.specs.Carried.{IsMisused, IsBegun, IsGot, IsChecked, IsMigrated, IsPruned, GeneratesOrNot, IsProvided, IsLoaded, ServesNot, RunsNothing, AsksNothing};
+ghost use Rattle.settings_run.specs.Headline.{Headline, devices, faults};
 ghost use Rattle.settings_run.specs.Runs.{Runs, RunsAs};
 
 use command_outcome::tell;
@@ -38,8 +38,8 @@ pub fn run<D: Disk, S: Asker, N: Door, O: Sink>(
     requires unused { (N.state door.old).accepted ≡ 0 }
     // Each list of words that orders something is a run of the map machine, where the disk tells, was settled at the start and had a paid store, or none.
     ensures headline { Headline (texts words.now) result
-        (devices (D.told disk.old) (N.told door.old) (S.runs spawner.old) (O.told out.old))
-        (devices (D.told disk.new) (N.told door.new) (S.runs spawner.new) (O.told out.new)) }
+        (devices (D.told disk.old) (N.told door.old) (S.asked spawner.old) (S.runs spawner.old) (O.told out.old) (faults (D.faults disk.old) (N.faults door.old) (S.faults spawner.old)))
+        (devices (D.told disk.new) (N.told door.new) (S.asked spawner.new) (S.runs spawner.new) (O.told out.new) (faults (D.faults disk.new) (N.faults door.new) (S.faults spawner.new))) }
 
     // What each command does, on any disk.
     ensures usage { SpellsNone (texts words.now) → Runs IsMisused result (D.told disk.old) (D.told disk.new) (O.told out.old) (O.told out.new) }
@@ -59,11 +59,15 @@ pub fn run<D: Disk, S: Asker, N: Door, O: Sink>(
     ensures migrate { (version : Version) → Spells (texts words.now) (MigrateOrder version)
         → RunsAs (λ outcome. IsMigrated version (S.asked spawner.old) (S.asked spawner.new) outcome (D.told disk.old) (D.told disk.new)) result (O.told out.old) (O.told out.new) }
     ensures prune { Spells (texts words.now) PruneOrder → Runs IsPruned result (D.told disk.old) (D.told disk.new) (O.told out.old) (O.told out.new) }
-    ensures not_built { (order : Order) → Spells (texts words.now) order → is_built order ≡ false
-        → Runs IsUnbuilt result (D.told disk.old) (D.told disk.new) (O.told out.old) (O.told out.new) }
+    ensures generate { Spells (texts words.now) GenerateOrder
+        → RunsAs (λ outcome. GeneratesOrNot (S.asked spawner.old) (S.asked spawner.new) outcome (D.told disk.old) (D.told disk.new)) result (O.told out.old) (O.told out.new) }
+    ensures user_data { (path : List (List ℕ)) → Spells (texts words.now) (UserDataOrder path)
+        → Runs (IsProvided path) result (D.told disk.old) (D.told disk.new) (O.told out.old) (O.told out.new) }
+    ensures load { (count : ℕ) → Spells (texts words.now) (LoadOrder count)
+        → Runs (IsLoaded count) result (D.told disk.old) (D.told disk.new) (O.told out.old) (O.told out.new) }
 
-    // Programs are asked by `migrate` alone, and run by `serve`, `set` and `apply` alone; connections are served by `serve` alone.
-    ensures unasked { ((version : Version) → Spells (texts words.now) (MigrateOrder version) → ⊥) → S.asked spawner.new ≡ S.asked spawner.old }
+    // Programs are asked by `migrate` and `generate` alone, and run by `serve`, `set` and `apply` alone; connections are served by `serve` alone.
+    ensures unasked { AsksNothing (texts words.now) → S.asked spawner.new ≡ S.asked spawner.old }
     ensures unrun { RunsNothing (texts words.now) → S.runs spawner.new ≡ S.runs spawner.old }
     ensures shut { ServesNot (texts words.now) → N.told door.new ≡ N.told door.old }
     ensures idle { (N.state door.new).busy ≡ false }

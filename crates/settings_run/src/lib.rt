@@ -2,5 +2,7 @@
 #![tactic(auto)]
 
 mod command;
+mod law;
 
 pub use command::run;
+pub use law::laws;

@@ -5,7 +5,12 @@ use Rattle.settings_run.proofs.Headlines.{headline}
 use Rattle.settings_run.proofs.command.run.Goals as goal
 
 pub returns-clause-headline : goal.returns-clause-headline
-returns-clause-headline g c = headline _ c.carry_out-outcome.result _ _ _ _ _ _ _ _ c.tell.result _ _ c.tell.ensures.ends (record {
+returns-clause-headline g c = headline _ c.carry_out-outcome.result _ _ _ _ _ _ _ _ c.tell.result _ _ _ _ c.tell.ensures.ends (record {
+  memory = c.tell.ensures.memory;
+  disk = c.carry_out-outcome.ensures.disk_fault;
+  door = c.carry_out-outcome.ensures.door_fault;
+  spawner = c.carry_out-outcome.ensures.spawn_fault;
+}) (record {
   unrun = c.carry_out-outcome.ensures.unrun;
   inits = c.carry_out-outcome.ensures.init;
   serves = c.carry_out-outcome.ensures.serve;
@@ -15,7 +20,9 @@ returns-clause-headline g c = headline _ c.carry_out-outcome.result _ _ _ _ _ _ 
   checks = c.carry_out-outcome.ensures.check;
   migrates = c.carry_out-outcome.ensures.migrate;
   prunes = c.carry_out-outcome.ensures.prune;
-  unbuilt = c.carry_out-outcome.ensures.not_built;
+  generates = c.carry_out-outcome.ensures.generate;
+  provides = c.carry_out-outcome.ensures.user_data;
+  loads = c.carry_out-outcome.ensures.load;
 })
 
 pub returns-clause-usage : goal.returns-clause-usage
@@ -45,8 +52,14 @@ returns-clause-migrate g c version spells = record { outcome = c.carry_out-outco
 pub returns-clause-prune : goal.returns-clause-prune
 returns-clause-prune g c spells = record { outcome = c.carry_out-outcome.result; comes = c.carry_out-outcome.ensures.prune spells; ends = c.tell.ensures.ends }
 
-pub returns-clause-not_built : goal.returns-clause-not_built
-returns-clause-not_built g c order spells unbuilt = record { outcome = c.carry_out-outcome.result; comes = c.carry_out-outcome.ensures.not_built order spells unbuilt; ends = c.tell.ensures.ends }
+pub returns-clause-generate : goal.returns-clause-generate
+returns-clause-generate g c spells = record { outcome = c.carry_out-outcome.result; comes = c.carry_out-outcome.ensures.generate spells; ends = c.tell.ensures.ends }
+
+pub returns-clause-user_data : goal.returns-clause-user_data
+returns-clause-user_data g c path spells = record { outcome = c.carry_out-outcome.result; comes = c.carry_out-outcome.ensures.user_data path spells; ends = c.tell.ensures.ends }
+
+pub returns-clause-load : goal.returns-clause-load
+returns-clause-load g c count spells = record { outcome = c.carry_out-outcome.result; comes = c.carry_out-outcome.ensures.load count spells; ends = c.tell.ensures.ends }
 
 pub returns-clause-served : goal.returns-clause-served
 returns-clause-served g c boot slice connections spells is = c.carry_out-outcome.ensures.served boot slice connections spells (ended_well c.carry_out-outcome.result c.tell.result _ _ c.tell.ensures.ends is)

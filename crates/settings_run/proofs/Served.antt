@@ -1,18 +1,22 @@
 -- The events of an open store are openings, requests and turns.
-use Rattle.std.proofs.Common.{◌≡◌, inl, inr, ◌&&◌, ℕ, Bool, true, false, List, [], ◌∷◌, ◌++◌, Option, Some, None, Result, Ok, Err, refl, sym, ◌∙◌, ap, subst}
-use Rattle.settings_machine.specs.World.{Image, World, Job}
+use Rattle.std.proofs.Common.{◌≡◌, inl, inr, ◌&&◌, ℕ, Bool, true, false, List, [], ◌∷◌, ◌++◌, Option, Some, None, Result, Ok, Err, refl, ◌∙◌, ap}
+use Rattle.json_trees.specs.declared.scalar.Scalar.{Scalar}
+use Rattle.settings_machine.specs.World.{Key, Image, World, Job}
 use Rattle.settings_machine.specs.Requests.{Request, Reply}
-use Rattle.settings_machine.specs.Step.{Outcome, Answered, WithoutMemory, Unopened, Faulted}
-use Rattle.settings_machine.specs.Events.{Event, Opening, Succeeded, Failing, Opened, Asked, Unread, are_served, after, faulted_after}
+use Rattle.settings_machine.specs.Step.{Outcome as Came, Answered, WithoutMemory, Unopened, Faulted}
+use Rattle.settings_machine.specs.Events.{Event, Asked, are_served, after, faulted_after}
 use Rattle.settings_machine.proofs.Sequences.{served-append}
-use Rattle.machine_disk.specs.Ran.{Reopens, Handled, IsDriven}
+use Rattle.machine_disk.specs.Ran.{Reopens, Handled}
 use Rattle.machine_disk.proofs.Runs.{slice_served, driven_served}
 use Rattle.core_turns.specs.Turned.{AreTurns}
 use Rattle.core_commands.specs.Asking.{asked_all, Succeeds, Stops}
 use Rattle.core_commands.specs.Carried.{HasStopped, HasEnded, Comes}
+use Rattle.core_commands.specs.Committing.{ComesTo}
+use Rattle.core_commands.proofs.Requested.{succeeds_runs, stops_runs}
 use Rattle.api_server.specs.Exchanged.{Said, Nothing, OutOfMemory, Unread as Refused, Replied}
 use Rattle.api_server.specs.Rounds.{AsksFor, Round, AreRounds, events_of_round, events_of}
 use Rattle.api_server.specs.Serving.{AreBooted, AreLast, AreServed}
+use Rattle.command_outcome.specs.Ends.{Outcome}
 use Rattle.command_outcome.specs.declared.refusal.Refusal.{Refusal}
 use Rattle.command_outcome.specs.declared.refusal.Refusal.TheVariants as refused
 
@@ -64,13 +68,60 @@ module _ (I : Image) (W : World) (qs : List Request) where
   comes_served Tells (Err (refused.Conflict key)) asked turned comes = absurd comes
   comes_served Tells (Err (refused.AlreadyThere version)) asked turned comes = absurd comes
   comes_served Tells (Err (refused.OldFormat directory)) asked turned comes = absurd comes
+  comes_served Tells (Err (refused.GeneratorStatus key number)) asked turned comes = absurd comes
+  comes_served Tells (Err (refused.GeneratorOutput key)) asked turned comes = absurd comes
+  comes_served Tells (Err (refused.UserData kind at)) asked turned comes = absurd comes
   comes_served Tells (Err (refused.MigrationStatus name number)) asked turned comes = absurd comes
   comes_served Tells (Err (refused.MigrationOutput name)) asked turned comes = absurd comes
-  comes_served Tells (Err refused.NotBuilt) asked turned comes = absurd comes
+
+-- ---- commits of pairs
+
+-- Events that are requests, and run no program.
+pub record ArePlain (I : Image) (W : World) (events : List Event) : Type 0 where
+  pub served : are_served events ≡ true
+  pub runs : (after I W events).runs ≡ W.runs
+
+module _ (I : Image) (W : World) (tx : List ℕ) (pairs : List (Key × Scalar)) where
+  succeeds_plain : (qs : List Request) (events : List Event) → Succeeds I W qs events → ArePlain I W events
+  succeeds_plain qs events is = record { served = succeeds_served I W qs events is; runs = succeeds_runs I W qs events is }
+
+  stops_plain : (qs : List Request) (reply : Reply) (events : List Event) → Stops I W qs reply events → ArePlain I W events
+  stops_plain qs reply events is = record { served = stops_served I W qs reply events is; runs = stops_runs I W qs reply events is }
+
+  -- What a commit of pairs comes to.
+  pub commits_plain : (outcome : Outcome) (events : List Event) → ComesTo I W tx pairs outcome events → ArePlain I W events
+  commits_plain (Ok line) events comes = succeeds_plain _ events comes.0
+  commits_plain (Err (refused.Refused status body)) events comes = stops_plain _ _ events comes.stops
+  commits_plain (Err refused.Disk) events comes = stops_plain _ _ events comes
+  commits_plain (Err refused.Memory) events (inl none) = record { served = ap are_served none; runs = ap (λ (es : List Event). (after I W es).runs) none }
+  commits_plain (Err refused.Memory) events (inr (inl is)) = stops_plain _ _ events is
+  commits_plain (Err refused.Memory) events (inr (inr (inl is))) = stops_plain _ _ events is.1
+  commits_plain (Err refused.Memory) events (inr (inr (inr is))) = succeeds_plain _ events is
+  commits_plain (Err refused.Usage) events comes = absurd comes
+  commits_plain (Err refused.Door) events comes = absurd comes
+  commits_plain (Err (refused.Spawn name)) events comes = absurd comes
+  commits_plain (Err refused.NoStore) events comes = absurd comes
+  commits_plain (Err (refused.Damaged path)) events comes = absurd comes
+  commits_plain (Err (refused.BadLink path)) events comes = absurd comes
+  commits_plain (Err (refused.BadJournal path)) events comes = absurd comes
+  commits_plain (Err (refused.BadImage file kind at)) events comes = absurd comes
+  commits_plain (Err (refused.IllTyped key)) events comes = absurd comes
+  commits_plain (Err (refused.NotCovered lines)) events comes = absurd comes
+  commits_plain (Err (refused.Render file error)) events comes = absurd comes
+  commits_plain (Err (refused.Status service number)) events comes = absurd comes
+  commits_plain (Err (refused.Missing at target)) events comes = absurd comes
+  commits_plain (Err (refused.Conflict key)) events comes = absurd comes
+  commits_plain (Err (refused.AlreadyThere version)) events comes = absurd comes
+  commits_plain (Err (refused.OldFormat directory)) events comes = absurd comes
+  commits_plain (Err (refused.GeneratorStatus key number)) events comes = absurd comes
+  commits_plain (Err (refused.GeneratorOutput key)) events comes = absurd comes
+  commits_plain (Err (refused.UserData kind at)) events comes = absurd comes
+  commits_plain (Err (refused.MigrationStatus name number)) events comes = absurd comes
+  commits_plain (Err (refused.MigrationOutput name)) events comes = absurd comes
 
 -- ---- connections
 
-reopens_served : (faulted : Bool) (o : Outcome) (first : List Event) → Reopens faulted o first → are_served first ≡ true
+reopens_served : (faulted : Bool) (o : Came) (first : List Event) → Reopens faulted o first → are_served first ≡ true
 reopens_served false Answered first is = ap are_served is
 reopens_served false WithoutMemory first is = ap are_served is
 reopens_served false (Faulted taken) first is = ap are_served is

@@ -1,5 +1,5 @@
 -- What a crash leaves of a run, from what holds at its end and at every moment.
-use Rattle.std.proofs.Common.{◌≡◌, inl, inr, ◌⊎◌, ⊎_elim, List, [], ◌∷◌, ◌++◌, refl, sym, ◌∙◌, ap, subst}
+use Rattle.std.proofs.Common.{◌≡◌, inl, inr, ⊎_elim, List, [], ◌++◌, refl, sym}
 use Rattle.std.proofs.lemmas.List.{append-nil}
 use Rattle.outside.specs.Tree.{Tree}
 use Rattle.outside.specs.History.{History}
@@ -8,9 +8,8 @@ use Rattle.outside.proofs.Since.{since_map}
 use Rattle.settings_machine.specs.World.{Image, World}
 use Rattle.settings_machine.specs.Events.{Event, after}
 use Rattle.settings_machine.specs.Paid.{Paid, IsGood}
-use Rattle.machine_disk.specs.Store.{Recovers}
 use Rattle.machine_disk.specs.Kept.{Folder, DiskAt}
-use Rattle.machine_disk.specs.Ran.{AtPrefix, AtLatePrefix, IsLate, OnTheWay, IsWorldOf, RunsTo}
+use Rattle.machine_disk.specs.Ran.{AtPrefix, IsLate, OnTheWay, IsWorldOf, RunsTo}
 use Rattle.machine_disk.proofs.Runs.{recovers_paid, recovers_now, at_start, late_at}
 
 module _ (I : Image) (good : IsGood I) (folder : Folder) (W : World) (events : List Event) (old new : History) where

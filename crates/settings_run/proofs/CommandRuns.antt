@@ -1,12 +1,12 @@
 -- The commands are runs of the machine.
-use Rattle.std.proofs.Common.{◌≡◌, inl, inr, ◌⊎◌, ⊎_elim, ℕ, Bool, true, false, List, [], ◌∷◌, ◌++◌, Option, Some, None, Result, Ok, Err, IfErr, OnErr, OnOk, refl, sym, ◌∙◌, ap, subst}
+use Rattle.std.proofs.Common.{◌≡◌, inl, inr, ◌⊎◌, ℕ, Bool, true, false, List, [], ◌∷◌, ◌++◌, Option, Result, Ok, Err, IfErr, OnErr, OnOk, refl, sym, ◌∙◌, ap, subst}
 use Rattle.outside.specs.Exchange.{Exchange}
 use Rattle.outside.specs.History.{History}
 use Rattle.outside.specs.Spawner.{Run}
 use Rattle.outside.specs.Told.{Moves}
 use Rattle.outside.proofs.Told.{moves_same}
 use Rattle.outside.proofs.Crash.{settled_image}
-use Rattle.outside.specs.Tree.{node_at, file_in}
+use Rattle.outside.specs.Tree.{file_in}
 use Rattle.settings_tree.specs.declared.held.Held.{Held}
 use Rattle.settings_machine.specs.World.{Image, World, Job, Idle, is_running}
 use Rattle.settings_machine.specs.Opening.{added_keys}
@@ -16,11 +16,11 @@ use Rattle.settings_machine.specs.Events.{Event, Opened, Succeeded, Failing, aft
 use Rattle.settings_machine.specs.Paid.{Paid, IsGood}
 use Rattle.machine_disk.specs.Store.{HasStore}
 use Rattle.machine_disk.specs.Kept.{Folder, DiskAt, Kept}
-use Rattle.machine_disk.specs.Ran.{Before, RunsTo, Starts, OpensTo, OpensNot}
+use Rattle.machine_disk.specs.Ran.{Before, OpensTo, OpensNot}
 use Rattle.machine_disk.proofs.Runs.{runs_to, ran_none, opens_kept}
 use Rattle.machine_disk.proofs.Meanings.{core_holds}
 use Rattle.machine_disk.proofs.Quiet.{calm_images}
-use Rattle.store_open.specs.Laws.{IsImageOfFolder, HoldsImage, HasRun, IsKeptAt, IsRefusal}
+use Rattle.store_open.specs.Laws.{IsImageOfFolder, HoldsImage, IsKeptAt, IsRefusal}
 use Rattle.store_open.specs.Opening.{Opens}
 use Rattle.store_open.specs.declared.opened.Opened as answer
 use Rattle.store_open.specs.declared.open_error.OpenError.{OpenError}
@@ -29,14 +29,13 @@ use Rattle.store_open.proofs.MachineRuns.{openings_run, refusals_keep}
 use Rattle.command_outcome.specs.Ends.{Outcome}
 use Rattle.command_outcome.specs.declared.refusal.Refusal.TheVariants as refused
 use Rattle.core_commands.specs.Lines.{IsSettingsLine, IsJobLine}
-use Rattle.core_commands.specs.Carried.{set_requests, apply_requests, Comes, core_over, RunsBy, GoesOn, Makes, MakesBy, CarriesOut}
+use Rattle.core_commands.specs.Carried.{set_requests, apply_requests, core_over, RunsBy, GoesOn, Makes}
 use Rattle.core_commands.specs.Handing.{not_opened}
-use Rattle.settings_cmd.specs.Carried.{IsGot}
 use Rattle.settings_cmd.specs.Gets.{Answers, AnswersOpening}
-use Rattle.settings_cmd.specs.Serving.{served, OpensAndServes, Serves, ServesBy, IsServed}
-use Rattle.command_runs.specs.Laws.{Begins, IsRun, IsUnopened, RequestEvents, RequestsRun, SetsRun, AppliesRun, ServeEvents, ServesRun, GetEvents, GetsRun}
-use Rattle.command_runs.proofs.Whole.{whole}
-use Rattle.command_runs.proofs.Served.{comes_served, all_served}
+use Rattle.settings_cmd.specs.Serving.{served, OpensAndServes, Serves}
+use Rattle.settings_run.specs.Laws.{Begins, IsRun, IsUnopened, RequestEvents, RequestsRun, SetsRun, AppliesRun, ServeEvents, ServesRun, GetEvents, GetsRun}
+use Rattle.settings_run.proofs.Whole.{whole}
+use Rattle.settings_run.proofs.Served.{comes_served, all_served}
 
 module _ (I : Image) (good : IsGood I) (folder : Folder) (is : IsImageOfFolder I folder) (W : World) (old new : History) (begins : Begins I folder W old) where
   -- On a settled disk each image is the tree.
@@ -105,7 +104,7 @@ module _ (I : Image) (good : IsGood I) (folder : Folder) (is : IsImageOfFolder I
     unopened_run (opening.IllTyped key) told opens = kept_run (opening.IllTyped key) tt told opens
 
   -- The opening runs no program.
-  opened_runs : (boot : Bool) → (opened I W boot).runs ≡ W.runs
+  pub opened_runs : (boot : Bool) → (opened I W boot).runs ≡ W.runs
   unfolding opened
   opened_runs boot = refl
 
@@ -169,7 +168,7 @@ serves_run I good folder is W boot slice x x' outcome r r' old new begins serves
 
 -- ---- get
 
-opened_job : (I : Image) (W : World) → W.job ≡ Idle → Idle ≡ (opened I W false).job
+pub opened_job : (I : Image) (W : World) → W.job ≡ Idle → Idle ≡ (opened I W false).job
 unfolding opened
 opened_job I W idle = sym (ap (λ (j : Job). noting j (added_keys I.defaults.values W.held.live.values)) idle)
 

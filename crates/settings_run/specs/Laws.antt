@@ -1,10 +1,12 @@
 -- Laws of commands: the run of the machine that each makes, crash included.
-use Rattle.std.specs.Prelude.{◌≡◌, ◌⊎◌, ℕ, Bool, true, false, List, [], ◌∷◌, ◌++◌, Option, Some, Ok, Err}
+use Rattle.std.specs.Prelude.{◌≡◌, ◌⊎◌, ℕ, Bool, true, false, List, [], ◌∷◌, ◌++◌, Option, Some, Ok, Err, OnOk, codes}
+use Rattle.std.specs.FinMap.{get}
 use Rattle.outside.specs.Exchange.{Exchange}
 use Rattle.outside.specs.History.{History, tree_of, EachImage}
 use Rattle.outside.specs.Names.{Names}
 use Rattle.outside.specs.Spawner.{Run, Question}
 use Rattle.outside.specs.Told.{Moves}
+use Rattle.outside.specs.Tree.{node_at, file_in}
 use Rattle.json_trees.specs.declared.scalar.Scalar.{Scalar}
 use Rattle.settings_machine.specs.World.{Key, Image, World, Idle}
 use Rattle.settings_machine.specs.Requests.{Request}
@@ -15,10 +17,14 @@ use Rattle.machine_disk.specs.Kept.{Folder}
 use Rattle.machine_disk.specs.Ran.{RunsTo, Starts}
 use Rattle.machine_disk.specs.Store.{is_image, bytes_at, Recovers}
 use Rattle.store_open.specs.Laws.{IsImageOfFolder, IsRefusal}
+use Rattle.store_open.specs.Opening.{Opens}
 use Rattle.store_open.specs.declared.open_error.OpenError.{OpenError}
+use Rattle.store_open.specs.declared.opened.Opened as opened_store
 use Rattle.command_outcome.specs.Ends.{Outcome}
+use Rattle.command_outcome.specs.declared.refusal.Refusal.{Refusal}
 use Rattle.command_outcome.specs.declared.refusal.Refusal.TheVariants as refused
 use Rattle.core_commands.specs.Carried.{set_requests, apply_requests, Comes, RunsBy, CarriesOut}
+use Rattle.core_commands.specs.Committing.{ComesTo}
 use Rattle.core_commands.specs.Lines.{IsSettingsLine, IsJobLine}
 use Rattle.core_commands.specs.Handing.{not_opened}
 use Rattle.api_server.specs.Rounds.{Round, AreExchanged}
@@ -27,9 +33,14 @@ use Rattle.version_links.specs.declared.version.Version.{Version}
 use Rattle.release_file.specs.declared.release.Release.{Release}
 use Rattle.migrate_chain.specs.Tasks.{Mapped}
 use Rattle.store_events.specs.Laws.{IsBare, IsBeginning, HasBegun, HasMoved}
-use Rattle.settings_cmd.specs.Carried.{IsBegun, IsGot, IsMigrated}
+use Rattle.setting_generators.specs.Asking.{wanted}
+use Rattle.setting_generators.specs.Generators.{Given}
+use Rattle.settings_cmd.specs.Carried.{IsBegun, IsGot, IsMigrated, HasGenerated, IsProvided}
+use Rattle.settings_cmd.specs.Committing.{Made}
+use Rattle.settings_cmd.specs.Generators.{generate_tx, generators_path, AreGeneratorsIn, TellsOfGenerators, Answers as AnsweredBy}
 use Rattle.settings_cmd.specs.Gets.{Answers}
 use Rattle.settings_cmd.specs.Serving.{served, IsServed}
+use Rattle.settings_cmd.specs.UserData.{data_tx, TellsOfData}
 
 -- Before a run: the disk is settled and at W, which is paid; the job is idle; and the files of the image's folder are these.
 pub record Begins (I : Image) (folder : Folder) (W : World) (h : History) : Type 0 where
@@ -101,6 +112,55 @@ GetEvents I W keys outcome events =
 abbrev pub GetsRun : Type 0
 GetsRun = (I : Image) → IsGood I → (folder : Folder) → IsImageOfFolder I folder → (W : World) (keys : List (List (List ℕ))) (outcome : Outcome) (r : Option (List Run))
     (old new : History) → Begins I folder W old → IsGot keys outcome (Some old) (Some new) → IsRun I W (GetEvents I W keys outcome) r r old new
+
+-- ---- generate and user-data
+
+-- The opening, and a commit of the pairs to the opened world; where there are none, the opening alone, and that is told.
+abbrev pub MadeEvents : Image → World → List ℕ → Made → Outcome → List Event → Type 0
+MadeEvents I W tx (Ok pairs) outcome events = (asked : List Event) × (events ≡ Opened false Succeeded ∷ asked) × ComesTo I (opened I W false) tx pairs outcome asked
+MadeEvents I W tx (Err refusal) outcome events = (events ≡ Opened false Succeeded ∷ []) × (outcome ≡ Err refusal)
+
+-- What the generators of the image's folder give to a world, with what was asked before and after: they can't be read; or those whose
+-- key has no live value are asked.
+abbrev pub GivenBy : Image → Folder → World → Option (List Question) → Option (List Question) → Made → Type 0
+GivenBy I folder X a a' made =
+    ((refusal : Refusal) × (made ≡ Err refusal) × TellsOfGenerators I.types (folder (codes "image" ∷ generators_path)) refusal × (a' ≡ a))
+    ⊎ ((given : List Given) × AreGeneratorsIn I.types (folder (codes "image" ∷ generators_path)) given × AnsweredBy (wanted X.held.live given) a a' made)
+
+-- Each key that is live in the one world has its value in the other.
+abbrev pub KeepsLive : World → World → Type 0
+KeepsLive X Y = (key : Key) (value : Scalar) → get X.held.live.values key ≡ Some value → get Y.held.live.values key ≡ Some value
+
+-- The pairs that the generators give to the opened world are committed to it, and where that is done each key that was live keeps its
+-- value; or the store was not opened, and nothing was asked.
+abbrev pub GenerateEvents : Image → Folder → World → Option (List Question) → Option (List Question) → Outcome → List Event → Type 0
+GenerateEvents I folder W a a' outcome events =
+    ((made : Made) × GivenBy I folder (opened I W false) a a' made × MadeEvents I W generate_tx made outcome events
+    × OnOk outcome (KeepsLive (opened I W false) (after I W events)))
+    ⊎ (IsUnopened false outcome events × (a' ≡ a))
+
+-- A `generate` is a run of these events.
+abbrev pub GeneratesRun : Type 0
+GeneratesRun = (I : Image) → IsGood I → (folder : Folder) → IsImageOfFolder I folder → (W : World) (a a' : Option (List Question)) (outcome : Outcome) (r : Option (List Run))
+    (old new : History) → Begins I folder W old → HasGenerated a a' outcome (Some old) (Some new) → IsRun I W (GenerateEvents I folder W a a' outcome) r r old new
+
+-- The pairs of the file that is at the path once the store is open are committed to the opened world.
+pub record IsProvision (I : Image) (W : World) (path : Names) (outcome : Outcome) (events : List Event) (old : History) : Type 0 where
+  pub store : opened_store.Opened
+  pub between : History
+  pub opens : Opens false (Ok store) old between
+  pub made : Made
+  pub gives : TellsOfData (file_in (node_at (tree_of between) path)) made
+  pub ends : MadeEvents I W data_tx made outcome events
+
+-- They are, or the store was not opened.
+abbrev pub ProvisionEvents : Image → World → Names → Outcome → History → List Event → Type 0
+ProvisionEvents I W path outcome old events = IsProvision I W path outcome events old ⊎ IsUnopened false outcome events
+
+-- A `user-data` is a run of these events.
+abbrev pub ProvisionsRun : Type 0
+ProvisionsRun = (I : Image) → IsGood I → (folder : Folder) → IsImageOfFolder I folder → (W : World) (path : Names) (outcome : Outcome) (r : Option (List Run))
+    (old new : History) → Begins I folder W old → IsProvided path outcome (Some old) (Some new) → IsRun I W (ProvisionEvents I W path outcome old) r r old new
 
 -- ---- init and migrate
 

@@ -1,7 +1,6 @@
 -- `init` and `migrate` are events of the machine.
-use Rattle.std.proofs.Common.{◌≡◌, inl, inr, ◌∙◌, ℕ, List, [], Option, Some, Result, Ok, Err, sym}
+use Rattle.std.proofs.Common.{inl, inr, ℕ, List, [], Some, Result, Ok, Err}
 use Rattle.outside.specs.History.{History}
-use Rattle.outside.specs.Spawner.{Question}
 use Rattle.version_links.specs.declared.version.Version.{Version}
 use Rattle.settings_machine.specs.World.{Image, World}
 use Rattle.settings_machine.specs.Events.{Began, next}
@@ -20,7 +19,7 @@ use Rattle.store_events.specs.Laws.{IsBare, IsBeginning, HasBegun}
 use Rattle.store_events.proofs.Beginnings.{beginnings_are_whole, beginnings_begin}
 use Rattle.store_events.proofs.Moves.{moves_move}
 use Rattle.settings_cmd.specs.Carried.{AnswersBeginning, AnswersMoving}
-use Rattle.command_runs.specs.Laws.{InitsRun, IsMoveBy, MigratesRun}
+use Rattle.settings_run.specs.Laws.{InitsRun, IsMoveBy, MigratesRun}
 
 module _ (I : Image) (good : IsGood I) (W : World) (version : Version) (line : List ℕ) (old new : History) (bare : IsBare W old) where
   begun : (result : Result (Unit {0}) InitError) → Begins version result old new → AnswersBeginning version result (Ok line)

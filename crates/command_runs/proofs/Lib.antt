@@ -1,4 +1,0 @@
-pub mod Whole
-pub mod Served
-pub mod Commands
-pub mod Moves

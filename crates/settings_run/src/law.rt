@@ -1,0 +1,20 @@
+//! The runs of commands.
+ghost use Rattle.settings_run.specs.Laws.{InitsRun, ServesRun, SetsRun, GetsRun, AppliesRun, MigratesRun, GeneratesRun, ProvisionsRun};
+
+/// Where the disk is settled, its world is paid, and no job runs, each command that opens the store is a run of the
+/// machine: of the opening, and of its requests and turns. At its end the tree is that of the last world. Each world on the way
+/// is paid. A crash at any moment leaves what recovers to one of them, and a crash at the end what recovers to one after which
+/// nothing is acknowledged. The programs that were run are those of the events. A `generate` and a `user-data` are the opening and the
+/// commit of what generators or a file give to the opened world, where they give it; a `generate` that answers leaves each live value.
+/// An `init` and a `migrate` that answer are one event each, or none where the store is at the version. It does nothing: its clauses are
+/// the law.
+pub fn laws()
+    ensures init { InitsRun }
+    ensures serve { ServesRun }
+    ensures set { SetsRun }
+    ensures get { GetsRun }
+    ensures apply { AppliesRun }
+    ensures migrate { MigratesRun }
+    ensures generate { GeneratesRun }
+    ensures user_data { ProvisionsRun }
+{}
