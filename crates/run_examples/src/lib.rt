@@ -1,12 +1,16 @@
-//! Tests of the commands `serve`, `set` and `apply` over a whole host in memory: what is printed and replied, which programs are
-//! run, which files are written, and how they end where a device fails.
+//! Tests of `run` over devices in memory, command by command: what is printed, stored, replied, run and asked, each status, and how
+//! commands end where a device fails or a run is stopped.
 #![tactic(auto)]
 
 #[cfg(test)]
-mod faults;
+mod chains;
 #[cfg(test)]
-mod host;
+mod commands;
 #[cfg(test)]
-mod rows;
+mod inputs;
 #[cfg(test)]
-mod runs;
+mod lines;
+#[cfg(test)]
+mod programs;
+#[cfg(test)]
+mod served;

@@ -1,6 +1,7 @@
 //! A host in memory whose release asks programs.
+use crate::lines::{put, words_of};
 use disk_memory::{MemoryDisk, MemoryDoor, MemorySink, MemorySpawner};
-use outside::{Answer, Disk, Path};
+use outside::{Answer, Disk};
 use settings_run::run;
 use std::alloc::{AllocError, Global};
 use std::test::Fail;
@@ -32,21 +33,6 @@ words = \"mig on\"
 kind = \"program\"
 words = \"mig-off\"
 ";
-
-fn put(alloc: Global, disk: &mut MemoryDisk, path: &str, bytes: &str) -> Result<(), Fail> {
-    let path = Path::read(alloc, path.as_bytes())?;
-    disk.replace(&path, bytes.as_bytes())?;
-    Ok(())
-}
-
-/// The words of a command line, split at spaces.
-pub fn words_of(alloc: Global, line: &str) -> Result<Vec<String>, AllocError> {
-    let mut words = Vec::new(alloc);
-    for word in line.split(' ') {
-        words.push(String::from_str(alloc, word)?)?;
-    }
-    Ok(words)
-}
 
 /// Runs the words of the line, and compares the status and what was printed.
 pub fn runs(

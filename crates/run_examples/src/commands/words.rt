@@ -1,9 +1,9 @@
-//! Words that spell no command, commands that are not built, and those that want a store.
-use crate::runs::{disk_of, runs};
+//! Words that spell no command, and commands that want a store.
+use crate::commands::runs::{disk_of, runs};
 use std::test::Fail;
 
 #[test]
-fn words_are_refused_or_not_built(rt: HostRuntime) -> Result<(), Fail> {
+fn words_are_refused(rt: HostRuntime) -> Result<(), Fail> {
     let alloc = rt.alloc();
     let mut disk = disk_of(alloc, &[])?;
     for line in [
@@ -25,10 +25,13 @@ fn words_are_refused_or_not_built(rt: HostRuntime) -> Result<(), Fail> {
     ] {
         runs(alloc, &mut disk, line, 2, "settings: usage\n")?;
     }
-    for line in ["load 3", "generate", "user-data a"] {
-        runs(alloc, &mut disk, line, 20, "settings: not built\n")?;
-    }
-    for line in ["serve", "set settings.motd=\"hi\"", "apply"] {
+    for line in [
+        "serve",
+        "set settings.motd=\"hi\"",
+        "apply",
+        "generate",
+        "user-data a",
+    ] {
         runs(alloc, &mut disk, line, 6, "settings: no store\n")?;
     }
     Ok(())

@@ -1,20 +1,10 @@
 //! One run over devices in memory.
+use crate::lines::{put, words_of};
 use disk_memory::{MemoryDisk, MemoryDoor, MemorySink, MemorySpawner};
 use outside::{Disk, Path};
 use settings_run::run;
-use std::alloc::{AllocError, Global};
+use std::alloc::Global;
 use std::test::Fail;
-
-/// The words of a command line, split at spaces.
-pub fn words_of(alloc: Global, line: &str) -> Result<Vec<String>, AllocError> {
-    let mut words = Vec::new(alloc);
-    for word in line.split(' ') {
-        if !word.is_empty() {
-            words.push(String::from_str(alloc, word)?)?;
-        }
-    }
-    Ok(words)
-}
 
 /// Runs the words of the line, and compares the status and what was printed.
 pub fn runs(
@@ -37,13 +27,6 @@ pub fn runs(
         "`{line}` ended with {ended}, not {status}, and printed {}",
         text.as_str()
     )))
-}
-
-/// Puts a file at the path.
-pub fn put(alloc: Global, disk: &mut MemoryDisk, path: &str, bytes: &str) -> Result<(), Fail> {
-    let path = Path::read(alloc, path.as_bytes())?;
-    disk.replace(&path, bytes.as_bytes())?;
-    Ok(())
 }
 
 /// Removes the file at the path.

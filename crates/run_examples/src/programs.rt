@@ -1,10 +1,6 @@
 //! Tests of migrations by programs, over devices in memory: what a program is asked, which of its answers are taken, and how the
 //! command `migrate` ends where one is not.
-#![tactic(auto)]
 
-#[cfg(test)]
 mod answers;
-#[cfg(test)]
 mod host;
-#[cfg(test)]
 mod ways;

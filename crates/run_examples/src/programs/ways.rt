@@ -1,5 +1,5 @@
 //! What programs are asked, one after another.
-use crate::host::{answer, first_input, host, is_at, runs, swapped};
+use crate::programs::host::{answer, first_input, host, is_at, runs, swapped};
 use disk_memory::{MemoryDisk, MemorySpawner};
 use outside::Answer;
 use std::alloc::Global;

@@ -1,5 +1,5 @@
 //! Which answers are taken.
-use crate::host::{answer, first_input, host, is_at, runs, swapped};
+use crate::programs::host::{answer, first_input, host, is_at, runs, swapped};
 use disk_memory::MemorySpawner;
 use outside::Answer;
 use std::alloc::Global;

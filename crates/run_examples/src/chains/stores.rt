@@ -1,4 +1,5 @@
 //! Small stores of a disk in memory, and runs over them.
+use crate::lines::words_of;
 use disk_memory::{MemoryDisk, MemoryDoor, MemorySink, MemorySpawner, Node};
 use outside::{Disk, Path};
 use settings_run::run;
@@ -27,15 +28,6 @@ pub fn store(alloc: Global, places: &[Place]) -> Result<MemoryDisk, Fail> {
     }
     disk.sync()?;
     Ok(disk)
-}
-
-// The words of a command line, split at spaces.
-fn words_of(alloc: Global, line: &str) -> Result<Vec<String>, AllocError> {
-    let mut words = Vec::new(alloc);
-    for word in line.split(' ') {
-        words.push(String::from_str(alloc, word)?)?;
-    }
-    Ok(words)
 }
 
 /// Runs the words of the line: the status comes first, and then what is printed.
@@ -70,12 +62,4 @@ pub fn state(alloc: Global, disk: &mut MemoryDisk) -> Result<String, Fail> {
         }
     }
     Ok(text)
-}
-
-/// The text is the wanted one.
-pub fn same(shown: &str, wanted: &str, at: &str) -> Result<(), Fail> {
-    if shown == wanted {
-        return Ok(());
-    }
-    Err(Fail::new(format_args!("{shown}, not {wanted}, at {at}")))
 }

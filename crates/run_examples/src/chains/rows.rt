@@ -1,5 +1,5 @@
 //! Runs, each with the store before it and after it.
-use crate::stores::Place;
+use crate::chains::stores::Place;
 
 /// A run over a store.
 pub struct Row {

@@ -1,5 +1,6 @@
 //! The commands `init` and `get`, over whole stores, and releases that `migrate` refuses.
-use crate::runs::{disk_of, put, remove, runs};
+use crate::commands::runs::{disk_of, remove, runs};
+use crate::lines::put;
 use disk_memory::MemoryDisk;
 use std::alloc::{AllocError, Global};
 use std::test::Fail;

@@ -1,7 +1,8 @@
 //! The commands `migrate` and `prune`.
-use crate::host::{HELLO, IMAGE, RENAME, TWO, WEAK};
-use crate::runs::{disk_of, put, runs};
-use crate::stores::{Step, steps};
+use crate::commands::host::{HELLO, IMAGE, RENAME, TWO, WEAK};
+use crate::commands::runs::disk_of;
+use crate::commands::stores::{Step, steps};
+use crate::lines::put;
 use disk_memory::MemoryDisk;
 use std::alloc::Global;
 use std::test::Fail;

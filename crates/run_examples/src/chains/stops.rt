@@ -1,6 +1,7 @@
 //! Runs that are stopped after each of their disk calls, with what a crash then leaves; and each call failing once.
-use crate::rows::{ROWS, Row};
-use crate::stores::{same, state, store, told};
+use crate::chains::rows::{ROWS, Row};
+use crate::chains::stores::{state, store, told};
+use crate::lines::same;
 use disk_memory::{Bytes, MemoryDisk, Pick};
 use std::alloc::{AllocError, Global};
 use std::test::Fail;

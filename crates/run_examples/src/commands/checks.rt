@@ -1,5 +1,6 @@
 //! The command `check`.
-use crate::runs::{disk_of, runs, words_of};
+use crate::commands::runs::{disk_of, runs};
+use crate::lines::words_of;
 use disk_memory::{MemoryDoor, MemorySink, MemorySpawner};
 use settings_run::run;
 use std::test::Fail;

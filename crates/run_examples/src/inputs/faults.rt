@@ -1,0 +1,138 @@
+//! Disk calls that fail, and runs that are stopped.
+use crate::inputs::data::SERVERS;
+use crate::inputs::generators::HOSTNAME;
+use crate::inputs::host::ready;
+use crate::inputs::runs::{Says, runs, told};
+use crate::lines::same;
+use disk_memory::{Bytes, MemoryDisk, Pick};
+use std::alloc::{AllocError, Global};
+use std::test::Fail;
+
+// A run, with the file that it reads.
+struct Row {
+    path: &'static str,
+    file: &'static str,
+    line: &'static str,
+    says: &'static [Says],
+    // What it comes to, and what is asked.
+    told: &'static str,
+    asked: &'static str,
+    // What is printed then of what it set, before it and after it.
+    get: &'static str,
+    before: &'static str,
+    after: &'static str,
+    // How many disk calls it makes; which is the first that comes behind the asking; and which is the journal of the commit.
+    calls: u64,
+    asks: u64,
+    commits: u64,
+}
+
+const ROWS: &[Row] = &[
+    Row {
+        path: "boot/data.toml",
+        file: SERVERS,
+        line: "user-data boot/data.toml",
+        says: &[],
+        told: "0 [\"settings.ntp.time-servers\"]\n",
+        asked: "",
+        get: "get settings.ntp",
+        before: "0 {\"settings\":{\"ntp\":{\"time-servers\":[\"a.example\",\"b.example\"]}}}\n",
+        after: "0 {\"settings\":{\"ntp\":{\"time-servers\":[\"t\"]}}}\n",
+        calls: 37,
+        asks: 37,
+        commits: 29,
+    },
+    Row {
+        path: "image/generators.toml",
+        file: HOSTNAME,
+        line: "generate",
+        says: &[Some((0, "\"node1\""))],
+        told: "0 [\"settings.kernel.sysctl.hostname\"]\n? gen-host --short\n",
+        asked: "? gen-host --short\n",
+        get: "get settings.kernel",
+        before: "13 settings: refused 404 {\"error\":\"key\",\"key\":\"settings.kernel\"}\n",
+        after: "0 {\"settings\":{\"kernel\":{\"sysctl\":{\"hostname\":\"node1\"}}}}\n",
+        calls: 36,
+        asks: 23,
+        commits: 29,
+    },
+];
+
+// What a run comes to whose call with this number fails: what was asked before is told.
+fn failed(alloc: Global, row: &Row, call: u64) -> Result<String, AllocError> {
+    let asked = if call >= row.asks { row.asked } else { "" };
+    format!(in alloc; "3 settings: disk\n{asked}")
+}
+
+// Whichever call fails, what is set is there whole or not, and the next run ends well.
+fn fails(alloc: Global, row: &Row, from: &MemoryDisk, call: u64) -> Result<(), Fail> {
+    let mut disk = from.crash(&[])?;
+    disk.fail_calls(vec![in alloc; call]?);
+    let wanted = failed(alloc, row, call)?;
+    runs(alloc, &mut disk, row.line, row.says, wanted.as_str())?;
+    let held = if call > row.commits {
+        row.after
+    } else {
+        row.before
+    };
+    runs(alloc, &mut disk, row.get, &[], held)?;
+    told(alloc, &mut disk, row.line, row.says)?;
+    runs(alloc, &mut disk, row.get, &[], row.after)
+}
+
+#[test]
+fn each_call_fails(rt: HostRuntime) -> Result<(), Fail> {
+    let alloc = rt.alloc();
+    for row in ROWS {
+        let from = ready(alloc, row.path, row.file)?;
+        for call in 1..=row.calls {
+            fails(alloc, row, &from, call)?;
+        }
+    }
+    Ok(())
+}
+
+// What a crash leaves of the paths that are not on the disk: what was there, what is there now, or torn bytes.
+fn picks(alloc: Global, kind: u8) -> Result<Vec<Pick>, AllocError> {
+    let mut picks = Vec::new(alloc);
+    for _ in 0..8 {
+        picks.push(match kind {
+            b'o' => Pick::Old,
+            b'n' => Pick::New,
+            _ => Pick::Torn(Bytes::of(b"torn".to_vec(alloc)?)),
+        })?;
+    }
+    Ok(picks)
+}
+
+// The run is stopped after so many calls, and a crash follows: it leaves what is set from the journal's sync on, and from the
+// journal on where the crash leaves that.
+fn stops(alloc: Global, row: &Row, from: &MemoryDisk, calls: u64, kind: u8) -> Result<(), Fail> {
+    let mut disk = from.crash(&[])?;
+    disk.stop_after(calls);
+    let shown = told(alloc, &mut disk, row.line, row.says)?;
+    let wanted = if calls < row.calls {
+        failed(alloc, row, calls + 1)?
+    } else {
+        String::from_str(alloc, row.told)?
+    };
+    same(shown.as_str(), wanted.as_str(), row.line)?;
+    let set = calls > row.commits || calls == row.commits && kind == b'n';
+    let held = if set { row.after } else { row.before };
+    let mut left = disk.crash(&picks(alloc, kind)?)?;
+    runs(alloc, &mut left, row.get, &[], held)
+}
+
+#[test]
+fn each_stop_leaves_all_or_nothing(rt: HostRuntime) -> Result<(), Fail> {
+    let alloc = rt.alloc();
+    for row in ROWS {
+        let from = ready(alloc, row.path, row.file)?;
+        for kind in b"ont" {
+            for calls in 0..=row.calls {
+                stops(alloc, row, &from, calls, *kind)?;
+            }
+        }
+    }
+    Ok(())
+}

@@ -1,0 +1,50 @@
+//! A host of one configuration file, all of which was applied.
+use crate::inputs::runs::runs;
+use disk_memory::MemoryDisk;
+use outside::{Disk, Path};
+use std::alloc::Global;
+use std::test::Fail;
+
+const MODEL: &str = r#"[types]
+"settings.motd" = "line"
+"settings.ntp.time-servers" = "list line"
+"settings.kernel.sysctl.*" = "line"
+[settings]
+motd = "Welcome"
+ntp.time-servers = ["a.example", "b.example"]
+[services.motd]
+configuration-files = ["motd"]
+restart-commands = []
+[configuration-files.motd]
+path = "/etc/motd"
+template-path = "motd"
+[metadata.settings.motd]
+affected-services = ["motd"]
+[metadata.settings.kernel]
+affected-services = ["motd"]
+"#;
+
+/// Makes the path a file with these bytes.
+pub fn put(alloc: Global, disk: &mut MemoryDisk, path: &str, bytes: &str) -> Result<(), Fail> {
+    let path = Path::read(alloc, path.as_bytes())?;
+    disk.replace(&path, bytes.as_bytes())?;
+    disk.sync()?;
+    Ok(())
+}
+
+/// A store of version 1.5.2, in which nothing is owed, and a further file.
+pub fn ready(alloc: Global, path: &str, bytes: &str) -> Result<MemoryDisk, Fail> {
+    let mut disk = MemoryDisk::new(alloc)?;
+    put(alloc, &mut disk, "image/model.toml", MODEL)?;
+    put(
+        alloc,
+        &mut disk,
+        "image/templates/motd",
+        "{{settings.motd}}\n",
+    )?;
+    put(alloc, &mut disk, path, bytes)?;
+    runs(alloc, &mut disk, "init --version 1.5.2", &[], "0 1.5.2\n")?;
+    let idle = "0 {\"job\":\"idle\",\"owed\":[]}\n";
+    runs(alloc, &mut disk, "apply", &[], idle)?;
+    Ok(disk)
+}

@@ -1,0 +1,131 @@
+//! Runs over devices in memory, and what is told of them.
+use crate::lines::{same, words_of};
+use disk_memory::{Input, MemoryDisk, MemoryDoor, MemorySink, MemorySpawner};
+use settings_run::run;
+use std::alloc::{AllocError, Global};
+use std::test::Fail;
+
+// A request as curl sends it: its method, its target, and its body, if it has one.
+fn request(alloc: Global, text: &str) -> Result<String, AllocError> {
+    let (method, rest) = text.split_once(' ').unwrap_or((text, ""));
+    let fields = "Host: localhost\r\nUser-Agent: curl/8.5.0\r\nAccept: */*\r\n";
+    match rest.split_once(' ') {
+        Some((target, body)) => {
+            let count = body.len();
+            format!(in alloc;
+                "{method} {target} HTTP/1.1\r\n{fields}Content-Type: application/json\r\nContent-Length: {count}\r\n\r\n{body}"
+            )
+        }
+        None => format!(in alloc; "{method} {rest} HTTP/1.1\r\n{fields}\r\n"),
+    }
+}
+
+/// What comes to a run besides its words, and which calls of its devices fail.
+#[derive(Clone, Copy)]
+pub struct Given {
+    /// The requests of the connections, a line each.
+    pub requests: &'static str,
+    /// The statuses with which programs end, and 0 behind them. One without a status can't be run.
+    pub ends: &'static [Option<u16>],
+    /// The connection whose first read fails.
+    pub broken: Option<usize>,
+    /// The number of the accept that fails, from 1.
+    pub accept: u64,
+}
+
+/// These requests come, and nothing fails.
+pub fn asked(requests: &'static str) -> Given {
+    Given {
+        requests,
+        ends: &[],
+        broken: None,
+        accept: u64::MAX,
+    }
+}
+
+// The connections.
+fn inputs(alloc: Global, given: Given) -> Result<Vec<Input>, AllocError> {
+    let mut inputs = Vec::new(alloc);
+    for text in given.requests.lines() {
+        let sent = request(alloc, text)?.into_bytes();
+        let fails = given.broken == Some(inputs.len());
+        inputs.push(Input {
+            pieces: vec![in alloc; sent]?,
+            read_fails: fails.then_some(1),
+            write_fails: None,
+        })?;
+    }
+    Ok(inputs)
+}
+
+// The status of a reply, and its body, as a line.
+fn reply(alloc: Global, sent: &[u8]) -> Result<String, AllocError> {
+    let sent = String::from_utf8_lossy(alloc, sent)?;
+    let Some((head, body)) = sent.as_str().split_once("\r\n\r\n") else {
+        return String::from_str(alloc, "nothing\n");
+    };
+    let status = head.get(9..12).unwrap_or(head);
+    if body.is_empty() {
+        return format!(in alloc; "{status}\n");
+    }
+    format!(in alloc; "{status} {body}\n")
+}
+
+// Adds a line for the reply of each connection.
+fn add_replies(alloc: Global, text: &mut String, door: &MemoryDoor) -> Result<(), AllocError> {
+    for number in 0..100usize {
+        if let Some(sent) = door.output(number) {
+            text.push_str(reply(alloc, sent)?.as_str())?;
+        }
+    }
+    Ok(())
+}
+
+/// What the run of the words comes to: a line of its status and of what is printed, one for each reply, and one for each
+/// program that was run.
+pub fn told(
+    alloc: Global,
+    disk: &mut MemoryDisk,
+    line: &str,
+    given: Given,
+) -> Result<String, Fail> {
+    let words = words_of(alloc, line)?;
+    let mut spawner = MemorySpawner::of_statuses(alloc, given.ends.to_vec(alloc)?);
+    let mut out = MemorySink::new(alloc);
+    let mut door = MemoryDoor::of_inputs(alloc, inputs(alloc, given)?);
+    door.fail_accept(given.accept);
+    let status = run(alloc, &words, disk, &mut spawner, &mut door, &mut out);
+    let printed = String::from_utf8_lossy(alloc, out.written())?;
+    let printed = printed.as_str();
+    let mut text = format!(in alloc; "{status} {printed}")?;
+    if printed.is_empty() {
+        text.push('\n')?;
+    }
+    add_replies(alloc, &mut text, &door)?;
+    add_programs(&mut text, &spawner)?;
+    Ok(text)
+}
+
+// Adds a line for each program that was run.
+fn add_programs(text: &mut String, spawner: &MemorySpawner) -> Result<(), AllocError> {
+    for run in spawner.runs() {
+        text.push('$')?;
+        for word in &run.words {
+            text.push(' ')?;
+            text.push_str(word.as_str())?;
+        }
+        text.push('\n')?;
+    }
+    Ok(())
+}
+
+/// Runs the words, with what comes to them, and compares what that comes to.
+pub fn runs(
+    alloc: Global,
+    disk: &mut MemoryDisk,
+    line: &str,
+    given: Given,
+    wanted: &str,
+) -> Result<(), Fail> {
+    same(told(alloc, disk, line, given)?.as_str(), wanted, line)
+}
