@@ -38,6 +38,8 @@ fn prints_members_as_they_were(rt: HostRuntime) -> Result<(), Fail> {
         r#"owed:["a","a.b","\"c.d\""]"#,
         r#"pending:[["t",[["a",null],["b",1]]],["t-1",[["a.b",[]]]]]"#,
         r#"live:[["settings.a",1],["settings.b",2]] weak:["settings.a","settings.b"]"#,
+        r#"live:[["settings",1]] weak:["settings"]"#,
+        r#"live:[["a","é\n\u0001/\\\""],["a-b",-9223372036854775808]]"#,
     ];
     for members in rows {
         prints(rt.alloc(), members)?;

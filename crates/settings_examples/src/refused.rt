@@ -18,7 +18,10 @@ fn refuses_texts(rt: HostRuntime) -> Result<(), Fail> {
     let rows: &[&str] = &[
         "",
         "null",
+        "[]",
         "{}",
+        // A byte order mark in front.
+        "\u{feff}{\"image\":\"\",\"live\":[],\"meta\":[],\"owed\":[],\"pending\":[],\"weak\":[]}",
         // A space in front, and one in the text.
         r#" {"image":"","live":[],"meta":[],"owed":[],"pending":[],"weak":[]}"#,
         r#"{"image": "","live":[],"meta":[],"owed":[],"pending":[],"weak":[]}"#,
@@ -61,6 +64,8 @@ fn refuses_live_settings(rt: HostRuntime) -> Result<(), Fail> {
         // Keys that are none, that are spelled otherwise, that do not rise, and one above another.
         r#"live:[["",1]]"#,
         r#"live:[["a..b",1]]"#,
+        r#"live:[["a b",1]]"#,
+        r#"live:[["\"a",1]]"#,
         r#"live:[["\"a\"",1]]"#,
         r#"live:[["b",1],["a",1]]"#,
         r#"live:[["a",1],["a",1]]"#,
@@ -68,6 +73,8 @@ fn refuses_live_settings(rt: HostRuntime) -> Result<(), Fail> {
         // Values that are none, or spelled otherwise.
         r#"live:[["a",null]]"#,
         r#"live:[["a",1.5]]"#,
+        r#"live:[["a",-0]]"#,
+        r#"live:[["a",[[1]]]]"#,
         r#"live:[["a",{}]]"#,
         r#"live:[["a","\u0061"]]"#,
     ];
@@ -78,6 +85,7 @@ fn refuses_live_settings(rt: HostRuntime) -> Result<(), Fail> {
 fn refuses_metadata(rt: HostRuntime) -> Result<(), Fail> {
     let rows: &[&str] = &[
         r#"meta:[["a","n"]]"#,
+        r#"meta:[["a","n",1,2]]"#,
         r#"meta:[["a","",1]]"#,
         r#"meta:[["a","n.m",1]]"#,
         r#"meta:[["a.","n",1]]"#,
