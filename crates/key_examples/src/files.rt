@@ -17,6 +17,10 @@ fn names_files(rt: HostRuntime) -> Result<(), Fail> {
         (b"net.ipv4", b"net%2Eipv4"),
         (b"a b~", b"a%20b%7E"),
         (&[b'a'; 127], &[b'a'; 127]),
+        (
+            b"..........................................a",
+            b"%2E%2E%2E%2E%2E%2E%2E%2E%2E%2E%2E%2E%2E%2E%2E%2E%2E%2E%2E%2E%2E%2E%2E%2E%2E%2E%2E%2E%2E%2E%2E%2E%2E%2E%2E%2E%2E%2E%2E%2E%2E%2Ea",
+        ),
     ];
     for (segment, name) in rows {
         assert!(rt; are_one(rt.alloc(), segment, name)?);

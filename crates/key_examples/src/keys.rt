@@ -42,6 +42,14 @@ fn reads_and_prints(rt: HostRuntime) -> Result<(), Fail> {
         ("a\"b\"", "BadByte 1"),
         ("\"a\"b", "BadByte 3"),
         ("\"a\nb", "BadByte 2"),
+        (
+            "settings.\"..........................................a\"",
+            "settings.\"..........................................a\"",
+        ),
+        (
+            "settings.\"..........................................aa\"",
+            "SegmentTooLong 9",
+        ),
     ];
     are_read(rt.alloc(), rows)
 }
