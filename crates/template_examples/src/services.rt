@@ -10,6 +10,8 @@ use template_reader::read;
 const CHRONY: &str =
     "[required-extensions]\nstd = \"v1\"\n+++\n{{#each settings.ntp.time-servers}}\npool {{this}} iburst\n{{/each}}\ndriftfile /var/lib/chrony/drift\n";
 
+const POOLS: &str = "{{#each settings.ntp.time-servers}}\npool {{this}} iburst\n{{/each}}\n";
+
 const SYSCTL: &str =
     "{{#if settings.kernel.sysctl}}\n{{#each settings.kernel.sysctl}}\n{{@key}}={{this}}\n{{/each}}\n{{/if}}\n";
 
@@ -61,6 +63,12 @@ fn renders_services(rt: HostRuntime) -> Result<(), Fail> {
             "net.ipv4.ip_forward=1\n",
         ),
         (SYSCTL, None, ""),
+        (
+            POOLS,
+            Some(("settings.ntp.time-servers", r#"["a","b"]"#)),
+            "pool a iburst\npool b iburst\n",
+        ),
+        (POOLS, Some(("settings.ntp.time-servers", "[]")), ""),
     ];
     each_renders(&rt, rt.alloc(), rows)
 }
@@ -84,6 +92,7 @@ fn are_cut_rightly(rt: &impl Abort, alloc: Global, source: &str) {
 
 #[test]
 fn reads_each_proper_prefix(rt: HostRuntime) -> Result<(), Fail> {
+    are_cut_rightly(&rt, rt.alloc(), "{{settings.motd}}\n");
     are_cut_rightly(&rt, rt.alloc(), CHRONY);
     are_cut_rightly(&rt, rt.alloc(), SYSCTL);
     Ok(())

@@ -10,6 +10,7 @@ fn renders_texts_and_tests(rt: HostRuntime) -> Result<(), Fail> {
         ("{{#if settings.motd}}a{{else}}b{{/if}}", "a"),
         ("{{#unless settings.motd}}a{{else}}b{{/unless}}", "b"),
         ("{{#if settings.off}}a{{else}}b{{/if}}", "b"),
+        ("{{#if settings.absent}}a{{else}}b{{/if}}", "b"),
         (
             "{{#if settings.zero}}a{{/if}}{{#if settings.low}}b{{/if}}",
             "b",

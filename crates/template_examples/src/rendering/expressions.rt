@@ -12,6 +12,7 @@ fn prints_scalars(rt: HostRuntime) -> Result<(), Fail> {
         ),
         ("[{{settings.empty}}]", "[]"),
         ("{{default 5 settings.gone}}", "5"),
+        ("{{default \"x\" settings.absent}}", "x"),
         ("{{default \"\" settings.gone}}", ""),
         ("{{default true settings.motd}}", "Welcome"),
         ("{{default -1 os.gone}}", "-1"),

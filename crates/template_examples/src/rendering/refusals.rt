@@ -6,6 +6,7 @@ use std::test::Fail;
 fn refuses(rt: HostRuntime) -> Result<(), Fail> {
     let rows: &[(&str, &str)] = &[
         ("a{{settings.gone}}b", "missing settings.gone"),
+        ("{{settings.absent}}", "missing settings.absent"),
         ("{{settings.\"c.d\"}}", "missing settings.\"c.d\""),
         ("{{settings.ntp}}", "not-scalar settings.ntp"),
         (
