@@ -94,6 +94,8 @@ fn lays_the_links_of_a_version(rt: HostRuntime) -> Result<(), Fail> {
     for (path, text) in LINKS {
         assert!(rt; has_link(rt.alloc(), &disk, path, text)?, "{path}");
     }
+    // and leaves those of the version before
+    assert!(rt; has_link(rt.alloc(), &disk, "store/v1.6", "v1.6.0")?);
     Ok(())
 }
 
