@@ -126,21 +126,22 @@ fn is_file(disk: &MemoryDisk, path: &Path, bytes: &[u8]) -> bool {
     }
 }
 
-// Whether a recovery answers so of the journal, and leaves it and nothing else where it is refused.
-fn has_answer(alloc: Global, text: &[u8], wanted: &str) -> Result<bool, Fail> {
+// Whether a recovery answers so of the journal, leaves it exactly where it is refused, and so many files.
+fn has_answer(alloc: Global, text: &[u8], wanted: &str, files: usize) -> Result<bool, Fail> {
     let journal = data_dir(alloc)?.child(b"journal")?;
     let mut disk = MemoryDisk::new(alloc)?;
     disk.replace(&journal, text)?;
     let answered = answer(alloc, &mut disk)? == wanted;
-    Ok(answered && is_file(&disk, &journal, text) == (wanted == "bad"))
+    let counted = disk.list(alloc, &Path::root(alloc))?.len() == files;
+    Ok(answered && counted && is_file(&disk, &journal, text) == (wanted == "bad"))
 }
 
 #[test]
 fn takes_whole_journals(rt: HostRuntime) -> Result<(), Fail> {
-    let rows: &[&str] = &["", "set owed 1\nx\nremove weak\n", MOTD];
-    for lines in rows {
+    let rows: &[(&str, usize)] = &[("", 0), ("set owed 1\nx\nremove weak\n", 1), (MOTD, 2)];
+    for (lines, files) in rows {
         let text = format!(in rt.alloc(); "{lines}end\n")?;
-        let taken = has_answer(rt.alloc(), text.as_str().as_bytes(), "recovered")?;
+        let taken = has_answer(rt.alloc(), text.as_str().as_bytes(), "recovered", *files)?;
         assert!(rt; taken, "{lines}");
     }
     Ok(())
@@ -152,7 +153,7 @@ fn refuses_proper_prefixes(rt: HostRuntime) -> Result<(), Fail> {
     let bytes = text.as_str().as_bytes();
     for size in 0..bytes.len() {
         assert!(rt;
-            has_answer(rt.alloc(), &bytes[..size], "bad")?,
+            has_answer(rt.alloc(), &bytes[..size], "bad", 1)?,
             "{size} bytes"
         );
     }
@@ -173,7 +174,10 @@ fn refuses_other_texts(rt: HostRuntime) -> Result<(), Fail> {
         "remove weak/\nend\n",
     ];
     for text in rows {
-        assert!(rt; has_answer(rt.alloc(), text.as_bytes(), "bad")?, "{text}");
+        assert!(rt;
+            has_answer(rt.alloc(), text.as_bytes(), "bad", 1)?,
+            "{text}"
+        );
     }
     Ok(())
 }
