@@ -116,10 +116,17 @@ fn renames_in_order(rt: HostRuntime) -> Result<(), Fail> {
 // A strong setting stays beside a weak one, and so does what is pending.
 #[test]
 fn removes_weak_settings(rt: HostRuntime) -> Result<(), Fail> {
-    let rows: &[Row] = &[(
-        r#""live":[["settings.a",1],["settings.b",2]] "pending":[["t",[["settings.a",3]]]] "weak":["settings.a"]"#,
-        r#""live":[["settings.b",2]] "pending":[["t",[["settings.a",3]]]]"#,
-        SAME,
-    )];
+    let rows: &[Row] = &[
+        (
+            r#""live":[["settings.a",1],["settings.b",2]] "pending":[["t",[["settings.a",3]]]] "weak":["settings.a"]"#,
+            r#""live":[["settings.b",2]] "pending":[["t",[["settings.a",3]]]]"#,
+            SAME,
+        ),
+        (
+            r#""live":[["settings.motd","Welcome"],["settings.ntp.time-servers",["a.example","b.example"]]] "weak":["settings.ntp.time-servers"]"#,
+            r#""live":[["settings.motd","Welcome"]]"#,
+            SAME,
+        ),
+    ];
     makes(rt.alloc(), Ok(Migration::RemoveWeak), rows)
 }
