@@ -92,6 +92,22 @@ const OPENINGS: &[(&[File], bool, &[File])] = &[
             ("live/settings/motd", Some("\"hi\"")),
         ],
     ),
+    // what a job was cut off in is still owed, and its file stays as it is
+    (
+        &[
+            ("owed", Some("[\"settings.motd\"]")),
+            ("image", Some(IMAGE_TEXT)),
+            ("live/settings/motd", Some("\"hi\"")),
+            ("live/settings/ntp/time-servers", Some("[]")),
+            ("etc/motd", Some("xx")),
+        ],
+        false,
+        &[
+            ("owed", Some("[\"settings.motd\"]")),
+            ("live/settings/motd", Some("\"hi\"")),
+            ("etc/motd", Some("xx")),
+        ],
+    ),
     // after another image all is owed, and what that image said is gone
     (
         &[

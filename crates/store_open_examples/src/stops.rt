@@ -14,7 +14,13 @@ const OPENING: u64 = 27;
 
 // What a crash leaves of the paths that are not on the disk, the first path first: what was there (`o`), what is there
 // now (`n`), torn bytes (`t`) or nothing (`g`).
-const PICKS: &[&str] = &["oooooooooooo", "nnnn", "tttt", "gggg", "nogtnogtnogt"];
+const PICKS: &[&str] = &[
+    "oooooooooooo",
+    "nnnn",
+    "tttttttttttt",
+    "gggggggggggg",
+    "nogtnogtnogt",
+];
 
 fn pick(alloc: Global, kind: u8) -> Result<Pick, AllocError> {
     Ok(match kind {

@@ -36,7 +36,7 @@ pub const V1_5_2: Version = Version {
     patch: 2,
 };
 
-/// A file of the data directory, or of the image, with the bytes that it has; or it isn't there.
+/// A file of the data directory, of the image or of `etc`, with the bytes that it has; or it isn't there.
 pub type File = (&'static str, Option<&'static str>);
 
 /// The files of the data directory once the new store was opened.
@@ -67,9 +67,9 @@ pub const OPENED: &[File] = &[
     ),
 ];
 
-/// Where the file is: below `image`, or else below the data directory.
+/// Where the file is: below `image` or `etc`, or else below the data directory.
 pub fn place(alloc: Global, name: &str) -> Result<Path, Fail> {
-    if name.starts_with("image/") {
+    if name.starts_with("image/") || name.starts_with("etc/") {
         return Ok(Path::read(alloc, name.as_bytes())?);
     }
     let path = format!(in alloc; "store/v1.5.2_0000000000000000/{name}")?;
