@@ -96,15 +96,20 @@ const PAID: &str = "a b |Welcome||";
 // The calls of the disk before the stop, what is picked of each file that was touched, and what a crash leaves.
 const STOPS: &[(u64, &str, &str)] = &[
     (0, "old", "old|old|old|"),
+    (0, "new", "old|old|old|"),
     (0, "torn", "xx|old|old|"),
     (1, "old", "old|old|old|"),
     (1, "new", "a b |old|old|"),
     (1, "torn", "xx|xx|old|"),
+    (2, "old", "old|old|old|"),
     (2, "new", "a b |Welcome|old|"),
     (2, "torn", "xx|xx|xx|"),
+    (3, "old", "old|old|old|"),
     (3, "new", PAID),
     (3, "torn", "xx|xx|xx|"),
     (4, "old", PAID),
+    (4, "new", PAID),
+    (4, "torn", PAID),
 ];
 
 // A job that is stopped goes on as the machine does, and a crash leaves these files.
