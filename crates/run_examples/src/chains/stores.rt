@@ -1,6 +1,6 @@
 //! Small stores of a disk in memory, and runs over them.
 use crate::lines::words_of;
-use disk_memory::{MemoryDisk, MemoryDoor, MemorySink, MemorySpawner, Node};
+use disk_memory::{Bytes, MemoryDisk, MemoryDoor, MemorySink, MemorySpawner, Node};
 use outside::{Disk, Path};
 use settings_run::run;
 use std::alloc::{AllocError, Global};
@@ -17,17 +17,22 @@ const LINKS: &[Place] = &[
     ("store/v1.5.2", "v1.5.2_0000000000000000"),
 ];
 
+fn bytes_of(alloc: Global, text: &str) -> Result<Bytes, AllocError> {
+    Ok(Bytes::of(text.as_bytes().to_vec(alloc)?))
+}
+
 /// A disk with a store at 1.5.2 of these files, and others.
 pub fn store(alloc: Global, places: &[Place]) -> Result<MemoryDisk, Fail> {
-    let mut disk = MemoryDisk::new(alloc)?;
+    let mut nodes = Vec::new(alloc);
     for (path, bytes) in places {
-        disk.replace(&Path::read(alloc, path.as_bytes())?, bytes.as_bytes())?;
+        let file = Node::File(bytes_of(alloc, bytes)?);
+        nodes.push((Path::read(alloc, path.as_bytes())?, file))?;
     }
     for (path, text) in LINKS {
-        disk.relink(&Path::read(alloc, path.as_bytes())?, text.as_bytes())?;
+        let link = Node::Link(bytes_of(alloc, text)?);
+        nodes.push((Path::read(alloc, path.as_bytes())?, link))?;
     }
-    disk.sync()?;
-    Ok(disk)
+    Ok(MemoryDisk::of_tree(alloc, nodes)?)
 }
 
 /// Runs the words of the line: the status comes first, and then what is printed.

@@ -5,15 +5,19 @@ use disk_memory::{MemoryDoor, MemorySink, MemorySpawner};
 use settings_run::run;
 use std::test::Fail;
 
-// A host whose file chrony is covered, or not: the second part is added to the model.
+// A host of three files, of which chrony is covered or not: the second part is added to the model.
 const HOST: &str = "[types]
 \"settings.motd\" = \"line\"
 \"settings.ntp.time-servers\" = \"list line\"
+\"settings.kernel.sysctl.*\" = \"line\"
 [services.motd]
 configuration-files = [\"motd\"]
 restart-commands = []
 [services.chronyd]
 configuration-files = [\"chrony\"]
+restart-commands = []
+[services.sysctl]
+configuration-files = [\"sysctl\"]
 restart-commands = []
 [configuration-files.motd]
 path = \"/etc/motd\"
@@ -21,36 +25,48 @@ template-path = \"motd\"
 [configuration-files.chrony]
 path = \"/etc/chrony.conf\"
 template-path = \"chrony\"
+[configuration-files.sysctl]
+path = \"/etc/sysctl\"
+template-path = \"sysctl\"
 [metadata.settings.motd]
 affected-services = [\"motd\"]
 [metadata.settings.ntp]
 affected-services = [\"chronyd\"]
+[metadata.settings.kernel.sysctl]
+affected-services = [\"sysctl\"]
 ";
 
 const CHRONY: &str = "{{#if settings.ntp}}on{{/if}}";
 
 const MOTD: &str = "{{settings.motd}}\n";
 
+const SYSCTL: &str = "{{#each settings.kernel.sysctl}}\n{{@key}}={{this}}\n{{/each}}\n";
+
 // What is added to the host's model, the template of chrony, and the status and the lines of `check`.
 const ROWS: &[(&str, &str, u8, &str)] = &[
-    ("", CHRONY, 0, "chrony covered\nmotd covered\n"),
+    (
+        "",
+        CHRONY,
+        0,
+        "chrony covered\nmotd covered\nsysctl covered\n",
+    ),
     (
         "[metadata.settings.ntp.time-servers]\naffected-services = [\"motd\"]\n",
         CHRONY,
         9,
-        "chrony uncovered settings.ntp settings.ntp.time-servers chronyd\nmotd covered\n",
+        "chrony uncovered settings.ntp settings.ntp.time-servers chronyd\nmotd covered\nsysctl covered\n",
     ),
     (
         "[configuration-files.spare]\npath = \"/etc/spare\"\ntemplate-path = \"motd\"\n",
         CHRONY,
         9,
-        "chrony covered\nmotd covered\nspare no service\n",
+        "chrony covered\nmotd covered\nspare no service\nsysctl covered\n",
     ),
     (
         "",
         "{{settings.none}}",
         9,
-        "chrony not in model settings.none\nmotd covered\n",
+        "chrony not in model settings.none\nmotd covered\nsysctl covered\n",
     ),
     (
         "",
@@ -75,6 +91,7 @@ fn images_are_checked(rt: HostRuntime) -> Result<(), Fail> {
             ("image/model.toml", model.as_str()),
             ("image/templates/motd", MOTD),
             ("image/templates/chrony", *chrony),
+            ("image/templates/sysctl", SYSCTL),
         ];
         let mut disk = disk_of(alloc, &files)?;
         runs(alloc, &mut disk, "check", *status, printed)?;
@@ -96,12 +113,11 @@ fn devices_fail_in_a_check(rt: HostRuntime) -> Result<(), Fail> {
         ("image/model.toml", HOST),
         ("image/templates/motd", MOTD),
         ("image/templates/chrony", CHRONY),
+        ("image/templates/sysctl", SYSCTL),
     ];
-    for call in 0..3u64 {
+    for call in 6..10u64 {
         let mut disk = disk_of(alloc, &files)?;
-        let mut which = Vec::new(alloc);
-        which.push(call + 5)?;
-        disk.fail_calls(which);
+        disk.fail_calls(vec![in alloc; call]?);
         runs(alloc, &mut disk, "check", 3, "settings: disk\n")?;
     }
     let words = words_of(alloc, "check")?;

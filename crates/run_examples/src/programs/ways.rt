@@ -141,3 +141,29 @@ fn each_ask_fails_once(rt: HostRuntime) -> Result<(), Fail> {
     }
     Ok(())
 }
+
+// Its input is a program's answer: the store holds it at the next version, and all is owed.
+#[test]
+fn an_input_may_be_answered(rt: HostRuntime) -> Result<(), Fail> {
+    let alloc = rt.alloc();
+    let mut disk = host(alloc)?;
+    let first = first_input(alloc, &mut disk)?;
+    let first = first.as_str();
+    let mut spawner = MemorySpawner::of_answers(alloc, answers(alloc, first, &[0])?);
+    let line = "migrate --to 1.5.3";
+    runs(alloc, &mut disk, &mut spawner, line, 0, "1.5.3\n")?;
+    were_asked(alloc, &spawner, first, &[("mig-up --forward ", 0)])?;
+    let held = swapped(alloc, first, "\"owed\":[]", "\"owed\":\"all\"")?;
+    let mut spawner = MemorySpawner::of_answers(alloc, Vec::new(alloc));
+    let refused = "settings: migration on output\n";
+    runs(
+        alloc,
+        &mut disk,
+        &mut spawner,
+        "migrate --to 1.6.0",
+        18,
+        refused,
+    )?;
+    let rows = [("mig on --forward ", 0)];
+    were_asked(alloc, &spawner, held.as_str(), &rows)
+}

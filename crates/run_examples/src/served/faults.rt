@@ -1,6 +1,6 @@
 //! Devices that fail.
 use crate::lines::{holds, same};
-use crate::served::host::{WHOLE, begun, ready};
+use crate::served::host::{IDLE, WHOLE, before, begun, ready};
 use crate::served::runs::{Given, asked, runs, told};
 use disk_memory::{Bytes, MemoryDisk, Pick};
 use std::alloc::{AllocError, Global};
@@ -8,19 +8,28 @@ use std::test::Fail;
 
 const READS: &str = "GET /os\nGET /os\nGET /os";
 
-// The number of the connection whose reads fail, and of the accept that fails.
-const DOORS: &[(Option<usize>, u64, &str)] = &[
-    (None, 9, "0 \n200 {}\n200 {}\n200 {}\n"),
-    (Some(1), 9, "0 \n200 {}\nnothing\n200 {}\n"),
-    (None, 2, "4 settings: door\n200 {}\n"),
+// The numbers of the connection whose first read fails, of the one whose first write fails, and of the accept that fails.
+const DOORS: &[(Option<usize>, Option<usize>, u64, &str)] = &[
+    (None, None, 9, "0 \n200 {}\n200 {}\n200 {}\n"),
+    (Some(0), None, 9, "0 \nnothing\n200 {}\n200 {}\n"),
+    (Some(1), None, 9, "0 \n200 {}\nnothing\n200 {}\n"),
+    (Some(2), None, 9, "0 \n200 {}\n200 {}\nnothing\n"),
+    (None, Some(0), 9, "0 \nnothing\n200 {}\n200 {}\n"),
+    (None, Some(1), 9, "0 \n200 {}\nnothing\n200 {}\n"),
+    (None, Some(2), 9, "0 \n200 {}\n200 {}\nnothing\n"),
+    (None, None, 1, "4 settings: door\n"),
+    (None, None, 2, "4 settings: door\n200 {}\n"),
+    (None, None, 3, "4 settings: door\n200 {}\n200 {}\n"),
+    (None, None, 4, "4 settings: door\n200 {}\n200 {}\n200 {}\n"),
 ];
 
 #[test]
 fn connections_fail(rt: HostRuntime) -> Result<(), Fail> {
     let alloc = rt.alloc();
-    for (broken, accept, wanted) in DOORS {
+    for (broken, unwritten, accept, wanted) in DOORS {
         let given = Given {
             broken: *broken,
+            unwritten: *unwritten,
             accept: *accept,
             ..asked(READS)
         };
@@ -36,8 +45,8 @@ fn failing(alloc: Global, from: &MemoryDisk, call: u64) -> Result<MemoryDisk, Fa
     Ok(disk)
 }
 
-// What the run of the words begins with, where these requests come.
-fn begins(
+/// What the run of the words begins with, where these requests come.
+pub fn begins(
     alloc: Global,
     disk: &mut MemoryDisk,
     line: &str,
@@ -49,30 +58,47 @@ fn begins(
     same(shown.get(..wanted.len()).unwrap_or(shown), wanted, line)
 }
 
-const IDLE: &str = "0 {\"job\":\"idle\",\"owed\":[]}\n";
-
 const SET: &str =
-    "0 {\"settings\":{\"motd\":\"hi\",\"ntp\":{\"time-servers\":[\"a.example\",\"b.example\"]}}}\n";
+    "0 {\"settings\":{\"motd\":\"new\",\"ntp\":{\"time-servers\":[\"a.example\",\"b.example\"]}}}\n";
 
-// The calls of a `set`, and of a `serve` with the requests below: 32 of the opening, 6 and 9 of the changes, and 8 of the job.
-const CALLS: u64 = 55;
+/// The calls of a `set`, and of a `serve` with the requests below: 32 of the opening, 6 and 9 of the changes, and 8 of the job.
+pub const CALLS: u64 = 55;
+
+// The words, what they print, and how many calls they make.
+const COMMANDS: &[(&str, &str, u64)] = &[
+    ("set settings.motd=\"new\"", SET, CALLS),
+    ("apply", IDLE, 40),
+];
 
 #[test]
-fn each_call_of_a_set_fails(rt: HostRuntime) -> Result<(), Fail> {
+fn each_call_of_a_command_fails(rt: HostRuntime) -> Result<(), Fail> {
     let alloc = rt.alloc();
-    let line = "set settings.motd=\"hi\"";
-    let from = ready(alloc)?;
-    for call in 1..=CALLS {
-        let mut disk = failing(alloc, &from, call)?;
-        begins(alloc, &mut disk, line, "", "3 settings: disk\n")?;
-        begins(alloc, &mut disk, line, "", SET)?;
-        runs(alloc, &mut disk, "apply", asked(""), IDLE)?;
-        holds(alloc, &disk, "etc/motd", "hi\n")?;
+    for (line, wanted, calls) in COMMANDS {
+        let from = before(alloc, line)?;
+        for call in 1..=*calls {
+            command_fails(alloc, &from, call, line, wanted)?;
+        }
     }
     Ok(())
 }
 
-const CHANGES: &str = "PATCH /settings {\"motd\":\"new\"}
+// This call of the command fails: the next one ends well, and pays.
+fn command_fails(
+    alloc: Global,
+    from: &MemoryDisk,
+    call: u64,
+    line: &str,
+    wanted: &str,
+) -> Result<(), Fail> {
+    let mut disk = failing(alloc, from, call)?;
+    begins(alloc, &mut disk, line, "", "3 settings: disk\n")?;
+    begins(alloc, &mut disk, line, "", wanted)?;
+    runs(alloc, &mut disk, "apply", asked(""), IDLE)?;
+    holds(alloc, &disk, "etc/motd", "new\n")
+}
+
+/// Requests that make a text of the day pending, live and written.
+pub const CHANGES: &str = "PATCH /settings {\"motd\":\"new\"}
 POST /tx/commit
 GET /settings?keys=settings.motd
 POST /tx/apply
@@ -80,10 +106,11 @@ GET /job
 POST /tx/apply
 GET /job";
 
-// The number of the call that fails, and what comes.
-const FAULTS: &[(u64, &str)] = &[
+// The numbers of the first and the last call that may fail, and what comes.
+const FAULTS: &[(u64, u64, &str)] = &[
     // the journal of the patch: there is nothing to commit
     (
+        33,
         33,
         r#"0 
 500 {"error":"disk"}
@@ -95,9 +122,39 @@ const FAULTS: &[(u64, &str)] = &[
 200 {"job":"idle","owed":[]}
 "#,
     ),
-    // the first file of the commit, behind its journal: the next request opens the store again
+    // behind its journal the patch is taken
     (
-        41,
+        34,
+        38,
+        r#"0 
+500 {"error":"disk"}
+200 ["settings.motd"]
+200 {"motd":"new"}
+204
+200 {"job":"idle","owed":[]}
+204
+200 {"job":"idle","owed":[]}
+$ motd-reload
+"#,
+    ),
+    // the journal of the commit: what is live stays
+    (
+        39,
+        39,
+        r#"0 
+204
+500 {"error":"disk"}
+200 {"motd":"Welcome"}
+204
+200 {"job":"idle","owed":[]}
+204
+200 {"job":"idle","owed":[]}
+"#,
+    ),
+    // behind its journal the commit is taken: the next request opens the store again
+    (
+        40,
+        47,
         r#"0 
 204
 500 {"error":"disk"}
@@ -112,6 +169,7 @@ $ motd-reload
     // the file of the job
     (
         48,
+        48,
         r#"0 
 204
 200 ["settings.motd"]
@@ -123,15 +181,48 @@ $ motd-reload
 $ motd-reload
 "#,
     ),
+    // its sync, and the journal of its end, behind the program, which is run once more
+    (
+        49,
+        50,
+        r#"0 
+204
+200 ["settings.motd"]
+200 {"motd":"new"}
+204
+200 {"cause":"disk","job":"failed","owed":["settings.motd"]}
+204
+200 {"job":"idle","owed":[]}
+$ motd-reload
+$ motd-reload
+"#,
+    ),
+    // behind the journal of its end nothing is owed
+    (
+        51,
+        55,
+        r#"0 
+204
+200 ["settings.motd"]
+200 {"motd":"new"}
+204
+200 {"cause":"disk","job":"failed","owed":[]}
+204
+200 {"job":"idle","owed":[]}
+$ motd-reload
+"#,
+    ),
 ];
 
 #[test]
 fn calls_of_a_server_fail(rt: HostRuntime) -> Result<(), Fail> {
     let alloc = rt.alloc();
     let from = ready(alloc)?;
-    for (call, wanted) in FAULTS {
-        let mut disk = failing(alloc, &from, *call)?;
-        runs(alloc, &mut disk, "serve", asked(CHANGES), wanted)?;
+    for (first, last, wanted) in FAULTS {
+        for call in *first..=*last {
+            let mut disk = failing(alloc, &from, call)?;
+            runs(alloc, &mut disk, "serve", asked(CHANGES), wanted)?;
+        }
     }
     Ok(())
 }
@@ -207,8 +298,8 @@ fn pick(alloc: Global, kind: &str) -> Result<Pick, AllocError> {
     })
 }
 
-// What a crash leaves, where this is left of each path that isn't on the disk.
-fn left(alloc: Global, disk: &MemoryDisk, kind: &str) -> Result<MemoryDisk, Fail> {
+/// What a crash leaves, where this is left of each path that isn't on the disk.
+pub fn left(alloc: Global, disk: &MemoryDisk, kind: &str) -> Result<MemoryDisk, Fail> {
     let mut picks = Vec::new(alloc);
     for _ in 0..40 {
         picks.push(pick(alloc, kind)?)?;

@@ -5,6 +5,9 @@ use outside::{Disk, Path};
 use std::alloc::Global;
 use std::test::Fail;
 
+/// What `apply` comes to where no program is run.
+pub const IDLE: &str = "0 {\"job\":\"idle\",\"owed\":[]}\n";
+
 /// The path of a file, and its bytes.
 pub type File = (&'static str, &'static str);
 
@@ -109,6 +112,24 @@ pub fn ready(alloc: Global) -> Result<MemoryDisk, Fail> {
     let mut disk = begun(alloc, WHOLE)?;
     runs(alloc, &mut disk, "apply", asked(""), APPLIED)?;
     Ok(disk)
+}
+
+/// The whole host, in which a text of the day is committed and not yet written: its key is owed.
+pub fn owing(alloc: Global) -> Result<MemoryDisk, Fail> {
+    let mut disk = ready(alloc)?;
+    let changes = "PATCH /settings {\"motd\":\"new\"}\nPOST /tx/commit";
+    let wanted = "0 \n204\n200 [\"settings.motd\"]\n";
+    runs(alloc, &mut disk, "serve", asked(changes), wanted)?;
+    Ok(disk)
+}
+
+/// The host over which these words are run: for `apply` one that owes a key, and else one that is ready.
+pub fn before(alloc: Global, line: &str) -> Result<MemoryDisk, Fail> {
+    if line == "apply" {
+        owing(alloc)
+    } else {
+        ready(alloc)
+    }
 }
 
 const APPLIED: &str = r#"0 {"job":"idle","owed":[]}

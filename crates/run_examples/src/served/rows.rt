@@ -1,21 +1,20 @@
 //! What is done to a host, one after another, and what it comes to.
-use crate::lines::holds;
-use crate::served::host::{File, SMALL, WHOLE, begun, ready};
+use crate::lines::{holds, put};
+use crate::served::host::{IDLE, ready};
 use crate::served::runs::{Given, asked, runs};
 use disk_memory::MemoryDisk;
 use std::alloc::Global;
 use std::test::Fail;
 
-// The words of a run, the requests that come to it, a line each, the statuses with which programs end, one that can't be run
-// having none, and what it comes to. In place of a run it is the path of a file, and what it holds.
-type Step = (
+/// The words of a run, the requests that come to it, a line each, the statuses with which programs end, one that can't be run
+/// having none, and what it comes to. In place of a run it is the path of a file, and what it holds, or, of a file of the image,
+/// what it holds from then on.
+pub type Step = (
     &'static str,
     &'static str,
     &'static [Option<u16>],
     &'static str,
 );
-
-const IDLE: &str = "0 {\"job\":\"idle\",\"owed\":[]}\n";
 
 const RELOADED: &str = "0 {\"job\":\"idle\",\"owed\":[]}\n$ motd-reload\n";
 
@@ -24,6 +23,12 @@ const ROWS: &[&[Step]] = &[
     // it is
     &[
         ("apply", "", &[], IDLE),
+        (
+            "get settings.none",
+            "",
+            &[],
+            "13 settings: refused 404 {\"error\":\"key\",\"key\":\"settings.none\"}\n",
+        ),
         ("etc/motd", "", &[], "Welcome\n"),
         ("etc/sysctl", "", &[], ""),
         (
@@ -31,6 +36,12 @@ const ROWS: &[&[Step]] = &[
             "",
             &[],
             "pool a.example iburst\npool b.example iburst\ndriftfile /var/lib/chrony/drift\n",
+        ),
+        (
+            "serve --connections 0 --boot",
+            "",
+            &[],
+            "0 \n$ systemctl try-restart chronyd\n$ motd-reload\n$ sysctl --system\n",
         ),
     ],
     // reads
@@ -115,6 +126,47 @@ GET /tx"#,
 200 {}
 "#,
     )],
+    // the removal of nothing, of a table, and the end of a transaction that isn't there
+    &[(
+        "serve",
+        r#"PATCH /settings {"kernel":{"sysctl":{"a":null}}}
+POST /tx/commit
+GET /job
+PATCH /settings {"ntp":null}
+GET /tx
+DELETE /tx"#,
+        &[],
+        r#"0 
+204
+200 ["settings.kernel.sysctl.a"]
+200 {"job":"idle","owed":[]}
+400 {"error":"type","key":"settings.ntp","wanted":"nothing"}
+200 {}
+200 []
+"#,
+    )],
+    // an equal value is a strong one
+    &[
+        (
+            "store/v1.5.2_0000000000000000/weak",
+            "",
+            &[],
+            "[\"settings.motd\",\"settings.ntp.time-servers\"]",
+        ),
+        (
+            "serve",
+            "PATCH /settings {\"motd\":\"Welcome\"}\nPOST /tx/commit",
+            &[],
+            "0 \n204\n200 [\"settings.motd\"]\n",
+        ),
+        (
+            "store/v1.5.2_0000000000000000/weak",
+            "",
+            &[],
+            "[\"settings.ntp.time-servers\"]",
+        ),
+        ("store/v1.5.2_0000000000000000/owed", "", &[], "[]"),
+    ],
     // two transactions and one apply
     &[
         (
@@ -259,6 +311,13 @@ $ systemctl try-restart chronyd
 $ motd-reload
 "#,
         ),
+        (
+            "set settings.motd=\"hi\"",
+            "",
+            &[None],
+            "5 settings: spawn motd\n",
+        ),
+        ("apply", "", &[], RELOADED),
     ],
     &[(
         "set settings.kernel.sysctl.\"net.ipv4.ip_forward\"=\"1\"",
@@ -277,6 +336,18 @@ $ sysctl --system
             "13 settings: refused 400 {\"error\":\"type\",\"key\":\"settings.motd\",\"wanted\":\"line\"}\n",
         ),
         (
+            "set settings.a.b=1",
+            "",
+            &[],
+            "13 settings: refused 400 {\"error\":\"type\",\"key\":\"settings.a.b\",\"wanted\":\"nothing\"}\n",
+        ),
+        (
+            "set settings.motd=true",
+            "",
+            &[],
+            "13 settings: refused 400 {\"error\":\"type\",\"key\":\"settings.motd\",\"wanted\":\"line\"}\n",
+        ),
+        (
             "set settings.motd=true settings.a.b=1",
             "",
             &[],
@@ -286,8 +357,12 @@ $ sysctl --system
     ],
 ];
 
-fn step(alloc: Global, disk: &mut MemoryDisk, step: &Step) -> Result<(), Fail> {
+/// Makes the step.
+pub fn step(alloc: Global, disk: &mut MemoryDisk, step: &Step) -> Result<(), Fail> {
     let (line, requests, ends, wanted) = *step;
+    if line.starts_with("image/") {
+        return put(alloc, disk, line, wanted);
+    }
     if line.starts_with("etc/") || line.starts_with("store/") {
         return holds(alloc, disk, line, wanted);
     }
@@ -303,56 +378,6 @@ fn a_host_is_served_and_set(rt: HostRuntime) -> Result<(), Fail> {
     let alloc = rt.alloc();
     for row in ROWS {
         let mut disk = ready(alloc)?;
-        for done in *row {
-            step(alloc, &mut disk, done)?;
-        }
-    }
-    Ok(())
-}
-
-// Over hosts of which nothing was applied: the first run, and a first boot.
-const FIRST: &[(&[File], &[Step])] = &[
-    (
-        SMALL,
-        &[
-            (
-                "set settings.motd=\"hi\"",
-                "",
-                &[],
-                "0 {\"settings\":{\"motd\":\"hi\"}}\n",
-            ),
-            ("etc/motd", "", &[], "hi\n"),
-        ],
-    ),
-    (
-        WHOLE,
-        &[
-            ("serve --connections 0", "", &[], "0 \n"),
-            ("etc/motd", "", &[], "no file"),
-            (
-                "serve --boot --connections 2",
-                "PATCH /settings?tx=default {\"motd\":\"curl\"}\nPOST /tx/commit_and_apply\n",
-                &[],
-                r#"0 
-204
-200 ["settings.motd"]
-$ systemctl try-restart chronyd
-$ motd-reload
-$ sysctl --system
-$ motd-reload
-"#,
-            ),
-            ("etc/motd", "", &[], "curl\n"),
-            ("apply", "", &[], IDLE),
-        ],
-    ),
-];
-
-#[test]
-fn a_host_begins(rt: HostRuntime) -> Result<(), Fail> {
-    let alloc = rt.alloc();
-    for (files, row) in FIRST {
-        let mut disk = begun(alloc, files)?;
         for done in *row {
             step(alloc, &mut disk, done)?;
         }

@@ -29,6 +29,8 @@ pub struct Given {
     pub ends: &'static [Option<u16>],
     /// The connection whose first read fails.
     pub broken: Option<usize>,
+    /// The connection whose first write fails.
+    pub unwritten: Option<usize>,
     /// The number of the accept that fails, from 1.
     pub accept: u64,
 }
@@ -39,6 +41,7 @@ pub fn asked(requests: &'static str) -> Given {
         requests,
         ends: &[],
         broken: None,
+        unwritten: None,
         accept: u64::MAX,
     }
 }
@@ -48,11 +51,12 @@ fn inputs(alloc: Global, given: Given) -> Result<Vec<Input>, AllocError> {
     let mut inputs = Vec::new(alloc);
     for text in given.requests.lines() {
         let sent = request(alloc, text)?.into_bytes();
-        let fails = given.broken == Some(inputs.len());
+        let read_fails = given.broken == Some(inputs.len());
+        let write_fails = given.unwritten == Some(inputs.len());
         inputs.push(Input {
             pieces: vec![in alloc; sent]?,
-            read_fails: fails.then_some(1),
-            write_fails: None,
+            read_fails: read_fails.then_some(1),
+            write_fails: write_fails.then_some(1),
         })?;
     }
     Ok(inputs)

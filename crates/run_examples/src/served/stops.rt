@@ -1,0 +1,181 @@
+//! Runs that are stopped after each of their disk calls, and what a crash then leaves.
+use crate::lines::holds;
+use crate::served::faults::{CALLS, CHANGES, begins, left};
+use crate::served::host::{IDLE, before, ready};
+use crate::served::runs::{asked, runs, told};
+use disk_memory::MemoryDisk;
+use std::alloc::{AllocError, Global};
+use std::test::Fail;
+
+// A run that makes a text of the day live and writes its file.
+struct Row {
+    line: &'static str,
+    requests: &'static str,
+    // How many calls it makes, and what it then comes to.
+    calls: u64,
+    told: &'static str,
+    // The name of its transaction, and after how many calls these are on the disk: the transaction, its commit, the file, and
+    // that nothing is owed.
+    tx: &'static str,
+    patched: u64,
+    committed: u64,
+    written: u64,
+    paid: u64,
+}
+
+const ROWS: &[Row] = &[
+    Row {
+        line: "set settings.motd=\"new\"",
+        requests: "",
+        calls: CALLS,
+        told: "0 {\"settings\":{\"motd\":\"new\",\"ntp\":{\"time-servers\":[\"a.example\",\"b.example\"]}}}\n$ motd-reload\n",
+        tx: "\"cli-set\"",
+        patched: 34,
+        committed: 40,
+        written: 49,
+        paid: 51,
+    },
+    Row {
+        line: "serve",
+        requests: CHANGES,
+        calls: CALLS,
+        told: r#"0 
+204
+200 ["settings.motd"]
+200 {"motd":"new"}
+204
+200 {"job":"idle","owed":[]}
+204
+200 {"job":"idle","owed":[]}
+$ motd-reload
+"#,
+        tx: "\"default\"",
+        patched: 34,
+        committed: 40,
+        written: 49,
+        paid: 51,
+    },
+    // the commit was made before
+    Row {
+        line: "apply",
+        requests: "",
+        calls: 40,
+        told: "0 {\"job\":\"idle\",\"owed\":[]}\n$ motd-reload\n",
+        tx: "",
+        patched: 0,
+        committed: 0,
+        written: 34,
+        paid: 36,
+    },
+];
+
+// Whether what is on the disk after so many calls is there where the run is stopped: where a crash leaves what is new, also
+// before the sync.
+fn is_there(after: u64, calls: u64, kind: &str) -> bool {
+    calls >= after || calls.saturating_add(1) == after && kind == "new"
+}
+
+// The transactions, the text of the day, and what is owed.
+fn store(alloc: Global, row: &Row, calls: u64, kind: &str) -> Result<String, AllocError> {
+    let (list, motd, owed) = if is_there(row.paid, calls, kind) {
+        ("", "new", "")
+    } else if is_there(row.committed, calls, kind) {
+        ("", "new", "\"settings.motd\"")
+    } else if is_there(row.patched, calls, kind) {
+        (row.tx, "Welcome", "")
+    } else {
+        ("", "Welcome", "")
+    };
+    format!(in alloc;
+        "0 \n200 [{list}]\n200 {{\"motd\":\"{motd}\"}}\n200 {{\"job\":\"idle\",\"owed\":[{owed}]}}\n"
+    )
+}
+
+// The file, whose write is the call before its sync.
+fn file(row: &Row, calls: u64, kind: &str) -> &'static str {
+    if kind == "torn" && calls < row.written && calls.saturating_add(2) >= row.written {
+        "xx"
+    } else if is_there(row.written, calls, kind) {
+        "new\n"
+    } else {
+        "Welcome\n"
+    }
+}
+
+const READ: &str = "GET /tx/list\nGET /settings?keys=settings.motd\nGET /job";
+
+// What the crash leaves is what was done so far, and `apply` pays.
+fn leaves(
+    alloc: Global,
+    row: &Row,
+    stopped: &MemoryDisk,
+    calls: u64,
+    kind: &str,
+) -> Result<(), Fail> {
+    let mut disk = left(alloc, stopped, kind)?;
+    holds(alloc, &disk, "etc/motd", file(row, calls, kind))?;
+    let store = store(alloc, row, calls, kind)?;
+    runs(alloc, &mut disk, "serve", asked(READ), store.as_str())?;
+    begins(alloc, &mut disk, "apply", "", IDLE)?;
+    let paid = if is_there(row.committed, calls, kind) {
+        "new\n"
+    } else {
+        "Welcome\n"
+    };
+    holds(alloc, &disk, "etc/motd", paid)
+}
+
+// The run is stopped after so many calls, and a crash follows.
+fn stops(alloc: Global, row: &Row, from: &MemoryDisk, calls: u64) -> Result<(), Fail> {
+    let mut disk = from.crash(&[])?;
+    disk.stop_after(calls);
+    let told = told(alloc, &mut disk, row.line, asked(row.requests))?;
+    let ended = told.as_str() == row.told;
+    if ended != (calls == row.calls) {
+        return Err(Fail::new(format_args!("{} after {calls} calls", row.line)));
+    }
+    for kind in ["old", "new", "torn"] {
+        leaves(alloc, row, &disk, calls, kind)?;
+    }
+    Ok(())
+}
+
+#[test]
+fn each_stop_leaves_what_was_done(rt: HostRuntime) -> Result<(), Fail> {
+    let alloc = rt.alloc();
+    for row in ROWS {
+        let from = before(alloc, row.line)?;
+        for calls in 0..=row.calls {
+            stops(alloc, row, &from, calls)?;
+        }
+    }
+    Ok(())
+}
+
+const JOURNAL: &str = r#"set live/settings/motd 5
+"new"
+set owed 17
+["settings.motd"]
+remove pending/default/settings/motd
+set weak 29
+["settings.ntp.time-servers"]
+end
+"#;
+
+// The journal of a commit that is stopped behind the sync of its journal.
+#[test]
+fn a_commit_is_written_down_first(rt: HostRuntime) -> Result<(), Fail> {
+    let alloc = rt.alloc();
+    let from = ready(alloc)?;
+    let mut disk = from.crash(&[])?;
+    disk.stop_after(40);
+    let stopped = "0 \n204\n500 {\"error\":\"disk\"}\n";
+    begins(alloc, &mut disk, "serve", CHANGES, stopped)?;
+    let disk = left(alloc, &disk, "old")?;
+    holds(
+        alloc,
+        &disk,
+        "store/v1.5.2_0000000000000000/journal",
+        JOURNAL,
+    )
+}
