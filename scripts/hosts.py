@@ -40,10 +40,15 @@ def environment(folder):
 
 
 def run(program, folder, *words, before=(), **options):
-    """Status and standard output of a whole run."""
-    ended = subprocess.run([*before, program, *words], cwd=folder, env=environment(folder), stdout=subprocess.PIPE, stderr=subprocess.DEVNULL,
-                           timeout=120, check=False, **options)
-    return ended.returncode, ended.stdout.decode()
+    """Status and standard output of a whole run, which is killed with all that it started if it takes too long."""
+    with subprocess.Popen([*before, program, *words], cwd=folder, env=environment(folder), start_new_session=True, stdout=subprocess.PIPE,
+                          stderr=subprocess.DEVNULL, **options) as child:
+        try:
+            printed = child.communicate(timeout=120)[0]
+        except BaseException:
+            os.killpg(child.pid, signal.SIGKILL)
+            raise
+    return child.returncode, printed.decode()
 
 
 def parse_reply(data):
