@@ -6,6 +6,7 @@ PROGRAM is the program `settings`. After each kill of `set` `get` has to answer 
 import os
 import random
 import shutil
+import statistics
 import subprocess
 import sys
 import tempfile
@@ -60,7 +61,7 @@ def main():
     folder = tempfile.mkdtemp()
     shutil.copytree(f'{HERE}/examples/motd', f'{folder}/image')
     run(program, folder, 'init', '--version', '1.0.0')
-    most = min(seconds_of(program, folder) for _ in range(5))
+    most = statistics.median(seconds_of(program, folder) for _ in range(9))
     text, ends, new_texts, faults = '0', [], 0, []
     for number in range(1, rounds + 1):
         status = killed(program, folder, most, 'set', f'settings.motd="{number}"')
