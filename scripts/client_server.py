@@ -2,7 +2,8 @@
 """client_server.py ANSWER..: a server of the Unix socket api.sock in the working folder, to try settingsctl against.
 
 It answers one connection for each word, and prints what was asked: ok, short (a byte too few), long (a byte too much), 404, 204,
-most (16,777,216 bytes), more (one byte more), none (no byte), silent (nothing, the connection held open)."""
+most (16,777,216 bytes), more (one byte more), none (no byte), head (a head that promises 5 bytes, and two), slow (a byte each second),
+silent (nothing is read or answered, the connection held open)."""
 import os
 import socket
 import sys
@@ -21,18 +22,32 @@ ANSWERS = {
     'most': HEAD + b'x' * (MOST - len(HEAD)),
     'more': HEAD + b'x' * (MOST - len(HEAD) + 1),
     'none': b'',
+    'head': b'HTTP/1.1 200 OK\r\nContent-Length: 5\r\n\r\nab',
+    'slow': REPLY,
     'silent': None,
 }
+# Longer than the client waits.
+HELD = 40
+
+
+def trickle(connection):
+    """Gives an answer byte by byte, as far as the time goes."""
+    for byte in ANSWERS['slow'][:HELD]:
+        connection.sendall(bytes([byte]))
+        time.sleep(1)
 
 
 def answer(connection, word):
     """Reads what is asked and gives the answer of the word."""
     if ANSWERS[word] is None:
-        time.sleep(14)
+        time.sleep(HELD)
         return
     print(word, repr(connection.recv(65536)), flush=True)
     try:
-        connection.sendall(ANSWERS[word])
+        if word == 'slow':
+            trickle(connection)
+        else:
+            connection.sendall(ANSWERS[word])
     except OSError as error:
         print(word, error, flush=True)
 
