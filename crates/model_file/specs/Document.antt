@@ -1,11 +1,6 @@
 -- The sections of a document.
-use Rattle.std.specs.Prelude.{ℕ, Bool, true, false, List, [], ◌∷◌, Option, None, unwrap_or, codes}
+use Rattle.std.specs.Prelude.{ℕ, Bool, true, false, List, [], ◌∷◌, unwrap_or, codes}
 use Rattle.toml.specs.Data.{Data, string, integer, float, boolean, datetime, array, table, Members, no_members, get_member}
-use Rattle.std.specs.Prelude.{String, Some}
-use Rattle.std.specs.BTreeMap.{BTreeMap}
-use Rattle.std.specs.declared.alloc.Global.{Global}
-use Rattle.toml.specs.View.{table_view}
-use Rattle.toml.specs.declared.value.Value.{Value}
 
 -- The names of the six sections, in the order in which they are read.
 abbrev pub sections : List (List ℕ)
@@ -38,8 +33,3 @@ members_of (table ms) = ms
 -- The members of a section.
 abbrev pub section_members : List ℕ → Members → Members
 section_members name document = members_of (section name document)
-
--- For private clauses: the members of a table that may be missing.
-abbrev pub members_in : Option (BTreeMap (String Global) Value) → Members
-members_in None = no_members
-members_in (Some found) = table_view found

@@ -9,7 +9,6 @@ pub mod Rising
 mod Made
 mod Checked
 mod OneFault
-mod WordParts
 mod TextsLeft
 pub mod SpelledKeys
 mod Entries

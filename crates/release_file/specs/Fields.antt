@@ -10,7 +10,7 @@ use Rattle.settings_tree.specs.Content.{settings_key}
 use Rattle.toml.specs.Data.{Data, as_array, Items, no_items, item, Members, get_member}
 use Rattle.toml_values.specs.Document.{named}
 use Rattle.toml_values.specs.Values.{option_cons, scalar_of, text_of}
-use Rattle.release_file.specs.Words.{words_in}
+use Rattle.toml_values.specs.Words.{words_in}
 
 -- What a value that may be missing is read as.
 abbrev pub read_by : {S T : Type 0} → (S → Option T) → Option S → Option T

@@ -3,10 +3,8 @@ pub mod Release
 pub mod Chain
 pub mod Laws
 pub mod Pair
-pub mod Words
 pub mod Fields
 pub mod Works
 pub mod Checks
 pub mod Reading
 pub mod Refused
-pub mod Sections

@@ -1,16 +1,15 @@
 //! The sections of a document.
-ghost use Rattle.std.specs.Prelude.{◌≡◌, ◌∷◌, [], IfOk, IfErr, OnOk, codes, is_some, map};
-ghost use Rattle.std.specs.List.{list_all, list_any};
+ghost use Rattle.std.specs.Prelude.{◌≡◌, ◌∷◌, [], IfOk, IfErr, OnOk, is_some};
+ghost use Rattle.std.specs.List.{list_any};
 ghost use Rattle.std.specs.Ordering.{eq_by_cmp};
 ghost use Rattle.key_names.specs.Order.{bytes_cmp};
-ghost use Rattle.toml.specs.Data.{get_member};
 ghost use Rattle.toml.specs.View.{view, table_view};
 ghost use Rattle.toml_values.specs.Values.{text_of};
 ghost use Rattle.version_links.specs.Versions.{version_of};
 ghost use Rattle.release_file.specs.Checks.{name_checks, sections, section_check, section_members, version_check};
 ghost use Rattle.release_file.specs.Fields.{read_by};
 ghost use Rattle.release_file.specs.Refused.{Passes, Refuses};
-ghost use Rattle.release_file.specs.Sections.{members_in};
+ghost use Rattle.toml_values.specs.Document.{members_in};
 ghost use Rattle.std.specs.Option.{option_copied};
 
 use crate::field::field;

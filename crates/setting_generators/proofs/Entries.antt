@@ -1,6 +1,7 @@
 -- The entries of a table, read one after another.
-use Rattle.std.proofs.Common.{◌≡◌, ◌++◌, ℕ, List, [], ◌∷◌, map, Ok, Err, inl, inr, append_assoc, append-nil, refl, sym, ap, ◌∙◌, subst}
-use Rattle.std.specs.List.{IsDistinct}
+use Rattle.std.proofs.Common.{◌≡◌, ◌++◌, ℕ, List, [], ◌∷◌, map, true, Ok, Err, inl, inr, append_assoc, append-nil, refl, sym, ap, ◌∙◌, subst}
+use Rattle.std.specs.BTreeSet as tree
+use Rattle.std.specs.List.{IsDistinct, list_any}
 use Rattle.std.specs.Map.{keys_of}
 use Rattle.std.specs.Ordering.{eq_by_cmp}
 use Rattle.std.proofs.lemmas.List.{map-append}
@@ -13,6 +14,7 @@ use Rattle.typed_settings.specs.declared.row.Row.{Row}
 use Rattle.setting_generators.specs.Generators.{Path, Given, seen}
 use Rattle.setting_generators.specs.Reading.{Outcome, IsGenerator, IsBad, Reads, with_first, fault_at}
 use Rattle.setting_generators.specs.Refused.{RefusesEntry, RefusesTable}
+use Rattle.setting_generators.proofs.SameKeys.{IsSame, same_generator, same_bad, same_more}
 use Rattle.setting_generators.specs.declared.generator.Generator.{Generator}
 use Rattle.setting_generators.specs.declared.refusal.Refusal.{Refusal}
 use Rattle.setting_generators.specs.declared.refusal.Refusal.TheVariants.{Fault, Memory}
@@ -21,10 +23,11 @@ use Rattle.setting_generators.specs.declared.refusal.Refusal.TheVariants.{Fault,
 abbrev pub behind : List Given → Outcome → Outcome
 behind found outcome = result_map (λ generators. found ++ generators) outcome
 
--- What the entries left are read to, behind the generators found, all are read to; the keys found differ.
-pub record Reading (table : List Row) (whole left : Members) (found : List Given) : Type 0 where
+-- What the entries left are read to, behind the generators found, all are read to; the keys found differ, and are those of the set.
+pub record Reading (table : List Row) (whole left : Members) (found : List Given) (taken : tree.BTreeSet Path) : Type 0 where
   pub goes_on : (o : Outcome) → Reads table (keys_of found) (named left) o → Reads table [] (named whole) (behind found o)
   pub distinct : IsDistinct (eq_by_cmp key_cmp) (keys_of found)
+  pub same : IsSame taken.keys (keys_of found)
 
 behind_none : (o : Outcome) → o ≡ behind [] o
 behind_none (Ok gs) = refl
@@ -38,15 +41,18 @@ no_keys : IsDistinct (eq_by_cmp key_cmp) []
 unfolding IsDistinct
 no_keys = tt
 
-pub begun : (table : List Row) (whole : Members) (found : List Generator) → found ≡ [] → Reading table whole whole (map seen found)
-begun table whole found none = rw none (record { goes_on = λ o read. subst (Reads table [] (named whole)) (behind_none o) read; distinct = no_keys })
+pub begun : (table : List Row) (whole : Members) (found : List Generator) (taken : tree.BTreeSet Path) → found ≡ [] → tree.IsEmpty taken → Reading table whole whole (map seen found) taken
+begun table whole found taken none empty =
+    rw none (record { goes_on = λ o read. subst (Reads table [] (named whole)) (behind_none o) read; distinct = no_keys; same = λ q. ap (list_any (eq_by_cmp key_cmp q)) empty })
 
-module _ (table : List Row) (whole left rest : Members) (bytes name : List ℕ) (d : Data) (found : List Generator)
-    (so_far : Reading table whole left (map seen found)) (is : left ≡ member name d rest) (same : bytes ≡ name) where
+module _ (table : List Row) (whole left rest : Members) (bytes name : List ℕ) (d : Data) (found : List Generator) (taken : tree.BTreeSet Path)
+    (so_far : Reading table whole left (map seen found) taken) (is : left ≡ member name d rest) (same : bytes ≡ name) where
   -- One more entry is a generator.
-  pub grown : (g : Generator) (more : List Generator) → more ≡ found ++ g ∷ [] → IsGenerator table (keys_of (map seen found)) (bytes, d) (seen g) → Reading table whole rest (map seen more)
-  grown g more pushed own =
-      let here : IsGenerator table (keys_of (map seen found)) (name, d) (seen g) = subst (λ (n : List ℕ). IsGenerator table (keys_of (map seen found)) (n, d) (seen g)) same own in
+  pub grown : (g : Generator) (more : List Generator) (taken_more : tree.BTreeSet Path) → more ≡ found ++ g ∷ [] → tree.Updates key_cmp taken taken_more g.key true → IsGenerator table taken.keys (bytes, d) (seen g)
+      → Reading table whole rest (map seen more) taken_more
+  grown g more taken_more pushed updates own =
+      let behind_found = same_generator table taken.keys (keys_of (map seen found)) so_far.same (bytes, d) (seen g) own in
+      let here : IsGenerator table (keys_of (map seen found)) (name, d) (seen g) = subst (λ (n : List ℕ). IsGenerator table (keys_of (map seen found)) (n, d) (seen g)) same behind_found in
       let all : map seen more ≡ map seen found ++ seen g ∷ [] = ap (map seen) pushed ∙ map-append seen found (g ∷ []) in
       let keys : keys_of (map seen found ++ seen g ∷ []) ≡ keys_of (map seen found) ++ g.key ∷ [] = map-append (λ (x : Given). x.0) (map seen found) (seen g ∷ []) in
       rw all (record {
@@ -57,19 +63,21 @@ module _ (table : List Row) (whole left rest : Members) (bytes name : List ℕ) 
             (inl (record { generator = seen g; is = here; rest = o; others = others; outcome_is = refl })) in
             subst (Reads table [] (named whole)) (behind_more (map seen found) (seen g) o) (so_far.goes_on (with_first (seen g) o) both);
         distinct = rw keys (IsDistinct-push keys_equal (keys_of (map seen found)) g.key so_far.distinct here.key.new);
+        same = rw keys (same_more taken taken_more (keys_of (map seen found)) g.key so_far.same updates);
       })
 
   -- The next entry is none.
-  pub stopped : (e : Refusal) → RefusesEntry table (keys_of (map seen found)) (bytes, d) e → RefusesTable table whole e
+  pub stopped : (e : Refusal) → RefusesEntry table taken.keys (bytes, d) e → RefusesTable table whole e
   stopped Memory refused = tt
   stopped (Fault kind at) refused =
-      let bad : IsBad table (keys_of (map seen found)) (name, d) kind = subst (λ (n : List ℕ). IsBad table (keys_of (map seen found)) (n, d) kind) same refused.0 in
+      let behind_found = same_bad table taken.keys (keys_of (map seen found)) so_far.same (bytes, d) kind refused.0 in
+      let bad : IsBad table (keys_of (map seen found)) (name, d) kind = subst (λ (n : List ℕ). IsBad table (keys_of (map seen found)) (n, d) kind) same behind_found in
       let none : Reads table (keys_of (map seen found)) (named left) (Err (fault_at kind name)) =
       subst (λ (ms : Members). Reads table (keys_of (map seen found)) (named ms) (Err (fault_at kind name))) (sym is) (inr (record { kind = kind; bad = bad; outcome_is = refl })) in
       subst (λ (n : List ℕ). Reads table [] (named whole) (Err (fault_at kind n))) (sym (refused.1 ∙ same)) (so_far.goes_on (Err (fault_at kind name)) none)
 
 -- No entry is left.
-pub ended : (table : List Row) (whole left : Members) (found : List Given) → Reading table whole left found → left ≡ no_members → Reads table [] (named whole) (Ok found)
-ended table whole left found so_far is =
+pub ended : (table : List Row) (whole left : Members) (found : List Given) (taken : tree.BTreeSet Path) → Reading table whole left found taken → left ≡ no_members → Reads table [] (named whole) (Ok found)
+ended table whole left found taken so_far is =
     let none : Reads table (keys_of found) (named left) (Ok []) = subst (λ (ms : Members). Reads table (keys_of found) (named ms) (Ok [])) (sym is) refl in
     subst (λ (gs : List Given). Reads table [] (named whole) (Ok gs)) (append-nil found) (so_far.goes_on (Ok []) none)

@@ -1,22 +1,14 @@
 -- The parts of an entry.
-use Rattle.std.proofs.Common.{◌≡◌, ◌||◌, ◌==◌, String, Vec, Global, List, [], ◌∷◌, map, Bool, true, length, refl, sym, ap, subst, arith}
-use Rattle.std.specs.List.{list_any}
-use Rattle.std.specs.Map.{keys_of}
+use Rattle.std.proofs.Common.{◌≡◌, ◌==◌, String, Vec, Global, List, [], ◌∷◌, true, length, refl, sym, ap, subst, arith}
 use Rattle.std.proofs.lemmas.Bool.{eqb-true}
 use Rattle.outside.specs.Spawner.{texts}
 use Rattle.typed_settings.specs.declared.row.Row.{Row}
-use Rattle.setting_generators.specs.Generators.{Path, seen}
+use Rattle.setting_generators.specs.Generators.{Path}
 use Rattle.setting_generators.specs.Reading.{Entry, IsBad}
 use Rattle.setting_generators.specs.Refused.{IsAt, RefusesEntry}
-use Rattle.setting_generators.specs.declared.generator.Generator.{Generator}
 use Rattle.setting_generators.specs.declared.generators_error.GeneratorsKind.{GeneratorsKind}
 use Rattle.setting_generators.specs.declared.refusal.Refusal.{Refusal}
 use Rattle.setting_generators.specs.declared.refusal.Refusal.TheVariants.{Fault, Memory}
-
--- A key among those of generators.
-pub any_key : (p : Path → Bool) (gs : List Generator) → list_any (λ g. p g.key) gs ≡ list_any p (keys_of (map seen gs))
-any_key p [] = refl
-any_key p (g ∷ gs) = ap (λ b. p g.key || b) (any_key p gs)
 
 -- An entry that is none is refused.
 pub entry_refused : (table : List Row) (keys : List Path) (entry : Entry) (kind : GeneratorsKind) (e : Refusal) → IsBad table keys entry kind → IsAt kind entry.0 e → RefusesEntry table keys entry e

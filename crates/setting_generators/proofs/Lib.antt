@@ -1,5 +1,5 @@
-mod WordParts
 pub mod OneOutcome
+pub mod SameKeys
 pub mod Entries
 pub mod Sorting
 pub mod AskedParts

@@ -1,4 +1,3 @@
-pub mod Words
 pub mod Generators
 pub mod Reading
 pub mod Refused

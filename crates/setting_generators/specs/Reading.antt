@@ -11,10 +11,10 @@ use Rattle.settings_tree.specs.Content.{settings_key}
 use Rattle.toml.specs.Data.{Data, Members}
 use Rattle.toml_values.specs.Document.{table_of, named}
 use Rattle.toml_values.specs.Values.{text_of}
+use Rattle.toml_values.specs.Words.{words_in}
 use Rattle.typed_settings.specs.Row.{IsKnown}
 use Rattle.typed_settings.specs.declared.row.Row.{Row}
 use Rattle.setting_generators.specs.Generators.{Path, Given, IsRising}
-use Rattle.setting_generators.specs.Words.{words_in}
 use Rattle.setting_generators.specs.declared.generators_error.GeneratorsError.{GeneratorsError}
 use Rattle.setting_generators.specs.declared.generators_error.GeneratorsKind.{GeneratorsKind}
 use Rattle.setting_generators.specs.declared.generators_error.GeneratorsKind.TheVariants.{NotToml, BadKey, IllTyped, BadCommand}

@@ -1,7 +1,6 @@
 //! The generator that an entry is.
-ghost use Rattle.std.specs.Prelude.{◌≡◌, ℕ, List, IfOk, IfErr, MatchOption, map};
+ghost use Rattle.std.specs.Prelude.{◌≡◌, ℕ, List, IfOk, IfErr, MatchOption};
 ghost use Rattle.std.specs.List.{list_any};
-ghost use Rattle.std.specs.Map.{keys_of};
 ghost use Rattle.std.specs.Ordering.{eq_by_cmp};
 ghost use Rattle.key_names.specs.Order.{key_cmp};
 ghost use Rattle.outside.specs.Spawner.{texts};
@@ -11,26 +10,25 @@ ghost use Rattle.setting_generators.specs.Reading.{IsGenerator, SpellsNew, comma
 ghost use Rattle.setting_generators.specs.Refused.{RefusesEntry};
 
 use crate::refusal::{Refusal, refused};
-use crate::words::words_in;
 use crate::{Generator, GeneratorsKind};
 use key_names::{Key, KeyFault};
 use settings_tree::is_setting;
 use std::alloc::{AllocError, Global};
+use std::collections::BTreeSet;
 use toml::Value;
-use toml_values::text_of;
+use toml_values::{text_of, words_in};
 use typed_settings::Types;
 
-// Whether one of the generators is for the key.
-fn has_key(generators: &[Generator], key: &Key) -> bool
-    ensures { result ≡ list_any (eq_by_cmp key_cmp key.now) (keys_of (map seen generators.now)) }
+// Whether the key is one of these.
+fn has_key(keys: &BTreeSet<Key>, key: &Key) -> bool
+    ensures { result ≡ list_any (eq_by_cmp key_cmp key.now) keys.now.keys }
 {
-    generators.iter().any(|generator| *key == generator.key)
+    keys.contains(key)
 }
 
 // The key that the name spells, None exactly where it spells none that begins with `settings` and is new.
-fn new_key(alloc: Global, before: &[Generator], name: &str) -> Result<Option<Key>, AllocError>
-    ensures { IfOk result (λ found. MatchOption found ((key : List (List ℕ)) → SpellsNew (keys_of (map seen before.now)) name.now key → ⊥)
-        (SpellsNew (keys_of (map seen before.now)) name.now)) }
+fn new_key(alloc: Global, before: &BTreeSet<Key>, name: &str) -> Result<Option<Key>, AllocError>
+    ensures { IfOk result (λ found. MatchOption found ((key : List (List ℕ)) → SpellsNew before.now.keys name.now key → ⊥) (SpellsNew before.now.keys name.now)) }
 {
     match Key::read(alloc, name.as_bytes()) {
         Ok(key) => {
@@ -57,16 +55,16 @@ fn command_of(alloc: Global, value: &Value) -> Result<Vec<String>, AllocError>
     }
 }
 
-/// The generator that the entry of this name is, behind entries that are these.
+/// The generator that the entry of this name is, behind entries of these keys.
 pub fn generator_of(
     alloc: Global,
     types: &Types,
-    before: &[Generator],
+    before: &BTreeSet<Key>,
     name: &str,
     value: &Value,
 ) -> Result<Generator, Refusal>
-    ensures ok { IfOk result (λ generator. IsGenerator types.now (keys_of (map seen before.now)) (name.now, view value.now) (seen generator)) }
-    ensures refused { IfErr result (RefusesEntry types.now (keys_of (map seen before.now)) (name.now, view value.now)) }
+    ensures ok { IfOk result (λ generator. IsGenerator types.now before.now.keys (name.now, view value.now) (seen generator)) }
+    ensures refused { IfErr result (RefusesEntry types.now before.now.keys (name.now, view value.now)) }
 {
     let Some(key) = new_key(alloc, before, name)? else {
         return Err(refused(alloc, GeneratorsKind::BadKey, name));

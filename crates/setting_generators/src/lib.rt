@@ -12,7 +12,6 @@ mod output;
 mod reading;
 mod refusal;
 mod table;
-mod words;
 
 pub use generate_error::GenerateError;
 pub use generator::Generator;

@@ -23,7 +23,7 @@ impl Generators {
     /// one entry after another, in the order of TOML's table, which is that of the names' bytes, `BadKey` where the name
     /// spells no key, one that doesn't begin with `settings`, or one that an earlier name spells; else `IllTyped` where no row
     /// matches the key; else `BadCommand` where the entry is no text with a word between its spaces. `Memory` may come at
-    /// any place. It takes time linear in the text, quadratic in the number of its entries, and for each entry the time of
+    /// any place. It takes time linear in the text, and for each entry a step logarithmic in their number and the time of
     /// `Types::matches`.
     pub fn read(alloc: Global, text: &[u8], types: &Types) -> Result<Generators, GeneratorsError>
         ensures ok { IfOk result (Spells types.now text.now) }

@@ -15,6 +15,7 @@ use crate::Generator;
 use crate::entry::generator_of;
 use crate::refusal::Refusal;
 use std::alloc::{AllocError, Global};
+use std::collections::BTreeSet;
 use toml::Table;
 use typed_settings::Types;
 
@@ -25,8 +26,10 @@ fn listed(alloc: Global, types: &Types, table: &Table) -> Result<Vec<Generator>,
     ensures refused { IfErr result (RefusesTable types.now (table_view table.now)) }
 {
     let mut listed = Vec::new(alloc);
+    let mut keys = BTreeSet::new(alloc);
     for (name, value) in table.iter() {
-        let generator = generator_of(alloc, types, &listed, name.as_str(), value)?;
+        let generator = generator_of(alloc, types, &keys, name.as_str(), value)?;
+        keys.insert(generator.key.copy()?)?;
         listed.push(generator)?;
     }
     Ok(listed)

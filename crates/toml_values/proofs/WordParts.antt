@@ -1,7 +1,7 @@
 -- Words among the parts of a text.
 use Rattle.std.proofs.Common.{◌≡◌, ◌<◌, ◌+◌, ℕ, List, [], ◌∷◌, ◌++◌, Bool, true, false, cond, length, nat_lt, get_or, take, map, Bor, sym, ◌∙◌, ap, refl}
 use Rattle.std.proofs.lemmas.List.{map-append, take_more}
-use Rattle.release_file.specs.Words.{words_among}
+use Rattle.toml_values.specs.Words.{words_among}
 
 words_append : (xs ys : List (List ℕ)) → words_among (xs ++ ys) ≡ words_among xs ++ words_among ys
 words_append [] ys = refl

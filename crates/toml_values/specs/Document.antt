@@ -1,8 +1,12 @@
 -- The table that a text is, and the entries of a table.
-use Rattle.std.specs.Prelude.{ℕ, List, [], ◌∷◌, Option, None, if◌then◌else◌}
+use Rattle.std.specs.Prelude.{ℕ, List, [], ◌∷◌, Option, Some, None, String, if◌then◌else◌}
+use Rattle.std.specs.BTreeMap.{BTreeMap}
+use Rattle.std.specs.declared.alloc.Global.{Global}
 use Rattle.std.specs.Str.{is_utf8}
 use Rattle.toml.specs.Data.{Data, Members, no_members, member}
 use Rattle.toml.specs.Parse.{parse_document}
+use Rattle.toml.specs.View.{table_view}
+use Rattle.toml.specs.declared.value.Value.{Value}
 
 -- The table that the bytes are, where they are UTF-8 and `toml` reads them.
 abbrev pub table_of : List ℕ → Option Members
@@ -12,3 +16,8 @@ table_of text = if is_utf8 text then parse_document text else None
 abbrev pub named : Members → List (List ℕ × Data)
 named no_members = []
 named (member name d ms) = (name, d) ∷ named ms
+
+-- For private clauses: the members of a table that may be missing.
+abbrev pub members_in : Option (BTreeMap (String Global) Value) → Members
+members_in None = no_members
+members_in (Some found) = table_view found

@@ -7,6 +7,8 @@
 
 mod document;
 mod values;
+mod words;
 
 pub use document::table_of;
 pub use values::{items_of, scalar_of, text_of};
+pub use words::words_in;

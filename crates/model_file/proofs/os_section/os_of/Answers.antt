@@ -5,8 +5,8 @@ use Rattle.std.proofs.lemmas.Result.{IfErr-weaker, on_ok_weaker}
 use Rattle.toml.specs.Data.{no_members}
 use Rattle.toml.specs.View.{table_view}
 use Rattle.model_file.specs.Checks.{os_check, os_checks, table_check}
-use Rattle.toml_values.specs.Document.{named}
-use Rattle.model_file.specs.Document.{members_in, section_members}
+use Rattle.toml_values.specs.Document.{named, members_in}
+use Rattle.model_file.specs.Document.{section_members}
 use Rattle.model_file.specs.Refused.{Refuses}
 use Rattle.model_file.proofs.Checking.{refuses_before}
 use Rattle.model_file.proofs.OsNames.{section_passes, section_refuses}

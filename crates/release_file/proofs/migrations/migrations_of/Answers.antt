@@ -5,7 +5,7 @@ use Rattle.std.proofs.lemmas.Result.{IfErr-weaker, on_ok_weaker}
 use Rattle.toml.specs.View.{table_view}
 use Rattle.release_file.specs.Checks.{migration, migration_checks, migrations_in, section_check}
 use Rattle.release_file.specs.Refused.{Refuses}
-use Rattle.release_file.specs.Sections.{members_in}
+use Rattle.toml_values.specs.Document.{members_in}
 use Rattle.release_file.specs.declared.release_error.ReleaseKind.TheVariants.{BadMigration}
 use Rattle.release_file.proofs.Checking.{refuses_before}
 use Rattle.release_file.proofs.SectionNames.{entries_pass, entries_refuse}

@@ -4,7 +4,7 @@ use Rattle.toml.specs.View.{table_view}
 use Rattle.toml_values.specs.Document.{named}
 use Rattle.release_file.specs.Checks.{transition, transition_checks, transitions_in, known_check, known_checks, section_check, section_members}
 use Rattle.release_file.specs.Refused.{Passes, Refuses}
-use Rattle.release_file.specs.Sections.{members_in}
+use Rattle.toml_values.specs.Document.{members_in}
 use Rattle.release_file.specs.declared.release_error.ReleaseKind.TheVariants.{BadPair}
 use Rattle.release_file.proofs.Checking.{passes_both, refuses_before, refuses_after}
 use Rattle.release_file.proofs.Rising.{sorted_rise}

@@ -5,4 +5,4 @@ use Rattle.setting_generators.proofs.Entries.{Reading}
 use Rattle.setting_generators.proofs.table.listed.Given as goal
 
 abbrev pub invariant-loop-name : goal.invariant-loop-name
-invariant-loop-name l = Reading l.types (table_view l.table) (members_view l.name-iterator) (map seen l.listed.items)
+invariant-loop-name l = Reading l.types (table_view l.table) (members_view l.name-iterator) (map seen l.listed.items) l.keys

@@ -1,6 +1,6 @@
 use Rattle.std.proofs.Common.{◌≡◌, map, take, string_bytes}
-use Rattle.release_file.specs.Words.{words_among}
-use Rattle.release_file.proofs.words.words_among.Given as goal
+use Rattle.toml_values.specs.Words.{words_among}
+use Rattle.toml_values.proofs.words.words_among.Given as goal
 
 -- those of the parts so far that are not empty
 abbrev pub invariant-loop-part : goal.invariant-loop-part
