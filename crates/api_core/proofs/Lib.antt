@@ -11,3 +11,4 @@ pub mod Names
 pub mod Nesting
 pub mod Statuses
 pub mod NearLists
+pub mod Replied

@@ -2,14 +2,14 @@
 use Rattle.std.proofs.Common.{◌≡◌, Bool, true, false, List, length, refl, sym, ◌∙◌, subst, ap}
 use Rattle.metadata_links.specs.declared.manifest.Manifest.{Manifest}
 use Rattle.settings_machine.specs.declared.cause.Cause.{Cause}
-use Rattle.settings_machine.specs.World.{Job, Idle, Failed, Running, is_running}
+use Rattle.settings_machine.specs.World.{Job, Idle, Failed, Running, is_running, KeepsAllButOwed}
 use Rattle.settings_machine.specs.Step.{failing}
 use Rattle.settings_machine.specs.Typed.{IsTypedHeld}
 use Rattle.settings_tree.specs.declared.held.Held.{Held}
 use Rattle.store_image.specs.declared.image.Image.{Image}
 use Rattle.typed_settings.specs.declared.row.Row.{Row}
 use Rattle.version_links.specs.declared.chain.Place.{Place}
-use Rattle.core_turns.specs.Jobs.{job_of, HasRows, KeepsAllButOwed, failed_with_disk}
+use Rattle.core_turns.specs.Jobs.{job_of, HasRows, failed_with_disk}
 use Rattle.api_core.specs.Cores.{IsSound}
 use Rattle.api_core.specs.Jobs.{job_after, KnowsRows}
 use Rattle.api_core.specs.declared.next_job.NextJob.{NextJob}

@@ -2,8 +2,8 @@
 ghost use Rattle.std.specs.Prelude.{◌≡◌, ◌&&◌, ◌||◌, None, true, false};
 ghost use Rattle.outside.specs.Told.{Moves};
 ghost use Rattle.outside.specs.Faults.{HasCause};
-ghost use Rattle.settings_machine.specs.World.{is_running};
-ghost use Rattle.core_turns.specs.Jobs.{job_of, KeepsAllButOwed, failed_with_disk, failed_to_spawn, answer_of};
+ghost use Rattle.settings_machine.specs.World.{is_running, KeepsAllButOwed};
+ghost use Rattle.core_turns.specs.Jobs.{job_of, failed_with_disk, failed_to_spawn, answer_of};
 ghost use Rattle.api_core.specs.Cores.{IsSound, core_state};
 ghost use Rattle.api_core.specs.Turned.{Turns};
 

@@ -1,5 +1,5 @@
 -- The text of replies.
-use Rattle.std.specs.Prelude.{ℕ, Bool, true, false, List, [], ◌∷◌, ◌++◌, length, codes, decimal, refl}
+use Rattle.std.specs.Prelude.{ℕ, ◌&&◌, nat_le, Bool, true, false, List, [], ◌∷◌, ◌++◌, length, codes, decimal, refl}
 use Rattle.std.specs.List.{flat_map}
 use Rattle.std.specs.Coded.{Coded, code_by, coded×, coded_ℕ, coded_list}
 use Rattle.json.specs.Token.{Token}
@@ -46,6 +46,10 @@ status_of (NoPending tx) = (422, codes "Unprocessable Content")
 status_of Memory = (503, codes "Service Unavailable")
 status_of DiskFault = (500, codes "Internal Server Error")
 status_of (Store place) = (500, codes "Internal Server Error")
+
+-- Whether a status is one of success.
+abbrev pub is_of_success : ℕ → Bool
+is_of_success status = nat_le 200 status && nat_le status 299
 
 -- A name of a body, and its text.
 abbrev pub Entry : Type 0

@@ -2,7 +2,7 @@
 ghost use Rattle.std.specs.Prelude.{◌≡◌, ◌≤◌, ◌++◌, [], length, IfOk, OnOk, map, codes, decimal};
 ghost use Rattle.api_http.specs.ReplyBytes.{bytes_of};
 ghost use Rattle.api_http.specs.Routes.{row_of, methods_in};
-ghost use Rattle.api_http.specs.Replies.{listed, allow_field, with_body, refused, reply_text, ended};
+ghost use Rattle.api_http.specs.Replies.{listed, allow_field, with_body, refused, reply_text, ended, is_of_success};
 
 use crate::route::{ROWS, Row};
 use crate::{Answer, Refusal};
@@ -76,6 +76,13 @@ impl Reply {
         ensures { result ≡ self.now.status }
     {
         self.status
+    }
+
+    /// Whether its status is one of success, 200 to 299 (RFC 9110, 15.3). It takes no memory.
+    pub fn is_of_success(&self) -> bool
+        ensures { result ≡ is_of_success self.now.status }
+    {
+        200 <= self.status && self.status <= 299
     }
 
     /// All its bytes. It takes no memory.

@@ -13,7 +13,7 @@ use Rattle.settings_machine.specs.Events.{Event, after, faulted_after}
 use Rattle.settings_machine.specs.Paid.{IsGood}
 use Rattle.settings_machine.proofs.Sequences.{after-append, faulted-append}
 use Rattle.machine_disk.specs.Kept.{Folder, Kept}
-use Rattle.machine_disk.specs.Ran.{Ran}
+use Rattle.machine_disk.specs.Ran.{Ran, RunsBy}
 use Rattle.machine_disk.proofs.Runs.{ran_none, ran_more}
 use Rattle.store_open.specs.Laws.{HoldsImage, IsImageOfFolder}
 use Rattle.api_core.specs.Cores.{core_state}
@@ -21,7 +21,7 @@ use Rattle.api_core.specs.Turned.{Turns}
 use Rattle.api_core.specs.declared.serving.Core.{Core}
 use Rattle.api_server.specs.Exchanged.{IsServed, IsExchanged}
 use Rattle.api_server.specs.Rounds.{Round, IsRound, AreRounds, AreExchanged, events_of_round, events_of}
-use Rattle.api_server.specs.Answered.{RunsBy, Answers, RoundBy, ServesOne, RoundsBy, ServesAll}
+use Rattle.api_server.specs.Answered.{Answers, RoundBy, ServesOne, RoundsBy, ServesAll}
 use Rattle.api_server.proofs.Requested.{asks_runs}
 
 -- ---- programs

@@ -12,16 +12,12 @@ use Rattle.settings_machine.specs.Requests.{DiskFault}
 use Rattle.settings_machine.specs.Events.{Event, after}
 use Rattle.settings_machine.specs.Paid.{IsGood}
 use Rattle.machine_disk.specs.Kept.{Folder, Kept}
-use Rattle.machine_disk.specs.Ran.{Ran}
+use Rattle.machine_disk.specs.Ran.{Ran, RunsBy}
 use Rattle.store_open.specs.Laws.{HoldsImage, IsImageOfFolder}
 use Rattle.api_core.specs.Cores.{core_state}
 use Rattle.api_core.specs.declared.serving.Core.{Core}
 use Rattle.api_server.specs.Exchanged.{Said, Replied, IsServed}
 use Rattle.api_server.specs.Rounds.{AsksFor, Round, IsRound, AreRounds, AreExchanged, events_of_round, events_of}
-
--- The programs that were run grew by those of the events, where they were those of the world.
-abbrev pub RunsBy : Image → World → List Event → Option (List Run) → Option (List Run) → Type 0
-RunsBy I W events ran_before ran_after = Moves ran_before ran_after (λ r s. r ≡ W.runs → s ≡ (after I W events).runs)
 
 -- ---- a request
 

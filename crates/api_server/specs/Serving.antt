@@ -9,13 +9,12 @@ use Rattle.settings_machine.specs.Requests.{Reply, Apply}
 use Rattle.settings_machine.specs.Events.{Event, after, faulted_after}
 use Rattle.settings_machine.specs.Paid.{IsGood}
 use Rattle.machine_disk.specs.Kept.{Folder, Kept}
-use Rattle.machine_disk.specs.Ran.{Ran, IsDriven}
+use Rattle.machine_disk.specs.Ran.{Ran, IsDriven, RunsBy}
 use Rattle.store_open.specs.Laws.{HoldsImage, IsImageOfFolder}
 use Rattle.core_turns.specs.Turned.{AreTurns}
 use Rattle.api_core.specs.Cores.{core_state}
 use Rattle.api_core.specs.declared.serving.Core.{Core}
 use Rattle.api_server.specs.Rounds.{IsAsked, Round, AreRounds, AreExchanged, events_of}
-use Rattle.api_server.specs.Answered.{RunsBy}
 
 -- How many connections are to be accepted: where no number is given as many as a door may accept.
 abbrev pub wanted : Option ℕ → ℕ

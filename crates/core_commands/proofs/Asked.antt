@@ -5,7 +5,7 @@ use Rattle.outside.specs.Faults.{Rose, HasCauseOf}
 use Rattle.outside.specs.History.{History}
 use Rattle.api_http.specs.Questions.{question}
 use Rattle.api_http.specs.declared.ask.Ask.{Ask}
-use Rattle.api_http.specs.Replies.{Sent}
+use Rattle.api_http.specs.Replies.{Sent, is_of_success}
 use Rattle.store_open.specs.Laws.{HoldsImage}
 use Rattle.settings_machine.specs.World.{Image, World}
 use Rattle.settings_machine.specs.Requests.{Request, Reply, is_success}
@@ -20,8 +20,9 @@ use Rattle.api_core.specs.Asks.{Says}
 use Rattle.api_core.specs.Cores.{core_state}
 use Rattle.api_core.specs.Handled.{IsHandled, Handles}
 use Rattle.api_core.specs.declared.serving.Core.{Core}
-use Rattle.core_commands.specs.Asking.{requests, asked_all, AllSucceed, Succeeds, Stops, AskedBy, AsksEach, AskedLastBy, AsksEachAndLast, is_of_success}
-use Rattle.core_commands.proofs.Replied.{says_success, alone, was_answered}
+use Rattle.core_commands.specs.Asking.{requests, asked_all, AllSucceed, Succeeds, Stops, AskedBy, AsksEach, AskedLastBy, AsksEachAndLast}
+use Rattle.api_core.proofs.Replied.{says_success, alone}
+use Rattle.core_commands.proofs.Replied.{was_answered}
 
 asked-append : (qs ps : List Request) → asked_all (qs ++ ps) ≡ asked_all qs ++ asked_all ps
 asked-append [] ps = refl

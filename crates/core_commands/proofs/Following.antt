@@ -15,7 +15,7 @@ use Rattle.settings_machine.specs.declared.cause.Cause.{Cause}
 use Rattle.settings_machine.specs.declared.cause.Cause.TheVariants as cause
 use Rattle.settings_machine.proofs.Sequences.{after-append}
 use Rattle.machine_disk.specs.Kept.{Folder, CoreState, Kept}
-use Rattle.machine_disk.specs.Ran.{Ran}
+use Rattle.machine_disk.specs.Ran.{Ran, RunsBy}
 use Rattle.machine_disk.proofs.Runs.{ran_none, ran_more}
 use Rattle.machine_disk.proofs.Meanings.{core_holds}
 use Rattle.core_turns.specs.Turned.{AreEvents}
@@ -26,7 +26,7 @@ use Rattle.api_core.specs.Cores.{core_state}
 use Rattle.api_core.specs.Turned.{IsTurned, Turns}
 use Rattle.api_core.specs.declared.serving.Core.{Core}
 use Rattle.core_commands.specs.Asking.{Stops, AskedBy, AsksEach}
-use Rattle.core_commands.specs.Carried.{HasStopped, HasEnded, Comes, core_over, RunsBy, Follows, GoesOnFrom}
+use Rattle.core_commands.specs.Carried.{HasStopped, HasEnded, Comes, core_over, Follows, GoesOnFrom}
 use Rattle.core_commands.specs.Handing.{failed_for, told_reply, HandsSent, HandsCause, HandsJob, Drives}
 use Rattle.core_commands.proofs.Replied.{not_unopened, IsTold, machines, no_memory, disk, says_told, says_fault}
 use Rattle.core_commands.proofs.Fresh.{IsFresh, asked_fresh}

@@ -1,5 +1,5 @@
 -- Requests that are asked one after another, as events of the machine.
-use Rattle.std.specs.Prelude.{◌≡◌, ◌&&◌, ℕ, Bool, true, false, nat_le, List, [], ◌∷◌, ◌++◌, Result, Ok, Err, map}
+use Rattle.std.specs.Prelude.{◌≡◌, true, false, List, [], ◌∷◌, ◌++◌, Result, Ok, Err, map}
 use Rattle.outside.specs.History.{History}
 use Rattle.api_http.specs.Questions.{question}
 use Rattle.api_http.specs.Replies.{Sent}
@@ -84,9 +84,3 @@ pub record AskedLastBy (I : Image) (folder : Folder) (W V : World) (qs : List Re
 pub record AsksEachAndLast (qs : List Request) (q : Request) (result : Result Sent Sent) (c now : Core) (old new : History) : Type 0 where
   pub each : (I : Image) → IsGood I → HoldsImage I c.image → (folder : Folder) (W V : World) → Kept I folder W V old (core_state c)
       → AskedLastBy I folder W V qs q result c now old new
-
--- ---- for private clauses
-
--- Whether a status is one of success.
-abbrev pub is_of_success : ℕ → Bool
-is_of_success status = nat_le 200 status && nat_le status 299

@@ -14,7 +14,7 @@ use Rattle.settings_machine.specs.Events.{Event, after}
 use Rattle.settings_machine.specs.Paid.{IsGood}
 use Rattle.settings_machine.specs.declared.cause.Cause.TheVariants as cause
 use Rattle.machine_disk.specs.Kept.{Folder, CoreState, DiskAt, Kept}
-use Rattle.machine_disk.specs.Ran.{Ran, IsDriven, OpensTo}
+use Rattle.machine_disk.specs.Ran.{Ran, IsDriven, OpensTo, RunsBy}
 use Rattle.store_open.specs.Laws.{IsImageOfFolder, HoldsImage, HasRun}
 use Rattle.store_open.specs.Opening.{Opens}
 use Rattle.store_open.specs.declared.opened.Opened.{Opened}
@@ -89,10 +89,6 @@ HoldsAll W c = (W.held ≡ (core_state c).held) × (W.job ≡ Idle)
 -- A core over a store that was just opened: no job runs.
 abbrev pub core_over : Opened → CoreState
 core_over store = record { place = store.place; held = store.held; job = Idle; faulted = false }
-
--- The programs that were run are those of the events.
-abbrev pub RunsBy : Image → World → List Event → Option (List Run) → Option (List Run) → Type 0
-RunsBy I W events ran_before ran_after = Moves ran_before ran_after (λ r s. r ≡ W.runs → s ≡ (after I W events).runs)
 
 -- From W, where the store is open, requests are asked and turns made, crash included, and it comes to this.
 pub record Follows {T : Type 0} (I : Image) (folder : Folder) (W V : World) (qs : List Request) (Tells : World → T → Type 0) (result : Result T Refusal) (before : CoreState)

@@ -3,23 +3,15 @@ ghost use Rattle.std.specs.Prelude.{◌≡◌, ◌≢◌, All, Ok, Err, IfErr, O
 ghost use Rattle.outside.specs.Told.{Moves};
 ghost use Rattle.outside.specs.Faults.{HasCauseOf};
 ghost use Rattle.api_http.specs.Questions.{question, IsProper};
-ghost use Rattle.api_http.specs.Replies.{refused};
+ghost use Rattle.api_http.specs.Replies.{refused, is_of_success};
 ghost use Rattle.machine_answers.specs.Asks.{request_of};
 ghost use Rattle.api_core.specs.Cores.{core_state, IsSound};
-ghost use Rattle.core_commands.specs.Asking.{AsksEach, AsksEachAndLast, requests, is_of_success};
+ghost use Rattle.core_commands.specs.Asking.{AsksEach, AsksEachAndLast, requests};
 
 use api_core::Core;
 use api_http::{Ask, Refusal, Reply};
 use outside::Disk;
 use std::alloc::Global;
-
-// Whether the reply is one of success.
-fn is_of_success(reply: &Reply) -> bool
-    ensures { result ≡ is_of_success reply.now.status }
-{
-    let status = reply.status();
-    200 <= status && status <= 299
-}
 
 /// Asks one request after another, until one isn't answered with success; the reply to that is answered.
 ///
@@ -45,7 +37,7 @@ pub fn ask_each<D: Disk>(
 {
     for ask in asks {
         let reply = core.handle(alloc, ask, disk);
-        if !is_of_success(&reply) {
+        if !reply.is_of_success() {
             return Err(reply);
         }
     }
@@ -76,7 +68,7 @@ pub fn ask_each_and_last<D: Disk>(
         return Err(reply);
     }
     let reply = core.handle(alloc, last, disk);
-    if is_of_success(&reply) {
+    if reply.is_of_success() {
         Ok(reply)
     } else {
         Err(reply)

@@ -9,7 +9,7 @@ use Rattle.outside.specs.Spawner.{Run}
 use Rattle.outside.specs.Told.{Moves}
 use Rattle.outside.proofs.Told.{moves_stay, moves_then}
 use Rattle.settings_tree.specs.declared.held.Held.{Held}
-use Rattle.settings_machine.specs.World.{Image, World, Job, Idle, Failed, Running, is_running}
+use Rattle.settings_machine.specs.World.{Image, World, Job, Idle, Failed, Running, is_running, KeepsAllButOwed}
 use Rattle.settings_machine.specs.Step.{Answer, turn_next}
 use Rattle.settings_machine.specs.Events.{Event, Turned, after}
 use Rattle.settings_machine.specs.Paid.{IsGood}
@@ -19,7 +19,7 @@ use Rattle.machine_disk.specs.Ran.{Ran}
 use Rattle.machine_disk.proofs.Runs.{ran_none, ran_more}
 use Rattle.store_open.specs.Laws.{HoldsImage}
 use Rattle.core_turns.specs.declared.store.Store.{Store}
-use Rattle.core_turns.specs.Jobs.{failed_with_disk, KeepsAllButOwed}
+use Rattle.core_turns.specs.Jobs.{failed_with_disk}
 use Rattle.core_turns.specs.Turned.{core_at, IsEvent, IsTurn, AreTurns, AreEvents, Turns}
 use Rattle.core_turns.proofs.Running.{core_same, ran_to}
 use Rattle.core_turns.proofs.Causes.{running_fine, first_fine}

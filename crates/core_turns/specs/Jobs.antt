@@ -1,7 +1,6 @@
 -- The job of a core.
-use Rattle.std.specs.Prelude.{◌≡◌, ℕ, ◌+◌, ◌&&◌, Bool, true, false, not, List, length, All, Result, if◌then◌else◌}
+use Rattle.std.specs.Prelude.{ℕ, ◌+◌, ◌&&◌, Bool, true, false, not, List, length, All, Result, if◌then◌else◌}
 use Rattle.settings_tree.specs.declared.entry.Owed.TheVariants as owed
-use Rattle.settings_tree.specs.declared.held.Held.{Held}
 use Rattle.metadata_links.specs.declared.manifest.Manifest.{Manifest}
 use Rattle.metadata_links.specs.Links.{files_of, commands_of}
 use Rattle.settings_machine.specs.World.{Key, Work, Job, Idle, Failed, Running, owes_none}
@@ -37,10 +36,6 @@ failed_to_spawn _ = false
 abbrev pub answer_of : Bool → Result Unit (Unit {0})
 answer_of true = broken
 answer_of false = fine
-
--- Nothing that is held changes but what is owed.
-abbrev pub KeepsAllButOwed : Held → Held → Type 0
-KeepsAllButOwed old new = new ≡ record old { owed = new.owed }
 
 -- ---- the end of a job
 

@@ -3,8 +3,8 @@ ghost use Rattle.std.specs.Prelude.{◌≡◌, ◌<◌, false, [], ◌∷◌, le
 ghost use Rattle.outside.specs.Told.{Moves};
 ghost use Rattle.outside.specs.Faults.{HasCause};
 ghost use Rattle.store_files.specs.Batches.{Follows};
-ghost use Rattle.settings_machine.specs.World.{Running};
-ghost use Rattle.core_turns.specs.Jobs.{job_of, job_after, HasRows, KeepsAllButOwed, left_to_do, failed_with_disk, failed_to_spawn, answer_of};
+ghost use Rattle.settings_machine.specs.World.{Running, KeepsAllButOwed};
+ghost use Rattle.core_turns.specs.Jobs.{job_of, job_after, HasRows, left_to_do, failed_with_disk, failed_to_spawn, answer_of};
 ghost use Rattle.core_turns.specs.Turned.{noted_change, Ends};
 
 use crate::{JobState, Store};

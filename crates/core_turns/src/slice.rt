@@ -3,8 +3,8 @@ ghost use Rattle.std.specs.Prelude.{◌≡◌, ◌≢◌, ◌&&◌, ℕ, ◌-◌
 ghost use Rattle.std.specs.Option.{option_map};
 ghost use Rattle.outside.specs.Told.{Moves};
 ghost use Rattle.outside.specs.Faults.{HasCause};
-ghost use Rattle.settings_machine.specs.World.{is_running};
-ghost use Rattle.core_turns.specs.Jobs.{job_of, HasRows, KeepsAllButOwed, failed_with_disk, failed_to_spawn, answer_of};
+ghost use Rattle.settings_machine.specs.World.{is_running, KeepsAllButOwed};
+ghost use Rattle.core_turns.specs.Jobs.{job_of, HasRows, failed_with_disk, failed_to_spawn, answer_of};
 ghost use Rattle.core_turns.specs.Turned.{Turns};
 
 use crate::{JobState, Store, turn};

@@ -2,9 +2,9 @@
 ghost use Rattle.std.specs.Prelude.{◌≡◌, ◌<◌, true, All, length};
 ghost use Rattle.outside.specs.Told.{Moves};
 ghost use Rattle.outside.specs.Faults.{HasCause};
-ghost use Rattle.settings_machine.specs.World.{Running, is_running};
+ghost use Rattle.settings_machine.specs.World.{Running, is_running, KeepsAllButOwed};
 ghost use Rattle.affected_apply.specs.Sees.{HasRow};
-ghost use Rattle.core_turns.specs.Jobs.{job_of, HasRows, KeepsAllButOwed, left_to_do, failed_with_disk, failed_to_spawn, answer_of};
+ghost use Rattle.core_turns.specs.Jobs.{job_of, HasRows, left_to_do, failed_with_disk, failed_to_spawn, answer_of};
 ghost use Rattle.core_turns.specs.Turned.{IsTurn};
 
 use crate::ending::end;

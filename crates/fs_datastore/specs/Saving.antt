@@ -86,11 +86,6 @@ single_values held place = None
 abbrev pub ShowsMore : Names → Values → History → History → Type 0
 ShowsMore dir more old new = (what : Values) (told : Bool) → Shows (files_below dir (tree_of old)) what told → Shows (files_below dir (tree_of new)) (put_over more what) told
 
--- Only paths below the directory were written, and these values were put over those that stood there.
-pub record HasSaved (dir : Names) (more : Values) (old new : History) : Type 0 where
-  pub touches : Touches (IsBelow dir) old new
-  pub shows : ShowsMore dir more old new
-
 -- Only paths below the directory were written, and after Ok these values were put over those that stood there.
 pub record SavesTo {E : Type 0} (dir : Names) (more : Values) (result : Result Unit E) (old new : History) : Type 0 where
   pub touches : Touches (IsBelow dir) old new

@@ -1,4 +1,3 @@
-pub mod Replied
 pub mod Runs
 pub mod Nodes
 pub mod Connected

@@ -6,7 +6,7 @@ use Rattle.outside.specs.Exchange.{Exchange, fresh}
 use Rattle.outside.specs.History.{History}
 use Rattle.outside.specs.Spawner.{Run}
 use Rattle.api_http.specs.Questions.{question}
-use Rattle.api_http.specs.Replies.{Sent}
+use Rattle.api_http.specs.Replies.{Sent, is_of_success}
 use Rattle.api_http.specs.Requests.{Asks}
 use Rattle.api_http.specs.declared.ask.Ask.{Ask}
 use Rattle.door_requests.specs.Hearing.{input_of, IsHeard}
@@ -29,9 +29,9 @@ use Rattle.api_core.specs.Handled.{IsHandled, Handles}
 use Rattle.api_core.specs.Turned.{IsTurned, Turns}
 use Rattle.api_core.specs.declared.serving.Core.{Core}
 use Rattle.load_run.specs.declared.counts.Counts.{Counts}
-use Rattle.load_run.specs.Counts.{no_counts, with_reply, with_turn, with_event, with_events, is_of_success}
+use Rattle.load_run.specs.Counts.{no_counts, with_reply, with_turn, with_event, with_events}
 use Rattle.load_run.specs.Counted.{IsAskedBy, AreAskedBy, requests_in, AskedIdle, CountedBy, Counted}
-use Rattle.load_run.proofs.Replied.{says_success, alone}
+use Rattle.api_core.proofs.Replied.{says_success, alone}
 
 clash : (b : Bool) → b ≡ false → b ≡ true → ⊥
 clash true off on = absurd (cc off)

@@ -1,5 +1,5 @@
 -- What is counted of the events of a run.
-use Rattle.std.specs.Prelude.{ℕ, ◌+◌, ◌&&◌, Bool, true, false, nat_le, nat_lt, List, [], ◌∷◌, length}
+use Rattle.std.specs.Prelude.{◌+◌, Bool, true, false, nat_lt, List, [], ◌∷◌, length}
 use Rattle.settings_machine.specs.World.{Image, World, is_running}
 use Rattle.settings_machine.specs.Requests.{is_success}
 use Rattle.settings_machine.specs.Step.{request_next, turn_next}
@@ -33,7 +33,3 @@ with_event I W _ n = n
 abbrev pub with_events : Image → World → List Event → Counts → Counts
 with_events I W [] n = n
 with_events I W (e ∷ es) n = with_events I (next I W e) es (with_event I W e n)
-
--- Whether a status is one of success.
-abbrev pub is_of_success : ℕ → Bool
-is_of_success status = nat_le 200 status && nat_le status 299

@@ -9,8 +9,9 @@ ghost use Rattle.door_requests.specs.Hearing.{IsHeard};
 ghost use Rattle.outside.specs.Spawner.{Run};
 ghost use Rattle.api_http.specs.Questions.{question, IsProper};
 ghost use Rattle.settings_machine.specs.World.{Idle};
+ghost use Rattle.api_http.specs.Replies.{is_of_success};
 ghost use Rattle.api_core.specs.Cores.{core_state, IsSound};
-ghost use Rattle.load_run.specs.Counts.{with_reply, is_of_success};
+ghost use Rattle.load_run.specs.Counts.{with_reply};
 ghost use Rattle.load_run.specs.Counted.{Counted};
 
 use crate::counts::Counts;
@@ -21,14 +22,6 @@ use door_requests::{Heard, hear, say};
 use key_names::Bytes;
 use outside::{Disk, Door};
 use std::alloc::{AllocError, Global};
-
-// Whether the reply is one of success.
-fn is_of_success(reply: &Reply) -> bool
-    ensures { result ≡ is_of_success reply.now.status }
-{
-    let status = reply.status();
-    200 <= status && status <= 299
-}
 
 // What comes to a door: one connection with these bytes, in one piece.
 fn input_of(alloc: Global, request: &Bytes) -> Result<Input, AllocError>
@@ -103,7 +96,7 @@ fn count(counts: &mut Counts, reply: &Reply) -> Result<(), AllocError>
     if reply.status() >= 500 {
         return Err(AllocError);
     }
-    if is_of_success(reply) {
+    if reply.is_of_success() {
         return counts.count_ok();
     }
     counts.count_refused()

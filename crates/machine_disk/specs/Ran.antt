@@ -1,8 +1,10 @@
 -- A call that makes these events of the machine, crash included.
-use Rattle.std.specs.Prelude.{◌≡◌, ◌⊎◌, ℕ, ◌-◌, ◌≤◌, Bool, true, false, List, [], ◌∷◌, ◌++◌}
+use Rattle.std.specs.Prelude.{◌≡◌, ◌⊎◌, ℕ, ◌-◌, ◌≤◌, Bool, true, false, List, [], ◌∷◌, ◌++◌, Option}
 use Rattle.outside.specs.Tree.{Tree}
 use Rattle.outside.specs.History.{History, tree_of, EachImage, IsSettled}
 use Rattle.outside.specs.Since.{EachSince}
+use Rattle.outside.specs.Spawner.{Run}
+use Rattle.outside.specs.Told.{Moves}
 use Rattle.settings_machine.specs.World.{Image, World, is_running}
 use Rattle.settings_machine.specs.Requests.{Request, Reply}
 use Rattle.settings_machine.specs.Step.{Outcome, Answered, WithoutMemory, Unopened, Faulted, request_next, turn_next, opened}
@@ -117,3 +119,7 @@ pub record Starts (I : Image) (W : World) (h : History) : Type 0 where
   pub job : is_running W.job ≡ false
   pub paid : Paid I W
   pub settled : IsSettled h
+
+-- The programs that were run grew by those of the events, where they were those of the world.
+abbrev pub RunsBy : Image → World → List Event → Option (List Run) → Option (List Run) → Type 0
+RunsBy I W events ran_before ran_after = Moves ran_before ran_after (λ r s. r ≡ W.runs → s ≡ (after I W events).runs)

@@ -2,16 +2,12 @@
 use Rattle.std.specs.Prelude.{◌≡◌, ◌⊎◌, ℕ, ◌+◌, ◌≤◌}
 use Rattle.outside.specs.Names.{Names}
 use Rattle.outside.specs.Tree.{Tree}
-use Rattle.outside.specs.History.{Change, replaced, scribbled, synced, History, begun, next, tree_of, IsImage, EachImage, IsSettled}
+use Rattle.outside.specs.History.{Change, replaced, scribbled, synced, History, begun, next, IsImage, EachImage}
 
 -- New goes on from old, and a crash at any moment between them, within a call too, leaves a tree that has P.
 abbrev pub EachSince : (Tree → Type 0) → History → History → Type 0
 EachSince P old (begun tree) = (begun tree ≡ old) × EachImage P (begun tree)
 EachSince P old (next change history) = ((next change history ≡ old) ⊎ EachSince P old history) × EachImage P (next change history)
-
--- Where old is settled, a crash at any moment from old to new leaves a tree to which the tree of old stands in this relation.
-pub record LeavesOnly (P : Tree → Tree → Type 0) (old new : History) : Type 0 where
-  pub each : IsSettled old → EachSince (P (tree_of old)) old new
 
 -- The present moment, as a number of changes.
 abbrev pub clock : History → ℕ

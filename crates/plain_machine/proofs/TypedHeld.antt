@@ -9,8 +9,7 @@ use Rattle.settings_maps.specs.Maps.{value_at}
 use Rattle.settings_tree.specs.declared.held.Held.{Held}
 use Rattle.typed_settings.specs.declared.row.Row.{Row}
 use Rattle.settings_machine.specs.Typed.{HasTypedSettings, IsTypedHeld}
-use Rattle.settings_machine.specs.World.{Key}
-use Rattle.plain_machine.specs.Turns.{KeepsAllButOwed}
+use Rattle.settings_machine.specs.World.{Key, KeepsAllButOwed}
 
 abbrev Maps : Type 0
 Maps = FinMap bytes_cmp (FinMap key_cmp Pending)

@@ -1,7 +1,6 @@
 -- What the parts of a turn make of the world, in the machine's words.
 use Rattle.std.specs.Prelude.{◌≡◌, ℕ, Bool, not, ◌&&◌, List, [], ◌∷◌, if◌then◌else◌}
 use Rattle.settings_tree.specs.declared.entry.Owed.{Owed}
-use Rattle.settings_tree.specs.declared.held.Held.{Held}
 use Rattle.template_eval.specs.Rendered.{Rendered}
 use Rattle.settings_tree.specs.declared.entry.Owed.TheVariants as owed
 use Rattle.settings_machine.specs.declared.cause.Cause.{Cause}
@@ -45,10 +44,6 @@ IsTodo w (todo.Command service words) = IsFirstCommand w service words.items
 IsTodo w (todo.End since again) = IsAtEnd w since again
 
 -- ---- what is made of it
-
--- Of what is held, what is owed alone may change.
-abbrev pub KeepsAllButOwed : Held → Held → Type 0
-KeepsAllButOwed old new = new ≡ record old { owed = new.owed }
 
 -- Why a turn that came to this fails the job, where it says no more.
 abbrev pub fault_of : TurnAnswer → Cause

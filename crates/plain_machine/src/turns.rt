@@ -2,13 +2,13 @@
 ghost use Rattle.std.specs.Prelude.{◌≡◌, ◌≢◌, List, Ok, IfOk, OnOk, OnErr};
 ghost use Rattle.template_eval.specs.declared.render_error.RenderError.TheVariants.{Memory as NoMemory};
 ghost use Rattle.settings_machine.specs.declared.cause.Cause.TheVariants as cause;
-ghost use Rattle.settings_machine.specs.World.{Image, Failed};
+ghost use Rattle.settings_machine.specs.World.{Image, Failed, KeepsAllButOwed};
 ghost use Rattle.settings_machine.specs.Step.{with_job};
 ghost use Rattle.settings_machine.specs.JobSeen.{job_seen};
 ghost use Rattle.settings_machine.specs.Typed.{IsTypedHeld};
 ghost use Rattle.typed_settings.specs.declared.row.Row.{Row};
 ghost use Rattle.plain_machine.specs.Steps.{IsTurned};
-ghost use Rattle.plain_machine.specs.Turns.{KeepsAllButOwed, IsWritten, IsFileTurn, IsCommandRun, IsCommandTurn, IsLastTurn, fault_of, resting_job, unrested};
+ghost use Rattle.plain_machine.specs.Turns.{IsWritten, IsFileTurn, IsCommandRun, IsCommandTurn, IsLastTurn, fault_of, resting_job, unrested};
 ghost use Rattle.plain_machine.specs.Worlds.{world_of};
 
 use crate::files::{path_of, set_file};

@@ -9,14 +9,14 @@ use Rattle.settings_machine.specs.Step.{opened}
 use Rattle.settings_machine.specs.Events.{Event}
 use Rattle.settings_machine.specs.Paid.{IsGood}
 use Rattle.machine_disk.specs.Kept.{Folder, CoreState, DiskAt}
-use Rattle.machine_disk.specs.Ran.{Ran, OpensTo}
+use Rattle.machine_disk.specs.Ran.{Ran, OpensTo, RunsBy}
 use Rattle.store_open.specs.Laws.{IsImageOfFolder, HasRun}
 use Rattle.store_open.specs.Opening.{Opens}
 use Rattle.store_open.specs.declared.opened.Opened.{Opened}
 use Rattle.store_open.specs.declared.open_error.OpenError.{OpenError}
 use Rattle.command_outcome.specs.Ends.{Outcome}
 use Rattle.command_outcome.specs.declared.refusal.Refusal.TheVariants as refused
-use Rattle.core_commands.specs.Carried.{core_over, RunsBy}
+use Rattle.core_commands.specs.Carried.{core_over}
 use Rattle.core_commands.specs.Handing.{not_opened}
 use Rattle.api_server.specs.Rounds.{Round, AreExchanged}
 use Rattle.api_server.specs.Serving.{AreServed}

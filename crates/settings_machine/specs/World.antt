@@ -81,6 +81,10 @@ owes_none (Keys (k ∷ ks)) = false
 abbrev pub due : Image → Held → Owed
 due I held = if bytes_eq held.image I.text then held.owed else All
 
+-- Of what is held, what is owed alone may change.
+abbrev pub KeepsAllButOwed : Held → Held → Type 0
+KeepsAllButOwed old new = new ≡ record old { owed = new.owed }
+
 -- ---- the job
 
 -- A running job: the files and the commands that are still to do, the keys whose values were changed since it began, and whether it was asked for again.

@@ -9,13 +9,12 @@ use Rattle.settings_machine.specs.Events.{Event, after}
 use Rattle.settings_machine.specs.Paid.{IsGood}
 use Rattle.settings_machine.proofs.Programs.{jobs_run_in_order}
 use Rattle.machine_disk.specs.Kept.{Folder}
-use Rattle.machine_disk.specs.Ran.{RunsTo}
+use Rattle.machine_disk.specs.Ran.{RunsTo, RunsBy}
 use Rattle.machine_disk.specs.Store.{Recovers}
 use Rattle.store_events.specs.Laws.{HasStayed}
 use Rattle.store_events.proofs.Stays.{same_disks_stay}
 use Rattle.command_outcome.specs.Ends.{Outcome}
 use Rattle.command_words.specs.Orders.{Order}
-use Rattle.core_commands.specs.Carried.{RunsBy}
 use Rattle.settings_run.specs.Laws.{Begins}
 use Rattle.settings_run.specs.Events.{Makes}
 use Rattle.settings_run.specs.Headline.{IsRun, acknowledges_all}

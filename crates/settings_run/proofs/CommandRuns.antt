@@ -16,7 +16,7 @@ use Rattle.settings_machine.specs.Events.{Event, Opened, Succeeded, Failing, aft
 use Rattle.settings_machine.specs.Paid.{Paid, IsGood}
 use Rattle.machine_disk.specs.Store.{HasStore}
 use Rattle.machine_disk.specs.Kept.{Folder, DiskAt, Kept}
-use Rattle.machine_disk.specs.Ran.{Before, OpensTo, OpensNot}
+use Rattle.machine_disk.specs.Ran.{Before, OpensTo, OpensNot, RunsBy}
 use Rattle.machine_disk.proofs.Runs.{runs_to, ran_none, opens_kept}
 use Rattle.machine_disk.proofs.Meanings.{core_holds}
 use Rattle.machine_disk.proofs.Quiet.{calm_images}
@@ -29,7 +29,7 @@ use Rattle.store_open.proofs.MachineRuns.{openings_run, refusals_keep}
 use Rattle.command_outcome.specs.Ends.{Outcome}
 use Rattle.command_outcome.specs.declared.refusal.Refusal.TheVariants as refused
 use Rattle.core_commands.specs.Lines.{IsSettingsLine, IsJobLine}
-use Rattle.core_commands.specs.Carried.{set_requests, apply_requests, core_over, RunsBy, GoesOn, Makes}
+use Rattle.core_commands.specs.Carried.{set_requests, apply_requests, core_over, GoesOn, Makes}
 use Rattle.core_commands.specs.Handing.{not_opened}
 use Rattle.settings_cmd.specs.Gets.{Answers, AnswersOpening}
 use Rattle.settings_cmd.specs.Serving.{served, OpensAndServes, Serves}

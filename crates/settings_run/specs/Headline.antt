@@ -12,7 +12,7 @@ use Rattle.settings_machine.specs.Events.{Event, Began, next, after}
 use Rattle.settings_machine.specs.Jobs.{RunInOrder}
 use Rattle.settings_machine.specs.Paid.{IsCurrent, Paid, IsGood}
 use Rattle.machine_disk.specs.Kept.{Folder}
-use Rattle.machine_disk.specs.Ran.{AtPrefix, AtLatePrefix, IsWorldOf}
+use Rattle.machine_disk.specs.Ran.{AtPrefix, AtLatePrefix, IsWorldOf, RunsBy}
 use Rattle.machine_disk.specs.Store.{HasStore, HasFiles, Recovers}
 use Rattle.store_open.specs.Laws.{IsImageOfFolder}
 use Rattle.store_events.specs.Laws.{IsBare, IsBeginning, HasBegun}
@@ -20,7 +20,6 @@ use Rattle.version_links.specs.declared.version.Version.{Version}
 use Rattle.command_outcome.specs.Ends.{Outcome, Ends}
 use Rattle.command_outcome.specs.declared.refusal.Refusal.TheVariants as refused
 use Rattle.command_words.specs.Orders.{Order, Spells, init, serve, migrate}
-use Rattle.core_commands.specs.Carried.{RunsBy}
 use Rattle.settings_run.specs.Laws.{Begins}
 use Rattle.settings_run.specs.Events.{Makes, MovesBy}
 

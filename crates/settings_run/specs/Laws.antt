@@ -14,7 +14,7 @@ use Rattle.settings_machine.specs.Step.{opened}
 use Rattle.settings_machine.specs.Events.{Event, Opened, Succeeded, Failing, Began, next, after, faulted_after}
 use Rattle.settings_machine.specs.Paid.{IsGood}
 use Rattle.machine_disk.specs.Kept.{Folder}
-use Rattle.machine_disk.specs.Ran.{RunsTo, Starts}
+use Rattle.machine_disk.specs.Ran.{RunsTo, Starts, RunsBy}
 use Rattle.machine_disk.specs.Store.{is_image, bytes_at, Recovers}
 use Rattle.store_open.specs.Laws.{IsImageOfFolder, IsRefusal}
 use Rattle.store_open.specs.Opening.{Opens}
@@ -23,7 +23,7 @@ use Rattle.store_open.specs.declared.opened.Opened as opened_store
 use Rattle.command_outcome.specs.Ends.{Outcome}
 use Rattle.command_outcome.specs.declared.refusal.Refusal.{Refusal}
 use Rattle.command_outcome.specs.declared.refusal.Refusal.TheVariants as refused
-use Rattle.core_commands.specs.Carried.{set_requests, apply_requests, Comes, RunsBy, CarriesOut}
+use Rattle.core_commands.specs.Carried.{set_requests, apply_requests, Comes, CarriesOut}
 use Rattle.core_commands.specs.Committing.{ComesTo}
 use Rattle.core_commands.specs.Lines.{IsSettingsLine, IsJobLine}
 use Rattle.core_commands.specs.Handing.{not_opened}

@@ -64,10 +64,6 @@ pub record IsTarget (target : Target) : Type 0 where
 abbrev pub numbers : Target → List ℕ
 numbers target = target.version.major ∷ target.version.minor ∷ target.version.patch ∷ target.id ∷ []
 
--- The path of the link that is named like the version.
-abbrev pub patch_link : Version → Names
-patch_link version = store (patch_name version.major version.minor version.patch)
-
 -- The path of a data directory.
 abbrev pub directory : Target → Names
 directory target = store (name_of (numbers target))

@@ -1,8 +1,7 @@
 use Rattle.std.proofs.Common.{rules, ◌≡◌, true, false, refl, ◌∙◌}
 use Rattle.outside.proofs.Told.{moves_stay, moves_then}
-use Rattle.api_http.specs.Replies.{refused}
+use Rattle.api_http.specs.Replies.{refused, is_of_success}
 use Rattle.api_http.specs.declared.refusal.Refusal.TheVariants.{DiskFault}
-use Rattle.core_commands.specs.Asking.{is_of_success}
 use Rattle.core_commands.proofs.Asked.{none_asked, asked_more, asked_last, stop_cause}
 use Rattle.core_commands.proofs.Replied.{success_status, success_no_fault}
 use Rattle.core_commands.proofs.asking.ask_each.Goals as goal

@@ -1,9 +1,9 @@
 use Rattle.std.proofs.Common.{rules, ◌≡◌, true, false, Result, subst}
 use Rattle.outside.proofs.Told.{moves_map, moves_then}
 use Rattle.api_http.specs.Questions.{question}
-use Rattle.api_http.specs.Replies.{Sent}
+use Rattle.api_http.specs.Replies.{Sent, is_of_success}
 use Rattle.machine_answers.specs.Asks.{request_of}
-use Rattle.core_commands.specs.Asking.{requests, AsksEach, is_of_success}
+use Rattle.core_commands.specs.Asking.{requests, AsksEach}
 use Rattle.core_commands.proofs.Asked.{one_last, last_refused, first_refused}
 use Rattle.core_commands.proofs.asking.ask_each_and_last.Goals as goal
 

@@ -1,8 +1,8 @@
 use Rattle.std.proofs.Common.{◌≡◌, ◌&&◌, true, None}
 use Rattle.outside.specs.Told.{Moves}
 use Rattle.outside.specs.Faults.{HasCause}
-use Rattle.settings_machine.specs.World.{is_running}
-use Rattle.core_turns.specs.Jobs.{job_of, HasRows, KeepsAllButOwed, left_to_do, failed_with_disk, failed_to_spawn, answer_of}
+use Rattle.settings_machine.specs.World.{is_running, KeepsAllButOwed}
+use Rattle.core_turns.specs.Jobs.{job_of, HasRows, left_to_do, failed_with_disk, failed_to_spawn, answer_of}
 use Rattle.core_turns.proofs.Slices.{SoFar}
 use Rattle.core_turns.proofs.slice.turns.Given as goal
 

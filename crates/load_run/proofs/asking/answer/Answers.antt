@@ -1,8 +1,9 @@
 use Rattle.std.proofs.Common.{◌≡◌, refl}
 use Rattle.outside.proofs.Told.{moves_map}
+use Rattle.api_http.specs.Replies.{is_of_success}
 use Rattle.api_http.specs.Questions.{question}
 use Rattle.machine_answers.specs.Asks.{request_of}
-use Rattle.load_run.specs.Counts.{with_reply, is_of_success}
+use Rattle.load_run.specs.Counts.{with_reply}
 use Rattle.load_run.proofs.Runs.{reply_is, one_reply, heard_by, counted_reply}
 use Rattle.load_run.proofs.asking.answer.Goals as goal
 

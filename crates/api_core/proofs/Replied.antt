@@ -1,6 +1,6 @@
--- What replies tell.
+-- What replies tell of what became of their requests.
 use Rattle.std.proofs.Common.{◌≡◌, false, List, [], refl, ◌∙◌, ap}
-use Rattle.api_http.specs.Replies.{Sent, reply_text, status_of}
+use Rattle.api_http.specs.Replies.{Sent, reply_text, status_of, is_of_success}
 use Rattle.api_http.specs.declared.answer.Answer.{Answer}
 use Rattle.api_http.specs.declared.answer.Answer.TheVariants as answer
 use Rattle.settings_machine.specs.Requests as machine
@@ -10,7 +10,6 @@ use Rattle.settings_machine.specs.Events.{Event}
 use Rattle.machine_disk.specs.Ran.{Reopens}
 use Rattle.machine_answers.specs.Answers.{refusal_of, IsAnswerOf}
 use Rattle.api_core.specs.Asks.{Says}
-use Rattle.load_run.specs.Counts.{is_of_success}
 
 refused_status : (r : machine.Refusal) → is_of_success (status_of (refusal_of r)).0 ≡ false
 refused_status (machine.BadType key wanted) = refl
