@@ -1,5 +1,5 @@
 //! A writer of the system, as standard output, as a sink.
-ghost use Rattle.std.specs.Prelude.{◌≤◌, length, None, IfOk};
+ghost use Rattle.std.specs.Prelude.{◌≡◌, ◌≤◌, length, None, IfOk};
 
 use crate::faults::{Faults, written_of};
 use outside::{Failed, Sink};
@@ -18,6 +18,9 @@ fn write_once(writer: &mut impl Write, piece: &[u8]) -> io::Result<usize>
     Err(io::Error::from(ErrorKind::Interrupted))
 }
 
+// The number of the error of a descriptor that is no open file.
+const EBADF: i32 = 9;
+
 /// A sink over a writer, as standard output. Each error of the writer is a fault, and so is a write that takes nothing
 /// of a piece that isn't empty.
 #[derive(Drop)]
@@ -31,6 +34,17 @@ impl<W: Write + Drop> RealSink<W> {
     pub fn new(writer: W) -> RealSink<W> {
         let faults = Faults::new();
         RealSink { writer, faults }
+    }
+
+    /// Whether the writer's descriptor is no open file, as where a shell has closed it: the first file that a program opens would
+    /// take its place, and get what is printed. It is asked by a write of no bytes, which counts as no fault.
+    pub fn is_closed(&mut self) -> bool
+        ensures { self.new.faults ≡ self.old.faults }
+    {
+        match self.writer.write(b"") {
+            Ok(_) => false,
+            Err(e) => e.raw_os_error() == Some(EBADF),
+        }
     }
 }
 

@@ -12,6 +12,9 @@ use std::rt::Env;
 /// The status of a program that could not make its devices for want of memory, as that of a run.
 const OUT_OF_MEMORY: u8 = 1;
 
+/// The status of a program whose standard output is closed, as that of a run whose output failed.
+const UNWRITTEN: u8 = 12;
+
 fn main(rt: HostRuntime) -> ExitCode {
     match status_of(&rt) {
         Ok(status) => ExitCode::from(status),
@@ -22,11 +25,14 @@ fn main(rt: HostRuntime) -> ExitCode {
     }
 }
 
-// The status of the run.
+// The status of the run. Where standard output is closed nothing is asked: the socket would take its place, and get what is printed.
 fn status_of(rt: &HostRuntime) -> io::Result<u8> {
+    let mut out = RealSink::new(rt.stdout());
+    if out.is_closed() {
+        return Ok(UNWRITTEN);
+    }
     let words = words_of(rt)?;
     let mut link = RealLink::new(rt.clone()?, ".")?;
-    let mut out = RealSink::new(rt.stdout());
     Ok(run_client(rt.alloc(), &words, &mut link, &mut out))
 }
 
