@@ -22,7 +22,8 @@ use Rattle.migrate_chain.specs.Starting.{HasBadJournal, IsDamagedAt}
 use Rattle.migrate_chain.specs.Moving.{HasMoved, Ends, IsAnswer, IsBehind, IsRefusal}
 
 -- The store has moved from the place along the steps that lead to the version.
-pub record HasMigrated (place : Place) (held : Held) (to : Version) (transitions : List Transition) (migrations : List Named) (before after : Option (List Mapped)) (tree : Tree) : Type 0 where
+pub record HasMigrated (place : Place) (held : Held) (to : Version) (transitions : List Transition) (migrations : List Named)
+    (before after : Option (List Mapped)) (tree : Tree) : Type 0 where
   pub way : List Transition
   pub is_way : IsWay transitions place.version to way
   pub moved : HasMoved (tasks_of migrations (is_back place.version to) way) to held before after tree
@@ -33,10 +34,13 @@ pub record IsThere (place : Place) (held : Held) (format : ℕ) (to : Version) (
   pub format_is : format ≡ 2
   pub store : HasStore place held format tree
 
--- What the mapper did for a move that met this error: nothing, or a part of the way's tasks, the first of them on what was held. A refusal is that of the next task, and the one that was noted.
-pub record HasEnded (place : Place) (held : Held) (to : Version) (transitions : List Transition) (migrations : List Named) (before after : Option (List Mapped)) (refused_before refused_after : Option (List Refused)) (error : MoveError) : Type 0 where
+-- What the mapper did for a move that met this error: nothing, or a part of the way's tasks, the first of them on what was held. A refusal is that of
+-- the next task, and the one that was noted.
+pub record HasEnded (place : Place) (held : Held) (to : Version) (transitions : List Transition) (migrations : List Named)
+    (before after : Option (List Mapped)) (refused_before refused_after : Option (List Refused)) (error : MoveError) : Type 0 where
   pub ended : ((after ≡ before) × (refused_after ≡ refused_before) × (IsRefusal error → ⊥))
-      ⊎ ((way : List Transition) × IsWay transitions place.version to way × Ends (tasks_of migrations (is_back place.version to) way) held before after refused_before refused_after error)
+      ⊎ ((way : List Transition) × IsWay transitions place.version to way
+      × Ends (tasks_of migrations (is_back place.version to) way) held before after refused_before refused_after error)
 
 -- The links lead to a data directory that stands for something.
 pub record HasSome (tree : Tree) : Type 0 where
@@ -46,7 +50,8 @@ pub record HasSome (tree : Tree) : Type 0 where
   pub store : HasStore place held format tree
 
 -- A store is moved to a version. What is said of a store and of images is said of one that was there at the start, on a settled disk.
-pub record Migrates (to : Version) (transitions : List Transition) (migrations : List Named) (before after : Option (List Mapped)) (refused_before refused_after : Option (List Refused)) (result : Result Moved MoveError) (old new : History) : Type 0 where
+pub record Migrates (to : Version) (transitions : List Transition) (migrations : List Named) (before after : Option (List Mapped))
+    (refused_before refused_after : Option (List Refused)) (result : Result Moved MoveError) (old new : History) : Type 0 where
   -- At every moment the store is as it was, or it has moved: all tasks of the way were carried out, once and in order.
   pub any_moment : (place : Place) (held : Held) (format : ℕ) → IsSettled old → HasStore place held format (tree_of old)
       → EachSince (λ image. HasStore place held format image ⊎ HasMigrated place held to transitions migrations before after image) old new
@@ -65,9 +70,11 @@ pub record Migrates (to : Version) (transitions : List Transition) (migrations :
   -- After Ok the mapper has refused nothing.
   pub not_refused : OnOk result (refused_after ≡ refused_before)
   -- After every error but a failure of the disk it is as it was, at every moment.
-  pub kept : IfErr result (λ e. e ≢ Failed → (place : Place) (held : Held) (format : ℕ) → IsSettled old → HasStore place held format (tree_of old) → EachSince (HasStore place held format) old new)
+  pub kept : IfErr result (λ e. e ≢ Failed → (place : Place) (held : Held) (format : ℕ) → IsSettled old → HasStore place held format (tree_of old)
+      → EachSince (HasStore place held format) old new)
   -- Whatever error is met, the mapper carried out the tasks of the way from the first on, up to the one that it refused.
-  pub ended : IfErr result (λ e. (place : Place) (held : Held) (format : ℕ) → HasStore place held format (tree_of old) → HasEnded place held to transitions migrations before after refused_before refused_after e)
+  pub ended : IfErr result (λ e. (place : Place) (held : Held) (format : ℕ) → HasStore place held format (tree_of old)
+      → HasEnded place held to transitions migrations before after refused_before refused_after e)
   -- Nothing is changed outside the folder `store`, and nothing at all where no store or a bad link is.
   pub outside : (place : Place) → Resolves (tree_of old) (at_place place) → Touches (IsBelow (codes "store" ∷ [])) old new
   pub no_store : IsErrOf result NoStore → Resolves (tree_of old) nowhere × (new ≡ old)
@@ -75,4 +82,5 @@ pub record Migrates (to : Version) (transitions : List Transition) (migrations :
   -- The other refusals of what is there, and of the plan.
   pub bad_journal : (path : Names) → IsErrOf result (BadJournal path) → HasBadJournal path old
   pub damaged : (path : Names) → IsErrOf result (Damaged path) → IsDamagedAt path old new
-  pub missing : (at target : Version) → IsErrOf result (Missing at target) → (place : Place) × Resolves (tree_of old) (at_place place) × HasNoPlan transitions place.version to at target
+  pub missing : (at target : Version) → IsErrOf result (Missing at target)
+      → (place : Place) × Resolves (tree_of old) (at_place place) × HasNoPlan transitions place.version to at target

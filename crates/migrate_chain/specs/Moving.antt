@@ -34,7 +34,8 @@ pub record IsPartly (tasks : List Task) (held : Held) (before after : Option (Li
   pub carried : IsCarried first held before after reached
 
 -- The tasks were carried out up to one that met this error, which is noted where it is a refusal.
-pub record IsStopped (tasks : List Task) (held : Held) (before after : Option (List Mapped)) (refused_before refused_after : Option (List Refused)) (error : MapperError) : Type 0 where
+pub record IsStopped (tasks : List Task) (held : Held) (before after : Option (List Mapped))
+    (refused_before refused_after : Option (List Refused)) (error : MapperError) : Type 0 where
   pub first : List Task
   pub task : Task
   pub left : List Task

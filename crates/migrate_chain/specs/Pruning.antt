@@ -30,7 +30,8 @@ pub record Prunes (result : Result ℕ PruneError) (old new : History) : Type 0 
   -- On a settled disk this is so from the start.
   pub kept : (place : Place) (held : Held) (format : ℕ) → IsSettled old → HasStore place held format (tree_of old) → EachSince (HasStore place held format) old new
   -- After Ok nothing is left below another data directory.
-  pub emptied : OnOk result ((place : Place) → Resolves (tree_of old) (at_place place) → (path : Names) → IsLeftOver place.directory path → node_at (tree_of new) path ≡ None)
+  pub emptied : OnOk result ((place : Place) → Resolves (tree_of old) (at_place place)
+      → (path : Names) → IsLeftOver place.directory path → node_at (tree_of new) path ≡ None)
   -- The answer is how many nodes were there.
   pub counted : IfOk result (λ count. (place : Place) → Resolves (tree_of old) (at_place place) → SoMany (IsLeftOver place.directory) (paths_in_store old) count)
   -- Ok comes only where the links lead to a data directory.

@@ -51,7 +51,8 @@ pub(crate) fn carry_out<M: Mapper>(
     requires { IsTrue (names_known migrations.now transition.now) }
     ensures carried { IfOk result (IsCarried (tasks_in migrations.now back transition.now) held (M.mapped mapper.old) (M.mapped mapper.new)) }
     ensures not_refused { OnOk result (M.refused mapper.new ≡ M.refused mapper.old) }
-    ensures stopped { IfErr result (IsStopped (tasks_in migrations.now back transition.now) held (M.mapped mapper.old) (M.mapped mapper.new) (M.refused mapper.old) (M.refused mapper.new)) }
+    ensures stopped { IfErr result (IsStopped (tasks_in migrations.now back transition.now) held
+        (M.mapped mapper.old) (M.mapped mapper.new) (M.refused mapper.old) (M.refused mapper.new)) }
     ensures carries { OnOk result (M.carries mapper.old mapper.new) }
     ensures stops { IfErr result (λ e. M.stops e mapper.old mapper.new) }
     ensures cause { HasNamedCause (λ name. MapperError.Failed name) (M.faults mapper.old) (M.faults mapper.new) result }

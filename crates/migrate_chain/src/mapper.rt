@@ -42,7 +42,8 @@ pub trait Mapper {
         back: bool,
         held: &Held,
     ) -> Result<Held, MapperError>
-        ensures mapped { IfOk result (λ made. mapped self.new ≡ with_more (mapped self.old) (record { task = task_of name.now work.now back; input = held.now; output = made } ∷ [])) }
+        ensures mapped { IfOk result (λ made. mapped self.new
+            ≡ with_more (mapped self.old) (record { task = task_of name.now work.now back; input = held.now; output = made } ∷ [])) }
         ensures not_mapped { OnErr result (mapped self.new ≡ mapped self.old) }
         ensures made { IfOk result (λ made. Makes (task_of name.now work.now back) held.now made) }
         ensures kept { KeepsPrefixRule held.now → IfOk result (Kept held.now) }

@@ -38,7 +38,8 @@ pub fn migrate_by<D: Disk, M: Mapper>(
     release: &Release,
     mapper: &mut M,
 ) -> Result<Moved, MoveError>
-    ensures migrates { Moves (D.told disk.old) (D.told disk.new) (Migrates to.now release.now.transitions.items release.now.migrations.items (M.mapped mapper.old) (M.mapped mapper.new) (M.refused mapper.old) (M.refused mapper.new) result) }
+    ensures migrates { Moves (D.told disk.old) (D.told disk.new) (Migrates to.now release.now.transitions.items release.now.migrations.items
+        (M.mapped mapper.old) (M.mapped mapper.new) (M.refused mapper.old) (M.refused mapper.new) result) }
     ensures carries { OnOk result (M.carries mapper.old mapper.new) }
     ensures stopped { IfErr result (StopsBy M.carries M.stops mapper.old mapper.new) }
     ensures mapper_cause { HasNamedCause (λ name. MoveError.Spawn name) (M.faults mapper.old) (M.faults mapper.new) result }

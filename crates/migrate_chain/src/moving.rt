@@ -69,10 +69,12 @@ fn copy_along<D: Disk, M: Mapper>(
 ) -> Result<Names, MoveError>
     requires { IsTrue (list_all (names_known migrations.now) (map (λ t. t.now) way.now)) }
     ensures others { Moves (D.told disk.old) (D.told disk.new) TouchesOthers }
-    ensures copied { IfOk result (λ target. (made : World) × IsCarried (tasks_of migrations.now back (map (λ t. t.now) way.now)) held (M.mapped mapper.old) (M.mapped mapper.new) made
+    ensures copied { IfOk result (λ target. (made : World) × IsCarried (tasks_of migrations.now back (map (λ t. t.now) way.now)) held
+        (M.mapped mapper.old) (M.mapped mapper.new) made
         × Moves (D.told disk.old) (D.told disk.new) (IsSaved to.now (owing_all made) target)) }
     ensures not_refused { OnOk result (M.refused mapper.new ≡ M.refused mapper.old) }
-    ensures ends_early { IfErr result (EndsEarly (tasks_of migrations.now back (map (λ t. t.now) way.now)) held (M.mapped mapper.old) (M.mapped mapper.new) (M.refused mapper.old) (M.refused mapper.new)) }
+    ensures ends_early { IfErr result (EndsEarly (tasks_of migrations.now back (map (λ t. t.now) way.now)) held
+        (M.mapped mapper.old) (M.mapped mapper.new) (M.refused mapper.old) (M.refused mapper.new)) }
     ensures carries { OnOk result (M.carries mapper.old mapper.new) }
     ensures stopped { IfErr result (StopsBy M.carries M.stops mapper.old mapper.new) }
     ensures disk_cause { HasCauseOf MoveError.Failed (D.faults disk.old) (D.faults disk.new) result }
@@ -99,9 +101,11 @@ pub(crate) fn move_along<D: Disk, M: Mapper>(
     start: Start,
 ) -> Result<Moved, MoveError>
     requires { IsTrue (list_all (names_known migrations.now) (map (λ t. t.now) way.now)) }
-    ensures moves { Moves (D.told disk.old) (D.told disk.new) (MovesAlong start (tasks_of migrations.now back (map (λ t. t.now) way.now)) to.now (M.mapped mapper.old) (M.mapped mapper.new) result) }
+    ensures moves { Moves (D.told disk.old) (D.told disk.new)
+        (MovesAlong start (tasks_of migrations.now back (map (λ t. t.now) way.now)) to.now (M.mapped mapper.old) (M.mapped mapper.new) result) }
     ensures not_refused { OnOk result (M.refused mapper.new ≡ M.refused mapper.old) }
-    ensures ends { IfErr result (Ends (tasks_of migrations.now back (map (λ t. t.now) way.now)) start.held (M.mapped mapper.old) (M.mapped mapper.new) (M.refused mapper.old) (M.refused mapper.new)) }
+    ensures ends { IfErr result (Ends (tasks_of migrations.now back (map (λ t. t.now) way.now)) start.held
+        (M.mapped mapper.old) (M.mapped mapper.new) (M.refused mapper.old) (M.refused mapper.new)) }
     ensures carries { OnOk result (M.carries mapper.old mapper.new) }
     ensures stopped { IfErr result (StopsBy M.carries M.stops mapper.old mapper.new) }
     ensures disk_cause { HasCauseOf MoveError.Failed (D.faults disk.old) (D.faults disk.new) result }

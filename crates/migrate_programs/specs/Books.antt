@@ -23,7 +23,8 @@ asked_then {a = a} {b = b} {old = old} first then = record {
   are = asked_more a b first.asked then.asked first.are then.are;
 }
 
-stopped_then : {a b : List Mapped} {task : Task} {input : Held} {why : MapperError} {old mid new : List Question} → HasAskedFor a old mid → HasAskedUpTo b task input why mid new → HasAskedUpTo (a ++ b) task input why old new
+stopped_then : {a b : List Mapped} {task : Task} {input : Held} {why : MapperError} {old mid new : List Question}
+    → HasAskedFor a old mid → HasAskedUpTo b task input why mid new → HasAskedUpTo (a ++ b) task input why old new
 stopped_then {a = a} {b = b} {old = old} first then = record {
   asked = first.asked ++ then.asked;
   last = then.last;

@@ -43,7 +43,8 @@ fn ask_program<S: Asker>(
     back: bool,
     held: &Held,
 ) -> Result<Held, MapperError>
-    ensures asked { Moves (S.asked spawner.old) (S.asked spawner.new) (HasAsked (record { name = name.now; deed = program (map string_bytes words.now); back = back }) held.now result) }
+    ensures asked { Moves (S.asked spawner.old) (S.asked spawner.new)
+        (HasAsked (record { name = name.now; deed = program (map string_bytes words.now); back = back }) held.now result) }
     ensures kept { IfOk result (Kept held.now) }
     ensures named { IfErr result (Names name.now) }
     ensures ran { S.runs spawner.new ≡ S.runs spawner.old }

@@ -20,7 +20,8 @@ pub(crate) fn note_made(
     held: &Held,
     made: &Held,
 ) -> Result<(), AllocError>
-    ensures ok { OnOk result (map mapped_of mapped.new.items ≡ map mapped_of mapped.old.items ++ record { task = task_of name.now work.now back; input = held.now; output = made.now } ∷ []) }
+    ensures ok { OnOk result (map mapped_of mapped.new.items
+        ≡ map mapped_of mapped.old.items ++ record { task = task_of name.now work.now back; input = held.now; output = made.now } ∷ []) }
     ensures err { OnErr result (mapped.new.items ≡ mapped.old.items) }
 {
     let entry = Made {
@@ -43,7 +44,8 @@ fn note_turned(
     held: &Held,
     error: &MapperError,
 ) -> Result<(), AllocError>
-    ensures ok { OnOk result (map refused_of refused.new.items ≡ map refused_of refused.old.items ++ record { task = task_of name.now work.now back; input = held.now; refusal = error.now } ∷ []) }
+    ensures ok { OnOk result (map refused_of refused.new.items
+        ≡ map refused_of refused.old.items ++ record { task = task_of name.now work.now back; input = held.now; refusal = error.now } ∷ []) }
     ensures err { OnErr result (refused.new.items ≡ refused.old.items) }
 {
     let entry = Turned {
@@ -66,7 +68,8 @@ pub(crate) fn note_error(
     held: &Held,
     error: &MapperError,
 ) -> Result<(), AllocError>
-    ensures ok { OnOk result (map refused_of refused.new.items ≡ map refused_of refused.old.items ++ refusals_of (task_of name.now work.now back) held.now error.now) }
+    ensures ok { OnOk result (map refused_of refused.new.items
+        ≡ map refused_of refused.old.items ++ refusals_of (task_of name.now work.now back) held.now error.now) }
     ensures err { OnErr result (refused.new.items ≡ refused.old.items) }
     ensures refusal { OnErr result ((at : List ℕ) → error.now ≢ MapperError.Failed at) }
 {

@@ -67,4 +67,5 @@ TellsOfText error refusal = (refusal ≡ refused.Memory) ⊎ ((error.kind ≢ ki
 -- The text spells the release, or this is told of it.
 abbrev pub Reads : List ℕ → Result Release Refusal → Type 0
 Reads text (Ok release) = Spells text release
-Reads text (Err refusal) = (refusal ≡ refused.Memory) ⊎ ((which : ReleaseKind) × (at : List ℕ) × IsFault text which at × (refusal ≡ refused.BadImage (codes "release.toml") (release_word which) at))
+Reads text (Err refusal) = (refusal ≡ refused.Memory) ⊎ ((which : ReleaseKind) × (at : List ℕ) × IsFault text which at
+    × (refusal ≡ refused.BadImage (codes "release.toml") (release_word which) at))

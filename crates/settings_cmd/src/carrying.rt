@@ -4,13 +4,16 @@ ghost use Rattle.outside.specs.Faults.{HasCauseOf, Rose};
 ghost use Rattle.outside.specs.Spawner.{texts};
 ghost use Rattle.core_commands.specs.Handing.{HasSpawnCause};
 ghost use Rattle.json_trees.specs.declared.scalar.Scalar.{Scalar as Value};
-ghost use Rattle.command_words.specs.Orders.{Spells, SpellsNone, serve as ServeOrder, apply as ApplyOrder, init as InitOrder, get as GetOrder, check as CheckOrder, migrate as MigrateOrder, prune as PruneOrder, set as SetOrder, generate as GenerateOrder, user_data as UserDataOrder, load as LoadOrder};
+ghost use Rattle.command_words.specs.Orders.{Spells, SpellsNone};
+ghost use Rattle.command_words.specs.Orders.{init as InitOrder, serve as ServeOrder, set as SetOrder, get as GetOrder, apply as ApplyOrder, check as CheckOrder};
+ghost use Rattle.command_words.specs.Orders.{migrate as MigrateOrder, prune as PruneOrder, generate as GenerateOrder, user_data as UserDataOrder, load as LoadOrder};
 ghost use Rattle.core_commands.specs.Carried.{Carried as Commanded, CarriesOut, set_requests, apply_requests};
 ghost use Rattle.core_commands.specs.Lines.{IsSettingsLine, IsJobLine};
 ghost use Rattle.api_server.specs.Serving.{wanted};
 ghost use Rattle.settings_cmd.specs.Serving.{HasServed};
 ghost use Rattle.version_links.specs.declared.version.Version.{Version};
-ghost use Rattle.settings_cmd.specs.Carried.{Carried, IsMisused, IsBegun, IsGot, IsChecked, IsMigrated, IsPruned, IsProvided, GeneratesOrNot, IsLoaded, ServesNot, RunsNothing, AsksNothing};
+ghost use Rattle.settings_cmd.specs.Carried.{Carried, IsMisused, IsBegun, IsGot, IsChecked, IsMigrated, IsPruned, IsProvided, GeneratesOrNot, IsLoaded};
+ghost use Rattle.settings_cmd.specs.Carried.{ServesNot, RunsNothing, AsksNothing};
 
 use crate::beginning::begin;
 use crate::checking::check;

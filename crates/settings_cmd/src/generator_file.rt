@@ -5,7 +5,8 @@ ghost use Rattle.outside.specs.Told.{WhereTold};
 ghost use Rattle.outside.specs.Faults.{HasCauseOf};
 ghost use Rattle.store_image.specs.Paths.{sources_in};
 ghost use Rattle.setting_generators.specs.Reading.{Spells};
-ghost use Rattle.settings_cmd.specs.Generators.{generators_path, generators_word, BeginWithSettings, AreGeneratorsIn, TellsOfGenerators, TellsOfFault, TellsOfText, IsOfGenerators, given_of};
+ghost use Rattle.settings_cmd.specs.Generators.{generators_path, generators_word, BeginWithSettings, AreGeneratorsIn};
+ghost use Rattle.settings_cmd.specs.Generators.{TellsOfGenerators, TellsOfFault, TellsOfText, IsOfGenerators, given_of};
 
 use command_outcome::Refusal;
 use key_names::Text;
