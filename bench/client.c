@@ -4,8 +4,8 @@
  *   client SOCKET OTHER ROUNDS SETTINGS get      in each round the GET alone
  *
  * The settings are `settings.load.k0` and so on, and are taken in no order. For each kind it prints the median of the microseconds from the
- * connect to the last byte, of the one server and of the other. It ends with status 1 at an answer of the first that isn't of success; what
- * the other answers is passed over. */
+ * connect to the last byte, of the one server and of the other, and those of the first and of the last tenth of the one's. ROUNDS is 10 or
+ * more. It ends with status 1 at an answer of the first server that isn't of success; what the other answers is passed over. */
 #include <stdio.h>
 #include <stdlib.h>
 #include <string.h>
@@ -80,7 +80,7 @@ static double median(double *taken, long count)
 
 int main(int count, char **words)
 {
-    if (count != 6) {
+    if (count != 6 || atol(words[3]) < 10) {
         fprintf(stderr, "usage: client SOCKET OTHER ROUNDS SETTINGS all|get\n");
         return 2;
     }
@@ -101,8 +101,11 @@ int main(int count, char **words)
         if (server == 0 && !is_fine)
             fail(request);
     }
-    for (int row = first * SERVERS; row < KINDS * SERVERS; row++)
-        printf("%.1f ", median(taken + row * rounds, rounds) * 1e6);
+    for (int kind = first; kind < KINDS; kind++) {
+        double *mine = taken + kind * SERVERS * rounds;
+        double early = median(mine, rounds / 10), late = median(mine + rounds - rounds / 10, rounds / 10);
+        printf("%.1f %.1f %.1f %.1f ", median(mine, rounds) * 1e6, median(mine + rounds, rounds) * 1e6, early * 1e6, late * 1e6);
+    }
     printf("\n");
     return 0;
 }

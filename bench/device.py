@@ -99,8 +99,8 @@ class Bench:
         return server
 
     def asked(self, commands, seed, count, how):
-        """Asks the servers of two commands in turn, and answers pairs of microseconds, one for each kind of request. Each server then gets one
-        request more, and ends."""
+        """Asks the servers of two commands in turn, and answers for each kind of request the microseconds of the one, of the other, and of the
+        one's first and last tenth. Each server then gets one request more, and ends."""
         folders = [self.copy(seed) for _ in commands]
         servers = [self.started(command, folder) for command, folder in zip(commands, folders)]
         places = [f'{folder}/api.sock' for folder in folders]
@@ -114,7 +114,7 @@ class Bench:
             ask(place)
             server.wait(60)
         times = [float(word) for word in told.stdout.split()]
-        return list(zip(times[::2], times[1::2]))
+        return list(zip(*(times[at::4] for at in range(4))))
 
     def requests(self, seed, count):
         """The rows of requests: what the program takes, and what its calls take."""
@@ -123,16 +123,17 @@ class Bench:
         bare = [self.bare, 'api.sock', serve[-1], '128']
         self.asked([[*traced(trace), *serve], bare], seed, count, 'all')
         many = list_of(trace, calls, 'A')
-        for name, (mine, least) in zip(KINDS, self.asked([serve, [self.replay, calls, 'api.sock']], seed, count, 'all')):
-            print(f'| {name}, {count} settings | {many / len(KINDS) / self.rounds:.0f} | {mine:.0f} | {least:.0f} | {mine / least:.2f} |', flush=True)
+        for name, (mine, least, early, late) in zip(KINDS, self.asked([serve, [self.replay, calls, 'api.sock']], seed, count, 'all')):
+            row = f'{many / len(KINDS) / self.rounds:.0f} | {mine:.0f} | {least:.0f} | {mine / least:.2f} | {late / early:.2f}'
+            print(f'| {name}, {count} settings | {row} |', flush=True)
 
     def gets(self, seed, count):
         """The row of GET alone, against the bare loop."""
         serve = [self.program, 'serve', '--connections', str(self.rounds + 1)]
         bare = [self.bare, 'api.sock', serve[-1], '128']
-        ((mine, least),) = self.asked([serve, bare], seed, count, 'get')
-        held = held_in(seed)
-        print(f'| GET alone, {count} settings | {mine:.0f} | {least:.0f} | {mine / least:.2f} | {self.resident / 1e6:.1f} | {held / 1e6:.1f} |', flush=True)
+        ((mine, least, early, late),) = self.asked([serve, bare], seed, count, 'get')
+        row = f'{mine:.0f} | {least:.0f} | {mine / least:.2f} | {late / early:.2f} | {self.resident / 1e6:.1f} | {held_in(seed) / 1e6:.1f}'
+        print(f'| GET alone, {count} settings | {row} |', flush=True)
 
     def command(self, seed, name, words):
         """The row of a run of the program, against its calls."""
@@ -156,10 +157,10 @@ def main():
         seeds = {count: f'{base}/seed-{count}' for count in COUNTS}
         for count, seed in seeds.items():
             seed_of(program, seed, count)
-        print('| Request | System calls, all kinds | Program, us | The calls alone, us | Ratio |\n|---|---:|---:|---:|---:|')
+        print('| Request | System calls, all kinds | Program, us | The calls alone, us | Ratio | Last tenth to first |\n|---|---:|---:|---:|---:|---:|')
         for count, seed in seeds.items():
             bench.requests(seed, count)
-        print('\n| Request | Program, us | A bare loop, us | Ratio | Resident, MB | Store and image, MB |\n|---|---:|---:|---:|---:|---:|')
+        print('\n| Request | Program, us | A bare loop, us | Ratio | Last tenth to first | Resident, MB | Store and image, MB |\n|---|---:|---:|---:|---:|---:|---:|')
         for count, seed in seeds.items():
             bench.gets(seed, count)
         print('\n| Run | System calls | Program, s | The calls alone, s | Ratio |\n|---|---:|---:|---:|---:|')
