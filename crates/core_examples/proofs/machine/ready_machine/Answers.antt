@@ -1,0 +1,4 @@
+use Rattle.core_examples.proofs.machine.ready_machine.Goals as goal
+
+pub open_store-requires-clause-typed : goal.open_store-requires-clause-typed
+open_store-requires-clause-typed c = c.new-machine.ensures.typed c.args.image.now.types

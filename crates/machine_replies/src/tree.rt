@@ -1,0 +1,93 @@
+//! Trees as JSON.
+use key_names::{Key, Text};
+use std::alloc::{AllocError, Global};
+
+/// A key, and the JSON text of what stands there.
+pub(crate) type Entry = (Key, Text);
+
+// Whether both keys have the same segment at this level.
+fn meet_at(one: &Key, other: &Key, level: usize) -> bool {
+    level < one.len() && level < other.len() && one.segment(level) == other.segment(level)
+}
+
+// How many segments from this level on both keys begin with.
+fn shared(one: &Key, other: &Key, skip: usize) -> usize {
+    for level in skip..one.len() {
+        if !meet_at(one, other, level) {
+            return level.saturating_sub(skip);
+        }
+    }
+    one.len().saturating_sub(skip)
+}
+
+fn push_times(out: &mut String, times: usize, text: &str) -> Result<(), AllocError> {
+    for _ in 0..times {
+        out.push_str(text)?;
+    }
+    Ok(())
+}
+
+// The segment as a name of JSON. Its bytes are printed ASCII without quotes, so only a backslash is escaped.
+fn push_name(out: &mut String, segment: &[u8]) -> Result<(), AllocError> {
+    out.push('"')?;
+    for byte in segment {
+        if *byte == b'\\' {
+            out.push('\\')?;
+        }
+        out.push(char::from(*byte))?;
+    }
+    out.push_str("\":")
+}
+
+// The names of a key from this level on, each but the last one with an object.
+fn push_names(out: &mut String, key: &Key, first: usize) -> Result<(), AllocError> {
+    for level in first..key.len() {
+        if level > first {
+            out.push('{')?;
+        }
+        push_name(out, key.segment(level))?;
+    }
+    Ok(())
+}
+
+// How many objects of the key before are closed between the two.
+fn closed(before: &Key, skip: usize, common: usize) -> usize {
+    before
+        .len()
+        .saturating_sub(skip)
+        .saturating_sub(common)
+        .saturating_sub(1)
+}
+
+fn push_entry(
+    out: &mut String,
+    before: Option<&Key>,
+    entry: &Entry,
+    skip: usize,
+) -> Result<(), AllocError> {
+    let (key, value) = entry;
+    let mut common = 0;
+    if let Some(before) = before {
+        common = shared(before, key, skip);
+        push_times(out, closed(before, skip, common), "}")?;
+        out.push(',')?;
+    }
+    push_names(out, key, skip.saturating_add(common))?;
+    out.push_str(value.as_str())
+}
+
+/// The object of these entries, which rise and none of whose keys begins another, without so many first segments of the
+/// keys. The only error is want of memory.
+pub(crate) fn tree_text(alloc: Global, entries: &[Entry], skip: usize) -> Result<Text, AllocError> {
+    let mut out = String::from_str(alloc, "{")?;
+    let mut before = None;
+    for entry in entries {
+        push_entry(&mut out, before, entry, skip)?;
+        before = Some(&entry.0);
+    }
+    if let Some(before) = before {
+        push_times(&mut out, closed(before, skip, 0), "}")?;
+    }
+    out.push('}')?;
+    Ok(Text::of(out))
+}

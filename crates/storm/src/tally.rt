@@ -1,0 +1,60 @@
+//! How much was done.
+use std::fmt;
+use storm_machine::{Replay, Run};
+
+/// How much was done.
+#[derive(Clone, Copy, Drop)]
+pub struct Tally {
+    /// Seeds.
+    pub seeds: u64,
+    /// Steps.
+    pub steps: u64,
+    /// Connections of clients.
+    pub requests: u64,
+    /// Programs that were run.
+    pub programs: u64,
+    /// Steps in which a call of the disk failed while the power stayed.
+    pub faults: u64,
+    /// Steps behind which the power failed.
+    pub stops: u64,
+    /// Moves to other versions.
+    pub moves: u64,
+}
+
+impl Tally {
+    /// Nothing was done.
+    pub const NOTHING: Tally = Tally {
+        seeds: 0,
+        steps: 0,
+        requests: 0,
+        programs: 0,
+        faults: 0,
+        stops: 0,
+        moves: 0,
+    };
+
+    /// Adds a run that the machine went through.
+    pub fn add(&mut self, run: &Run, replay: &Replay) {
+        let stops = run.step.crash;
+        let faults = run.seen.struck && !stops;
+        let programs = replay.machine.runs.len() as u64;
+        self.steps = self.steps.saturating_add(1);
+        self.requests = self.requests.saturating_add(run.seen.replies.len() as u64);
+        self.programs = self.programs.saturating_add(programs);
+        self.faults = self.faults.saturating_add(u64::from(faults));
+        self.stops = self.stops.saturating_add(u64::from(stops));
+        self.moves = self.moves.saturating_add(u64::from(replay.moved.is_some()));
+    }
+}
+
+impl fmt::Display for Tally {
+    fn fmt<W: fmt::Write>(&self, f: &mut fmt::Formatter<W>) -> fmt::Result {
+        let (seeds, steps, requests) = (self.seeds, self.steps, self.requests);
+        let (programs, faults) = (self.programs, self.faults);
+        let (stops, moves) = (self.stops, self.moves);
+        write!(
+            f,
+            "{seeds} seeds, {steps} steps, {requests} requests, {programs} programs, {faults} faults, {stops} stops, {moves} moves"
+        )
+    }
+}

@@ -1,0 +1,28 @@
+//! The machine in memory beside a run of the program `settings` over devices in memory: it goes through the events of the run, and
+//! what was seen, what the store holds and each configuration file have to be its own.
+//!
+//! Where the disk failed it goes through the run once for each event that may have failed, until one agrees.
+#![tactic(auto)]
+
+mod commands;
+mod faults;
+mod following;
+mod found;
+mod host;
+mod moves;
+mod outcomes;
+mod programs;
+mod rebuilding;
+mod replay;
+mod run;
+mod serving;
+mod settling;
+mod trouble;
+
+pub use following::follow;
+pub use host::Host;
+pub use programs::spawned_lines;
+pub use replay::Replay;
+pub use run::{Run, Seen};
+pub use settling::go_on;
+pub use trouble::{Trouble, differs};

@@ -1,0 +1,48 @@
+//! Programs that were run, as lines: the words of each, and the status with which it ended.
+use disk_memory::MemorySpawner;
+use key_names::Text;
+use plain_machine::PlainMachine;
+use std::alloc::{AllocError, Global};
+
+fn add_word(lines: &mut String, word: &str) -> Result<(), AllocError> {
+    lines.push_str(word)?;
+    lines.push(' ')
+}
+
+fn add_status(alloc: Global, lines: &mut String, status: u16) -> Result<(), AllocError> {
+    lines.push_str(format!(in alloc; "{status}\n")?.as_str())
+}
+
+fn add_words(lines: &mut String, words: &[String]) -> Result<(), AllocError> {
+    for word in words {
+        add_word(lines, word.as_str())?;
+    }
+    Ok(())
+}
+
+/// The programs that the spawner ran.
+pub fn spawned_lines(alloc: Global, spawner: &MemorySpawner) -> Result<String, AllocError> {
+    let mut lines = String::new(alloc);
+    for run in spawner.runs() {
+        add_words(&mut lines, &run.words)?;
+        add_status(alloc, &mut lines, run.status)?;
+    }
+    Ok(lines)
+}
+
+fn add_texts(lines: &mut String, words: &[Text]) -> Result<(), AllocError> {
+    for word in words {
+        add_word(lines, word.as_str())?;
+    }
+    Ok(())
+}
+
+/// The programs that the machine ran.
+pub fn machine_lines(alloc: Global, machine: &PlainMachine) -> Result<String, AllocError> {
+    let mut lines = String::new(alloc);
+    for ran in &machine.runs {
+        add_texts(&mut lines, &ran.words)?;
+        add_status(alloc, &mut lines, ran.status)?;
+    }
+    Ok(lines)
+}

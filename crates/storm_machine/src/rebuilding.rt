@@ -1,0 +1,155 @@
+//! The machine of a store that was moved.
+ghost use Rattle.std.specs.Prelude.{◌≡◌, IfOk, IsTrue, All, true};
+ghost use Rattle.key_names.specs.Key.{is_prefix};
+ghost use Rattle.model_file.specs.Model.{AreTyped};
+ghost use Rattle.opening_step.specs.Step.{AreSettings};
+ghost use Rattle.settings_tree.specs.Content.{settings_key};
+ghost use Rattle.typed_settings.specs.Order.{IsTable};
+ghost use Rattle.storm_machine.specs.Stands.{Stands};
+
+use crate::trouble::{Trouble, differs};
+use key_names::Key;
+use pending_tx::{CommitError, list, pending};
+use plain_machine::{OpeningAnswer, PlainImage, PlainMachine};
+use settings_tree::{Content, Held, Pending, TxName, is_setting};
+use std::alloc::{AllocError, Global};
+use version_links::Version;
+
+fn are_settings(pairs: &[(Key, Pending)]) -> bool
+    ensures { IsTrue result → All (λ e. is_prefix settings_key e.0 ≡ true) pairs.now }
+{
+    pairs.iter().all(|(key, _)| is_setting(key))
+}
+
+fn settings_key(alloc: Global) -> Result<Key, AllocError> {
+    match Key::of_segment(alloc, b"settings") {
+        Ok(key) => Ok(key),
+        Err(_) => Err(AllocError),
+    }
+}
+
+// The name of a transaction.
+fn name(alloc: Global, text: &str) -> Result<TxName, Trouble> {
+    match TxName::read(alloc, text.as_bytes())? {
+        Some(tx) => Ok(tx),
+        None => Err(differs(alloc, "no name of a transaction")),
+    }
+}
+
+// The live settings, as pairs that put them.
+fn puts(alloc: Global, live: &Content) -> Result<Vec<(Key, Pending)>, AllocError> {
+    let mut pairs = Vec::new(alloc);
+    for (key, value) in live.below(&settings_key(alloc)?)? {
+        pairs.push((key, Pending::Put(value)))?;
+    }
+    Ok(pairs)
+}
+
+// Adds the removal of each live setting of the first content that the second lacks.
+fn add_removals(
+    alloc: Global,
+    pairs: &mut Vec<(Key, Pending)>,
+    from: &Content,
+    to: &Content,
+) -> Result<(), AllocError> {
+    for (key, _) in from.below(&settings_key(alloc)?)? {
+        if to.value(&key).is_none() {
+            pairs.push((key, Pending::Gone))?;
+        }
+    }
+    Ok(())
+}
+
+// The machine makes the pairs pending, which are settings.
+fn pend(
+    alloc: Global,
+    image: &PlainImage,
+    machine: &mut PlainMachine,
+    tx: &TxName,
+    pairs: &[(Key, Pending)],
+) -> Result<(), Trouble>
+    requires { Stands image.now machine.old.held }
+    ensures { Stands image.now machine.new.held }
+{
+    if !are_settings(pairs) {
+        return Err(differs(alloc, "a key beside the settings"));
+    }
+    match machine.patch(alloc, image, tx, pairs)? {
+        Some(_) => Err(differs(alloc, "a value that no type takes")),
+        None => Ok(()),
+    }
+}
+
+// The machine gets these live settings and weak keys.
+fn set_live(
+    alloc: Global,
+    image: &PlainImage,
+    machine: &mut PlainMachine,
+    live: &Content,
+) -> Result<(), Trouble>
+    requires { Stands image.now machine.old.held }
+    ensures { Stands image.now machine.new.held }
+{
+    let mut pairs = puts(alloc, live)?;
+    add_removals(alloc, &mut pairs, &machine.held.live, live)?;
+    let tx = name(alloc, "moved")?;
+    pend(alloc, image, machine, &tx, &pairs)?;
+    match machine.commit(alloc, image, &tx) {
+        Ok(_) | Err(CommitError::NoPending) => {}
+        Err(CommitError::Memory) => return Err(Trouble::Memory),
+    }
+    if !machine.held.live.may_be_weak(live.weak().as_slice()) {
+        return Err(differs(alloc, "a weak key without a value"));
+    }
+    machine.held.live.set_weak(live.weak().copy()?);
+    Ok(())
+}
+
+// The machine gets the transactions too.
+fn set_pending(
+    alloc: Global,
+    image: &PlainImage,
+    machine: &mut PlainMachine,
+    held: &Held,
+) -> Result<(), Trouble>
+    requires { Stands image.now machine.old.held }
+    ensures { Stands image.now machine.new.held }
+{
+    for tx in &list(alloc, held)? {
+        pend(alloc, image, machine, tx, &pending(alloc, held, tx)?)?;
+    }
+    Ok(())
+}
+
+// A machine of this version whose new store was opened.
+fn opened(alloc: Global, image: &PlainImage, version: Version) -> Result<PlainMachine, AllocError>
+    requires table { IsTable image.now.types }
+    requires defaults { AreTyped image.now.types image.now.defaults.values }
+    requires settings { AreSettings image.now.defaults.values }
+    ensures { IfOk result (λ made. Stands image.now made.held) }
+{
+    let mut made = PlainMachine::new(alloc, version);
+    made.open_store(alloc, image, false, OpeningAnswer::Succeeded)?;
+    Ok(made)
+}
+
+/// The machine of a store that was moved: of this version, and holding this, but for what an opening lays anyway. It gets there by
+/// patches and commits, so that each value is tried by the types.
+pub fn machine_of(
+    alloc: Global,
+    image: &PlainImage,
+    version: Version,
+    held: &Held,
+) -> Result<PlainMachine, Trouble>
+    requires table { IsTable image.now.types }
+    requires defaults { AreTyped image.now.types image.now.defaults.values }
+    requires settings { AreSettings image.now.defaults.values }
+    ensures { IfOk result (λ made. Stands image.now made.held) }
+{
+    let mut made = opened(alloc, image, version)?;
+    set_live(alloc, image, &mut made, &held.live)?;
+    set_pending(alloc, image, &mut made, held)?;
+    made.held.owed = held.owed.copy()?;
+    made.held.image = held.image.copy()?;
+    Ok(made)
+}

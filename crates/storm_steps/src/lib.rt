@@ -1,0 +1,12 @@
+//! Random steps of a storm, alike for each seed: runs of the program `settings` with what clients send, the statuses of programs, and
+//! which calls of the disk fail.
+#![tactic(auto)]
+
+mod dice;
+mod making;
+mod requests;
+mod step;
+
+pub use dice::Dice;
+pub use making::step_of;
+pub use step::{Fault, Order, Sent, Serving, Step};

@@ -1,0 +1,144 @@
+//! Random steps.
+use crate::dice::Dice;
+use crate::requests::{clients, random_change};
+use crate::step::{Fault, Order, Sent, Serving, Step};
+use std::alloc::{AllocError, Global};
+
+const VERSIONS: &[&str] = &["1.5.2", "1.5.3", "1.6.0"];
+
+// So many times of a hundred one of so many numbers, from the least on.
+fn number(dice: &mut Dice, percent: u64, count: u32, least: u32) -> Option<u32> {
+    if !dice.chance(percent) {
+        return None;
+    }
+    let number = dice.below(u64::from(count).max(1)) as u32;
+    Some(number.saturating_add(least))
+}
+
+fn serving(dice: &mut Dice) -> Serving {
+    Serving {
+        boot: dice.chance(20),
+        slice: number(dice, 60, 4, 1),
+        connections: number(dice, 15, 9, 0),
+    }
+}
+
+// Adds the word of a number that is given, and the number.
+fn add_number(
+    alloc: Global,
+    line: &mut String,
+    word: &str,
+    number: Option<u32>,
+) -> Result<(), AllocError> {
+    match number {
+        Some(number) => line.push_str(format!(in alloc; " {word} {number}")?.as_str()),
+        None => Ok(()),
+    }
+}
+
+fn serve_line(alloc: Global, serving: &Serving) -> Result<String, AllocError> {
+    let mut line = String::from_str(alloc, "serve")?;
+    if serving.boot {
+        line.push_str(" --boot")?;
+    }
+    add_number(alloc, &mut line, "--slice", serving.slice)?;
+    add_number(alloc, &mut line, "--connections", serving.connections)?;
+    Ok(line)
+}
+
+fn serve(alloc: Global, dice: &mut Dice) -> Result<Step, AllocError> {
+    let serving = serving(dice);
+    let line = serve_line(alloc, &serving)?;
+    let sent = clients(alloc, dice)?;
+    let mut step = Step::calm(alloc, Order::Serve(serving), line.as_str(), sent)?;
+    if dice.chance(5) {
+        step.accept_fails = Some(dice.below(6).saturating_add(1));
+    }
+    Ok(step)
+}
+
+// The requests that the lines are.
+fn asks(alloc: Global, lines: &[&str]) -> Result<Vec<Sent>, AllocError> {
+    let mut all = Vec::new(alloc);
+    for line in lines {
+        all.push(Sent::whole(alloc, line)?)?;
+    }
+    Ok(all)
+}
+
+fn set(alloc: Global, dice: &mut Dice) -> Result<Step, AllocError> {
+    let change = random_change(alloc, dice, false)?;
+    let (words, body) = (change.words.as_str(), change.body.as_str());
+    let line = format!(in alloc; "set{words}")?;
+    let patch = format!(in alloc; "PATCH /settings?tx=cli-set {{{body}}}")?;
+    let lines = [
+        "DELETE /tx?tx=cli-set",
+        patch.as_str(),
+        "POST /tx/commit_and_apply?tx=cli-set",
+    ];
+    let sent = asks(alloc, &lines)?;
+    Step::calm(alloc, Order::Set, line.as_str(), sent)
+}
+
+fn apply(alloc: Global) -> Result<Step, AllocError> {
+    let sent = asks(alloc, &["POST /tx/apply"])?;
+    Step::calm(alloc, Order::Apply, "apply", sent)
+}
+
+// A step that asks for nothing.
+fn plain(alloc: Global, order: Order, line: &str) -> Result<Step, AllocError> {
+    Step::calm(alloc, order, line, Vec::new(alloc))
+}
+
+fn migrate(alloc: Global, dice: &mut Dice) -> Result<Step, AllocError> {
+    let to = dice.pick(VERSIONS);
+    let line = format!(in alloc; "migrate --to {to}")?;
+    plain(alloc, Order::Migrate(to), line.as_str())
+}
+
+fn calm_step(alloc: Global, dice: &mut Dice) -> Result<Step, AllocError> {
+    match dice.below(20) {
+        0..=8 => serve(alloc, dice),
+        9..=11 => set(alloc, dice),
+        12 | 13 => apply(alloc),
+        14 => plain(alloc, Order::Get, "get"),
+        15 => plain(alloc, Order::Check, "check"),
+        16 => plain(alloc, Order::Prune, "prune"),
+        17 => Step::begin(alloc),
+        _ => migrate(alloc, dice),
+    }
+}
+
+// The statuses of the first few programs: mostly 0.
+fn statuses(alloc: Global, dice: &mut Dice) -> Result<Vec<Option<u16>>, AllocError> {
+    let mut all = Vec::new(alloc);
+    for _ in 0..dice.below(8) {
+        all.push(match dice.below(12) {
+            0 => None,
+            1 => Some(3),
+            2 => Some(256),
+            _ => Some(0),
+        })?;
+    }
+    Ok(all)
+}
+
+fn fault(dice: &mut Dice) -> Fault {
+    let behind = dice.below(90);
+    match dice.below(10) {
+        0..=5 => Fault::Never,
+        6 | 7 => Fault::Once(behind),
+        _ => Fault::Ever(behind),
+    }
+}
+
+/// A random step.
+pub fn step_of(alloc: Global, dice: &mut Dice) -> Result<Step, AllocError> {
+    let mut step = calm_step(alloc, dice)?;
+    if dice.chance(40) {
+        step.statuses = statuses(alloc, dice)?;
+    }
+    step.fault = fault(dice);
+    step.crash = step.fault.is_lasting() || dice.chance(25);
+    Ok(step)
+}

@@ -1,0 +1,145 @@
+//! One step of a seed: a run of the program, and what becomes of its devices.
+use std::alloc::{AllocError, Global};
+
+/// The words of `serve`.
+#[derive(Clone, Copy)]
+pub struct Serving {
+    /// Whether all is applied first.
+    pub boot: bool,
+    /// How many turns are made behind each connection; without a number all.
+    pub slice: Option<u32>,
+    /// How many connections are served; without a number all.
+    pub connections: Option<u32>,
+}
+
+/// What a step runs.
+#[derive(Clone, Copy)]
+pub enum Order {
+    /// `init`, over a store that is there.
+    Init,
+    /// `serve`.
+    Serve(Serving),
+    /// `set`.
+    Set,
+    /// `apply`.
+    Apply,
+    /// `get`.
+    Get,
+    /// `check`.
+    Check,
+    /// `prune`.
+    Prune,
+    /// `migrate`, to the version with this text.
+    Migrate(&'static str),
+}
+
+/// What a client sends, in two pieces.
+#[derive(Drop)]
+pub struct Sent {
+    /// The bytes.
+    pub bytes: Vec<u8>,
+    /// How many of them are in the first piece, at most.
+    pub cut: usize,
+    /// Whether the first read of them fails.
+    pub read_fails: bool,
+    /// Whether the first write of the reply fails.
+    pub write_fails: bool,
+}
+
+/// Which calls of the disk fail.
+#[derive(Clone, Copy)]
+pub enum Fault {
+    /// None.
+    Never,
+    /// The one behind so many of the step.
+    Once(u64),
+    /// Each one behind so many of the step.
+    Ever(u64),
+}
+
+impl Fault {
+    /// Whether no call behind a failing one serves.
+    pub fn is_lasting(self) -> bool {
+        match self {
+            Fault::Ever(_) => true,
+            _ => false,
+        }
+    }
+}
+
+/// One step.
+#[derive(Drop)]
+pub struct Step {
+    /// What is run.
+    pub order: Order,
+    /// Its words.
+    pub words: Vec<String>,
+    /// What the clients of `serve` send; for `set` and `apply`, the requests that the command makes itself.
+    pub sent: Vec<Sent>,
+    /// The number of the accept that fails, from 1.
+    pub accept_fails: Option<u64>,
+    /// The statuses with which programs end, 0 behind these. One without a status can't be run.
+    pub statuses: Vec<Option<u16>>,
+    /// Which calls of the disk fail.
+    pub fault: Fault,
+    /// Whether the power fails behind it.
+    pub crash: bool,
+}
+
+// The words of the line, which single spaces part.
+fn words_of(alloc: Global, line: &str) -> Result<Vec<String>, AllocError> {
+    let mut words = Vec::new(alloc);
+    for word in line.split(' ') {
+        words.push(String::from_str(alloc, word)?)?;
+    }
+    Ok(words)
+}
+
+impl Step {
+    /// The step of this order, which the line spells, in which nothing fails.
+    pub fn calm(
+        alloc: Global,
+        order: Order,
+        line: &str,
+        sent: Vec<Sent>,
+    ) -> Result<Step, AllocError> {
+        Ok(Step {
+            order,
+            words: words_of(alloc, line)?,
+            sent,
+            accept_fails: None,
+            statuses: Vec::new(alloc),
+            fault: Fault::Never,
+            crash: false,
+        })
+    }
+
+    /// The step that begins a store.
+    pub fn begin(alloc: Global) -> Result<Step, AllocError> {
+        Step::calm(alloc, Order::Init, "init --version 1.5.2", Vec::new(alloc))
+    }
+}
+
+// The bytes of the request that the line is: its method, its target, and its body, if it has one.
+fn request(alloc: Global, line: &str) -> Result<Vec<u8>, AllocError> {
+    let (method, rest) = line.split_once(' ').unwrap_or((line, ""));
+    let (target, body) = rest.split_once(' ').unwrap_or((rest, ""));
+    let count = body.len();
+    let text = format!(in alloc;
+        "{method} {target} HTTP/1.1\r\nHost: localhost\r\nContent-Length: {count}\r\n\r\n{body}"
+    )?;
+    Ok(text.into_bytes())
+}
+
+impl Sent {
+    /// The request of the line (its method, its target and maybe its body), whole and in one piece.
+    pub fn whole(alloc: Global, line: &str) -> Result<Sent, AllocError> {
+        let bytes = request(alloc, line)?;
+        Ok(Sent {
+            bytes,
+            cut: usize::MAX,
+            read_fails: false,
+            write_fails: false,
+        })
+    }
+}
