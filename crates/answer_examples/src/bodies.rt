@@ -1,5 +1,5 @@
 //! Each shape of body, and each refusal.
-use crate::texts::{key, said, same, text, tx, whole};
+use crate::texts::{key, said, same, tx, whole};
 use api_http::Answer;
 use json_trees::{flatten, flatten_patch};
 use key_names::{Key, Text};
@@ -54,7 +54,7 @@ fn names(alloc: Global) -> Result<Vec<TxName>, Fail> {
 // The services that one key affects.
 fn lists(alloc: Global) -> Result<Vec<(Key, Vec<Text>)>, Fail> {
     let mut services = Vec::new(alloc);
-    services.push(text(alloc, "chronyd")?)?;
+    services.push(Text::from_str(alloc, "chronyd")?)?;
     let mut lists = Vec::new(alloc);
     lists.push((key(alloc, "settings.ntp.time-servers")?, services))?;
     Ok(lists)
@@ -63,8 +63,11 @@ fn lists(alloc: Global) -> Result<Vec<(Key, Vec<Text>)>, Fail> {
 // The texts of two names.
 fn texts(alloc: Global) -> Result<Vec<(Text, Text)>, Fail> {
     let mut texts = Vec::new(alloc);
-    texts.push((text(alloc, "arch")?, text(alloc, "x86\"64")?))?;
-    texts.push((text(alloc, "name")?, text(alloc, "")?))?;
+    texts.push((
+        Text::from_str(alloc, "arch")?,
+        Text::from_str(alloc, "x86\"64")?,
+    ))?;
+    texts.push((Text::from_str(alloc, "name")?, Text::from_str(alloc, "")?))?;
     Ok(texts)
 }
 
@@ -93,7 +96,7 @@ fn refusals(rt: HostRuntime) -> Result<(), Fail> {
         shown.as_str(),
         r#"404 {"error":"key","key":"settings.none"}"#,
     )?;
-    let name = text(alloc, "none")?;
+    let name = Text::from_str(alloc, "none")?;
     let shown = said(alloc, MachineReply::NoName { name })?;
     same(shown.as_str(), r#"404 {"error":"name","name":"none"}"#)
 }
@@ -102,7 +105,7 @@ fn refusals(rt: HostRuntime) -> Result<(), Fail> {
 #[test]
 fn a_whole_reply(rt: HostRuntime) -> Result<(), Fail> {
     let alloc = rt.alloc();
-    let text = text(
+    let text = Text::from_str(
         alloc,
         r#"{"motd":"Welcome","ntp":{"time-servers":["a.example","b.example"]}}"#,
     )?;
@@ -121,13 +124,13 @@ fn failed(alloc: Global, cause: &Cause) -> Result<Text, AllocError> {
 #[test]
 fn causes(rt: HostRuntime) -> Result<(), Fail> {
     let alloc = rt.alloc();
-    let service = text(alloc, "motd")?;
+    let service = Text::from_str(alloc, "motd")?;
     let spawn = failed(alloc, &Cause::Spawn { service })?;
     same(
         spawn.as_str(),
         r#"{"cause":"spawn motd","job":"failed","owed":"all"}"#,
     )?;
-    let service = text(alloc, "motd")?;
+    let service = Text::from_str(alloc, "motd")?;
     let number = 300;
     let status = failed(alloc, &Cause::Status { service, number })?;
     same(

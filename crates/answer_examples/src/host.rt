@@ -40,7 +40,7 @@ fn templates(alloc: Global) -> Result<Templates, Fail> {
     let mut templates = Templates::new(alloc);
     let source = bytes(alloc, "{{settings.motd}}\n")?;
     if templates.source(b"motd").is_none() {
-        let file = Text::of(String::from_str(alloc, "motd")?);
+        let file = Text::from_str(alloc, "motd")?;
         templates.add(file, source)?;
     }
     Ok(templates)

@@ -2,16 +2,11 @@
 ghost use Rattle.machine_answers.specs.Replies.{MayNest};
 
 use api_http::{Answer, print_reply};
-use key_names::{Key, Text};
+use key_names::Key;
 use machine_answers::MachineReply;
 use settings_tree::TxName;
 use std::alloc::{AllocError, Global};
 use std::test::Fail;
-
-/// The text, owned.
-pub fn text(alloc: Global, text: &str) -> Result<Text, AllocError> {
-    Ok(Text::of(String::from_str(alloc, text)?))
-}
 
 /// The key that the text is.
 pub fn key(alloc: Global, text: &str) -> Result<Key, Fail> {

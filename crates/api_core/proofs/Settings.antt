@@ -5,10 +5,10 @@ use Rattle.std.proofs.lemmas.Bool.{cases_Bool}
 use Rattle.key_names.specs.Key.{is_prefix, is_key}
 use Rattle.settings_tree.specs.Content.{settings_key}
 use Rattle.settings_tree.specs.Walks.{entries_below}
-use Rattle.template_eval.proofs.NameOrder.{behind}
 use Rattle.settings_machine.specs.World.{Key}
 use Rattle.settings_machine.specs.Opening.{Values}
 use Rattle.settings_machine.specs.Answers.{settings_where}
+use Rattle.key_names.proofs.Prefixes.{behind}
 
 module _ {E : Type 0} (p q : E → Bool) where
   one_more : (e : E) (es : List E) → (q e ≡ true → p e ≡ true) → filter q (filter p es) ≡ filter q es → filter q (filter p (e ∷ es)) ≡ filter q (e ∷ es)

@@ -8,7 +8,7 @@ ghost use Rattle.settings_machine.specs.World.{Image};
 ghost use Rattle.settings_machine.specs.Answers.{nearest_lists};
 ghost use Rattle.api_core.specs.Gathered.{there, gathered, has_near, near_entry, nearest_entry};
 
-use key_names::{Key, Text};
+use key_names::{Key, Text, copy_texts};
 use metadata_links::{Index, Manifest, Steps};
 use settings_maps::KeyMap;
 use std::alloc::{AllocError, Global};
@@ -40,16 +40,6 @@ fn each_once(alloc: Global, keys: &[Key]) -> Result<KeyMap<()>, AllocError>
     Ok(once)
 }
 
-fn copies(alloc: Global, names: &[Text]) -> Result<Vec<Text>, AllocError>
-    ensures { IfOk result (λ copies. copies.items ≡ names.now) }
-{
-    let mut copies = Vec::new(alloc);
-    for name in names {
-        copies.push(name.copy()?)?;
-    }
-    Ok(copies)
-}
-
 // Adds the nearest list of the key, where it has one.
 fn push_nearest(
     alloc: Global,
@@ -61,7 +51,7 @@ fn push_nearest(
         ≡ map (λ e. (e.0, e.1.items)) lists.old.items ++ nearest_entry index.now key.now) }
 {
     if let Some(list) = nearest(index, key) {
-        lists.push((key.copy()?, copies(alloc, list)?))?;
+        lists.push((key.copy()?, copy_texts(alloc, list)?))?;
     }
     Ok(())
 }

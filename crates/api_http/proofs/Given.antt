@@ -1,5 +1,5 @@
 -- The values that queries give, from what the code saw of them.
-use Rattle.std.proofs.Common.{◌≡◌, ℕ, ◌<◌, ◌≤◌, false, List, [], ◌∷◌, length, map, get_or, Bor, inl, inr, refl, ap, ◌∙◌, arith, Option, Some, None, IfSome, Result, Ok, Err, String, IfOk, IfErr}
+use Rattle.std.proofs.Common.{◌≡◌, ℕ, ◌<◌, ◌≤◌, false, List, [], ◌∷◌, length, map, get_or, Bor, inl, inr, refl, ap, ◌∙◌, arith, Option, Some, None, IfSome, Result, Ok, Err, String, IfOk}
 use Rattle.std.specs.Global.{Global}
 use Rattle.std.specs.List.{list_all}
 use Rattle.std.proofs.lemmas.List.Folds.{list_all-map, list_all_at}
@@ -7,20 +7,10 @@ use Rattle.settings_maps.specs.TxName.{is_meta_name}
 use Rattle.api_http.specs.Query.{Pair, texts, HasSeveral}
 use Rattle.api_http.specs.Questions.{Key, GivesKeysOrPrefix, by_keys, by_prefix, IsGivenEither}
 
--- what follows from the value of an `Ok`
-pub if_ok : {T E : Type 0} (r : Result T E) (P Q : T → Type 0) → ((v : T) → P v → Q v) → IfOk r P → IfOk r Q
-if_ok (Ok v) P Q more p = more v p
-if_ok (Err e) P Q more p = tt
-
 -- what follows from three facts on the value of an `Ok`
 pub if_all : {T E : Type 0} (r : Result T E) (P Q R S : T → Type 0) → ((v : T) → P v → Q v → R v → S v) → IfOk r P → IfOk r Q → IfOk r R → IfOk r S
 if_all (Ok v) P Q R S more p q s = more v p q s
 if_all (Err e) P Q R S more p q s = tt
-
--- what follows from the error of an `Err`
-pub if_err : {T E : Type 0} (r : Result T E) (P Q : E → Type 0) → ((e : E) → P e → Q e) → IfErr r P → IfErr r Q
-if_err (Ok v) P Q more p = tt
-if_err (Err e) P Q more p = more e p
 
 -- what follows from the value of a `Some`
 pub if_some : {T : Type 0} (o : Option T) (P Q : T → Type 0) → ((v : T) → P v → Q v) → IfSome o P → IfSome o Q

@@ -2,7 +2,6 @@ pub mod Rows
 pub mod Lines
 pub mod Shown
 pub mod Cut
-pub mod Digits
 pub mod Faults
 pub mod Given
 pub mod Planned

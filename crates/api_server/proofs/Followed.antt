@@ -23,6 +23,7 @@ use Rattle.api_server.specs.Exchanged.{IsServed, IsExchanged}
 use Rattle.api_server.specs.Rounds.{Round, IsRound, AreRounds, AreExchanged, events_of_round, events_of}
 use Rattle.api_server.specs.Answered.{Answers, RoundBy, ServesOne, RoundsBy, ServesAll}
 use Rattle.api_server.proofs.Requested.{asks_runs}
+use Rattle.door_requests.proofs.Lasts.{head_same, tail_same}
 
 -- ---- programs
 
@@ -85,12 +86,6 @@ exchanged_push : (rs : List Round) (r : Round) (x : Exchange) (old mid : List Ex
     → AreExchanged (rs ++ r ∷ []) old (x ∷ mid)
 exchanged_push [] r x old mid are is = (x, is, ap (λ (l : List Exchange). x ∷ l) are)
 exchanged_push (q ∷ rs) r x old mid are is = (are.0, are.1, exchanged_push rs r x (are.0 ∷ old) mid are.2 is)
-
-head_same : (x y : Exchange) (xs ys : List Exchange) → x ∷ xs ≡ y ∷ ys → x ≡ y
-head_same x y xs ys e = cc
-
-tail_same : (x y : Exchange) (xs ys : List Exchange) → x ∷ xs ≡ y ∷ ys → xs ≡ ys
-tail_same x y xs ys e = cc
 
 -- A connection is accepted, and served.
 one_exchanged : (rs : List Round) (r : Round) (first old opened new : List Exchange) → AreExchanged rs first old → Opens {E = Failed} (Ok true) old opened

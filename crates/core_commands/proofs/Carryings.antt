@@ -24,7 +24,8 @@ use Rattle.core_commands.specs.Handing.{not_opened}
 
 -- ---- an opening
 
-opened_job : (I : Image) (W : World) → W.job ≡ Idle → Idle ≡ (opened I W false).job
+-- An opening leaves an idle job idle.
+pub opened_job : (I : Image) (W : World) → W.job ≡ Idle → Idle ≡ (opened I W false).job
 unfolding opened
 opened_job I W idle = sym (ap (λ (j : Job). noting j (added_keys I.defaults.values W.held.live.values)) idle)
 

@@ -11,25 +11,25 @@ use Rattle.store_open.specs.declared.open_error.OpenError.{OpenError}
 use Rattle.store_open.specs.declared.open_error.OpenError.TheVariants as opening
 use Rattle.core_commands.specs.Handing.{HasSpawnCause, HandsJob, HandsSent, not_opened, failed_for}
 
-same_error : {T : Type 0} (e f : Refusal) → ◌≡◌ {A = Result T Refusal} (Err e) (Err f) → e ≡ f
-same_error e f is = cc is
+pub same_refusal : {T : Type 0} (e f : Refusal) → ◌≡◌ {A = Result T Refusal} (Err e) (Err f) → e ≡ f
+same_refusal e f is = cc is
 
 -- A refusal, where nothing failed before.
 pub cause_later : {A B : Type 0} (e : Refusal) (before mid now : ℕ) → mid ≡ before → HasCauseOf {T = A} refused.Disk mid now (Err e) → HasCauseOf {T = B} refused.Disk before now (Err e)
 cause_later {A = A} {B = B} e before mid now same c = record {
   later = omega (arith, same, c.later);
-  failed = λ is. subst (λ (n : ℕ). Rose n now) same (c.failed (ap (λ (r : Refusal). Err r) (same_error {T = B} e refused.Disk is)));
+  failed = λ is. subst (λ (n : ℕ). Rose n now) same (c.failed (ap (λ (r : Refusal). Err r) (same_refusal {T = B} e refused.Disk is)));
   kept = tt;
-  other = λ err not. c.other refl (λ is. not (ap (λ (r : Refusal). Err r) (same_error {T = A} e refused.Disk is))) ∙ same;
+  other = λ err not. c.other refl (λ is. not (ap (λ (r : Refusal). Err r) (same_refusal {T = A} e refused.Disk is))) ∙ same;
 }
 
 pub spawn_same : {A B : Type 0} (e : Refusal) (before now : ℕ) → HasSpawnCause {T = A} before now (Err e) → HasSpawnCause {T = B} before now (Err e)
 spawn_same {A = A} {B = B} e before now c = record {
   later = c.later;
-  failed = λ name is. c.failed name (ap (λ (r : Refusal). Err r) (same_error {T = B} e (refused.Spawn name) is));
-  kept = λ not memory. c.kept (λ name is. not name (ap (λ (r : Refusal). Err r) (same_error {T = A} e (refused.Spawn name) is)))
-      (λ is. memory (ap (λ (r : Refusal). Err r) (same_error {T = A} e refused.Memory is)));
-  no_door = λ is. c.no_door (ap (λ (r : Refusal). Err r) (same_error {T = B} e refused.Door is));
+  failed = λ name is. c.failed name (ap (λ (r : Refusal). Err r) (same_refusal {T = B} e (refused.Spawn name) is));
+  kept = λ not memory. c.kept (λ name is. not name (ap (λ (r : Refusal). Err r) (same_refusal {T = A} e (refused.Spawn name) is)))
+      (λ is. memory (ap (λ (r : Refusal). Err r) (same_refusal {T = A} e refused.Memory is)));
+  no_door = λ is. c.no_door (ap (λ (r : Refusal). Err r) (same_refusal {T = B} e refused.Door is));
 }
 
 -- ---- what never tells of a door
@@ -77,9 +77,9 @@ sent_no_door sent refusal (inr memory) is = memory_no_door refusal memory.0 is
 pub quiet_spawn : {T : Type 0} (e : Refusal) (before now : ℕ) → now ≡ before → ((name : List ℕ) → e ≡ refused.Spawn name → ⊥) → (e ≡ refused.Door → ⊥) → HasSpawnCause {T = T} before now (Err e)
 quiet_spawn {T = T} e before now same not_spawn not_door = record {
   later = omega (arith, same);
-  failed = λ name is. absurd (not_spawn name (same_error {T = T} e (refused.Spawn name) is));
+  failed = λ name is. absurd (not_spawn name (same_refusal {T = T} e (refused.Spawn name) is));
   kept = λ not memory. same;
-  no_door = λ is. not_door (same_error {T = T} e refused.Door is);
+  no_door = λ is. not_door (same_refusal {T = T} e refused.Door is);
 }
 
 -- Where nothing failed, and there is no other refusal than want of memory.
@@ -87,7 +87,7 @@ pub quiet_cause : {T : Type 0} (r : Result T Refusal) (before now : ℕ) → now
 quiet_cause (Ok said) before now same memory = record { later = omega (arith, same); failed = λ is. absurd (cc is); kept = same; other = λ err not. same }
 quiet_cause {T = T} (Err e) before now same memory = record {
   later = omega (arith, same);
-  failed = λ is. absurd (two (sym memory ∙ same_error {T = T} e refused.Disk is));
+  failed = λ is. absurd (two (sym memory ∙ same_refusal {T = T} e refused.Disk is));
   kept = tt;
   other = λ err not. same;
 } where

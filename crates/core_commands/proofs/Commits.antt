@@ -38,6 +38,7 @@ use Rattle.core_commands.specs.Committing.{patch_requests, commit_requests, Come
 use Rattle.core_commands.specs.Handing.{told_reply, HandsSent}
 use Rattle.core_commands.proofs.Causes.{quiet_cause}
 use Rattle.core_commands.proofs.Replied.{not_unopened, IsTold, machines, no_memory, disk, says_told, says_fault}
+use Rattle.core_commands.proofs.Causes.{same_refusal}
 
 -- ---- the reply to the commit
 
@@ -178,9 +179,6 @@ disk_status sent refusal (inr none) is = let clash : refused.Memory ≡ refused.
 fault_disk : (sent : Sent) (refusal : Refusal) → HandsSent sent refusal → sent ≡ replies.refused http.DiskFault → refusal ≡ refused.Disk
 fault_disk sent refusal (inl told) is = told ∙ ap told_reply is
 fault_disk sent refusal (inr none) is = absurd (none.1 (ap (λ (s : Sent). s.status) is))
-
-same_refusal : {T : Type 0} (e f : Refusal) → ◌≡◌ {A = Result T Refusal} (Err e) (Err f) → e ≡ f
-same_refusal e f is = cc is
 
 same_sent : {T : Type 0} (sent fault : Sent) → ◌≡◌ {A = Result T Sent} (Err sent) (Err fault) → sent ≡ fault
 same_sent sent fault is = cc is

@@ -52,7 +52,7 @@ fn no_keys(alloc: Global) -> Result<Bytes, Refusal>
     ensures line { IfOk result (λ line. line ≡ codes "[]" ++ 10 ∷ []) }
     ensures memory { IfErr result (λ refusal. refusal ≡ Refusal.Memory) }
 {
-    let text = Text::of(String::from_str(alloc, "[]")?);
+    let text = Text::from_str(alloc, "[]")?;
     Ok(line_of(alloc, &text)?)
 }
 

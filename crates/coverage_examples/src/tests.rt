@@ -11,10 +11,6 @@ use std::test::Fail;
 use template_reader::read;
 use typed_settings::Types;
 
-fn text(alloc: Global, bytes: &str) -> Result<Text, AllocError> {
-    Ok(Text::of(String::from_str(alloc, bytes)?))
-}
-
 fn put(content: &mut Content, key: Key, value: Scalar) -> Result<(), AllocError> {
     if content.fits(&key) {
         content.put(key, value)?;
@@ -33,7 +29,7 @@ fn put_list(content: &mut Content, key: Key, name: Text, list: Scalar) -> Result
 fn put_pairs(alloc: Global, content: &mut Content, pairs: &[(&str, &str)]) -> Result<(), Fail> {
     for (key, json) in pairs {
         let value = Scalar::of_json(alloc, json.as_bytes())?;
-        let name = text(alloc, "affected-services")?;
+        let name = Text::from_str(alloc, "affected-services")?;
         let is_setting = key.starts_with("settings");
         let key = Key::read(alloc, key.as_bytes())?;
         if is_setting {
@@ -77,7 +73,10 @@ fn types(alloc: Global) -> Result<Types, Fail> {
         ("settings.kernel.sysctl.*", "line"),
     ];
     for (pattern, word) in texts {
-        rows.push((text(alloc, pattern)?, text(alloc, word)?))?;
+        rows.push((
+            Text::from_str(alloc, pattern)?,
+            Text::from_str(alloc, word)?,
+        ))?;
     }
     Ok(Types::of_rows(alloc, &rows)?)
 }

@@ -9,9 +9,9 @@ ghost use Rattle.disk_memory.specs.Crash.{MayTear};
 ghost use Rattle.disk_memory.specs.Plan.{CountsRead, CountsWrite};
 ghost use Rattle.disk_memory.specs.Disk.{history_of, plan_of, told, faults};
 
-use crate::{Bytes, MemoryDisk, Node};
+use crate::{MemoryDisk, Node};
 use outside::{Disk, DiskErr, Failed, Path};
-use std::alloc::{AllocError, Global};
+use std::alloc::Global;
 
 #[tactic(auto, using(crate::proofs::Calls::torn_write))]
 impl Disk for MemoryDisk {

@@ -1,7 +1,6 @@
 //! Devices in memory, for tests: they keep what they went through, fail at the calls that are set to fail, and crash.
 #![tactic(auto)]
 
-mod bytes;
 mod change;
 mod connection;
 mod crash;
@@ -19,10 +18,10 @@ mod record;
 mod sink;
 mod spawner;
 
-pub use bytes::Bytes;
 pub use disk::MemoryDisk;
 pub use door::MemoryDoor;
 pub use input::Input;
+pub use key_names::Bytes;
 pub use link::MemoryLink;
 pub use node::Node;
 pub use pick::Pick;

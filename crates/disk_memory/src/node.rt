@@ -1,7 +1,7 @@
 //! What stands at a path.
 ghost use Rattle.std.specs.Prelude.{◌≡◌, IfOk};
 
-use crate::Bytes;
+use key_names::Bytes;
 use std::alloc::AllocError;
 
 /// A file with its bytes, or a link with its text.

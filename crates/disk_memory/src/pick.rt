@@ -1,5 +1,5 @@
 //! What a crash leaves of a path.
-use crate::Bytes;
+use key_names::Bytes;
 
 /// What a crash leaves of one path that was touched since the last sync.
 #[derive(Debug, Drop)]

@@ -6,10 +6,12 @@ use Rattle.outside.specs.Told.{Moves}
 use Rattle.outside.proofs.Told.{moves_stay, moves_then, moves_map}
 use Rattle.door_requests.specs.Reading.{LastIf}
 
-head_same : (x y : Exchange) (xs ys : List Exchange) → x ∷ xs ≡ y ∷ ys → x ≡ y
+-- The first exchanges of equal lists are equal.
+pub head_same : (x y : Exchange) (xs ys : List Exchange) → x ∷ xs ≡ y ∷ ys → x ≡ y
 head_same x y xs ys e = cc
 
-tail_same : (x y : Exchange) (xs ys : List Exchange) → x ∷ xs ≡ y ∷ ys → xs ≡ ys
+-- And so are the others.
+pub tail_same : (x y : Exchange) (xs ys : List Exchange) → x ∷ xs ≡ y ∷ ys → xs ≡ ys
 tail_same x y xs ys e = cc
 
 never_same : (x : Exchange) (xs : List Exchange) → [] ≡ x ∷ xs → ⊥

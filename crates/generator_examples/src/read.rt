@@ -9,8 +9,8 @@ use typed_settings::{RowsError, Types};
 fn types(alloc: Global) -> Result<Types, RowsError> {
     let mut rows = Vec::new(alloc);
     for key in ["settings.a", "settings.b", "settings.c.d"] {
-        let pattern = Text::of(String::from_str(alloc, key)?);
-        rows.push((pattern, Text::of(String::from_str(alloc, "text")?)))?;
+        let pattern = Text::from_str(alloc, key)?;
+        rows.push((pattern, Text::from_str(alloc, "text")?))?;
     }
     Types::of_rows(alloc, &rows)
 }

@@ -13,7 +13,8 @@ use Rattle.settings_maps.specs.Maps.{IsFull}
 use Rattle.settings_tree.specs.Rule.{IsPrefixFree}
 use Rattle.settings_tree.proofs.Contents.{no_rules}
 use Rattle.held_text.specs.HeldText.{keys_data, map_data, metadata_data}
-use Rattle.held_text.specs.HeldRules.{IsKeyList, IsLive, IsMap, IsMetadata, PutsRows, Reads, ReadsContent}
+use Rattle.held_text.specs.HeldRules.{IsLive, IsMap, IsMetadata, PutsRows, Reads, ReadsContent}
+use Rattle.settings_tree.specs.Owed.{IsKeyList}
 use Rattle.held_text.specs.declared.held_error.HeldError.{HeldError}
 use Rattle.held_text.specs.declared.held_error.HeldError.TheVariants.{BadHeld, Memory}
 

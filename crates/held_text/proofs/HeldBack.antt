@@ -7,11 +7,8 @@ use Rattle.json.proofs.Printed.Trees.{ArePrintable-json_tokens}
 use Rattle.json.specs.Lex.{tokens}
 use Rattle.serde_json.proofs.Texts.{print-outline}
 use Rattle.serde_json.specs.Written.{outline}
-use Rattle.key_names.proofs.KeyLimits.{IsKey-from, is_key-from, Fits-from, fits-from}
-use Rattle.key_names.proofs.Spellings.{Spells-printed, Spells_some, Spells_valid}
 use Rattle.key_names.specs.Key.{is_key, printed}
 use Rattle.key_names.specs.Order.{key_cmp}
-use Rattle.key_names.specs.Spelling.{SpellsKey}
 use Rattle.json_trees.proofs.Trip.{data_of-tokens}
 use Rattle.json_trees.specs.Json.{data_of}
 use Rattle.json_trees.specs.Nested.{IsSound}
@@ -21,19 +18,13 @@ use Rattle.json_trees.specs.Written.{data_tokens, IsReadable}
 use Rattle.json_trees.specs.declared.pending.Pending.{Pending}
 use Rattle.json_trees.specs.declared.scalar.Scalar.{Scalar}
 use Rattle.held_text.specs.HeldText.{Row, rows, key_data, keys_data, pair_data, map_data, row_data, metadata_data, transaction_data, pending_maps_data, owed_data, image_data, held_members, held_data, held_text}
-use Rattle.held_text.specs.HeldRules.{IsOwed, IsRow, IsTransaction, IsHeld}
+use Rattle.held_text.specs.HeldRules.{IsRow, IsTransaction, IsHeld}
+use Rattle.settings_tree.specs.Owed.{IsOwed}
 use Rattle.settings_tree.specs.declared.entry.Owed.{Owed}
 use Rattle.settings_tree.specs.declared.entry.Owed.TheVariants.{All, Keys}
 use Rattle.settings_tree.specs.declared.held.Held.{Held}
 use Rattle.held_text.proofs.JsonLists.{readable_within, readable_string, readable_list, readable_two, readable_three, readable_object}
-
--- A text that spells something spells a key.
-pub spelled_key : (text : List ℕ) (key : List (List ℕ)) → SpellsKey text key → IsTrue (is_key key)
-spelled_key text key spells = is_key-from key (record { some = Spells_some key text spells.spells; valid = Spells_valid key text spells.spells; fits = Fits-from key spells.within })
-
--- A key's printed text spells it.
-pub printed_key : (key : List (List ℕ)) → IsTrue (is_key key) → SpellsKey (printed key) key
-printed_key key is = let k = IsKey-from key is in record { spells = Spells-printed key k.some k.valid; within = fits-from key k.fits }
+use Rattle.held_text.proofs.KeysLeft.{each_valid}
 
 -- The value of each part can be read back, and nests as deep as told at most.
 readable_key : (n : ℕ) (key : List (List ℕ)) → IsReadable n (key_data key)
@@ -44,7 +35,7 @@ readable_keys keys h = readable_list key_data (λ key. IsTrue (is_key key)) 0 (�
 
 readable_owed : (owed : Owed) → IsOwed owed → IsReadable 1 (owed_data owed)
 readable_owed All h = readable_string 1 (codes "all")
-readable_owed (Keys keys) h = readable_keys keys h.valid
+readable_owed (Keys keys) h = readable_keys keys (each_valid keys h.valid)
 
 readable_row : (row : Row) → IsRow row → IsReadable 2 (row_data row)
 readable_row row h = readable_three 1 _ _ _ (readable_key 1 row.0) (readable_string 1 row.1) h.value.readable
@@ -76,7 +67,7 @@ module _ (h : Held) (is : IsHeld h) where
   pend = readable_list transaction_data IsTransaction 4 readable_transaction (entries h.pending) is.pending.transactions
 
   weak : IsReadable 5 (keys_data h.live.weak)
-  weak = readable_within 1 5 _ (omega arith) (readable_keys h.live.weak is.live.weak.valid)
+  weak = readable_within 1 5 _ (omega arith) (readable_keys h.live.weak (each_valid h.live.weak is.live.weak.valid))
 
   readable_held : IsReadable 6 (held_data h)
   readable_held = readable_object 5 (held_members h) (image, (live, (meta, (owed, (pend, (weak, tt)))))) refl

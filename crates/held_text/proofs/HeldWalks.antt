@@ -1,5 +1,5 @@
 -- Walks through what is held that write each part.
-use Rattle.std.proofs.Common.{arith, ◌≡◌, ◌<◌, ◌+◌, ℕ, suc, get_or, drop, drop-cons, add-one, List, [], ◌∷◌, ◌++◌, map, length, Option, Some, None, IsSome, unwrap_or, append_assoc, append-nil, refl, sym, ap, ◌∙◌, subst}
+use Rattle.std.proofs.Common.{arith, ◌≡◌, ◌+◌, List, [], ◌∷◌, ◌++◌, map, Option, Some, None, IsSome, unwrap_or, append_assoc, append-nil, refl, sym, ap, ◌∙◌, subst}
 use Rattle.std.specs.declared.cmp.Ordering.{Ordering}
 use Rattle.std.specs.FinMap.{FinMap, empty, get}
 use Rattle.std.specs.List.{flat_map, AllByRecursion}
@@ -66,10 +66,6 @@ module _ {E F : Type 0} (each : E → List F) (as_data : F → Data) (P : F → 
 some_inner : {X : Type 0} (z : Option X) (d : X) → IsSome z → z ≡ Some (unwrap_or z d)
 some_inner None d has = absurd (grind (arith, has))
 some_inner (Some i) d has = refl
-
--- The next item of a list.
-pub next_item : {X : Type 0} (xs : List X) (i : ℕ) (x : X) → i < length xs → x ≡ get_or xs i x → drop i xs ≡ x ∷ drop (i + 1) xs
-next_item xs i x low is = drop-cons xs i x low ∙ ap (λ (y : _). y ∷ drop (suc i) xs) (sym is) ∙ ap (λ (n : ℕ). x ∷ drop n xs) (sym (add-one i))
 
 module _ {K N X : Type 0} {R : K → K → Ordering} {S : N → N → Ordering} where
   -- What stands at the least key is its map of names.

@@ -1,13 +1,15 @@
 -- Rising lists of keys that are read from JSON lists.
-use Rattle.std.proofs.Common.{◌≡◌, ℕ, ◌+◌, List, [], ◌∷◌, ◌++◌, map, Some, IsTrue, Ok, Err, append_assoc, append-nil, sym, ap, ◌∙◌, subst}
-use Rattle.std.specs.List.{AllByRecursion}
+use Rattle.std.proofs.Common.{◌≡◌, ℕ, ◌+◌, List, [], ◌∷◌, ◌++◌, map, Some, IsTrue, Ok, Err, refl, append_assoc, append-nil, sym, ap, ◌∙◌, subst}
+use Rattle.std.specs.List.{AllByRecursion, list_all}
+use Rattle.std.proofs.lemmas.Bool.{and_parts, and_from}
 use Rattle.serde_json.specs.Data.{Data}
 use Rattle.serde_json.specs.Find.{as_array}
 use Rattle.serde_json.specs.View.{view, items_view}
 use Rattle.serde_json.specs.declared.value.Value.{Value}
 use Rattle.key_names.specs.Key.{is_key}
 use Rattle.held_text.specs.HeldText.{key_data, keys_data}
-use Rattle.held_text.specs.HeldRules.{IsKeyList, Reads}
+use Rattle.held_text.specs.HeldRules.{Reads}
+use Rattle.settings_tree.specs.Owed.{IsKeyList}
 use Rattle.held_text.specs.declared.held_error.HeldError.{HeldError}
 use Rattle.held_text.specs.declared.held_error.HeldError.TheVariants.{BadHeld, Memory}
 use Rattle.settings_maps.specs.KeyList.{IsRising}
@@ -21,6 +23,16 @@ Key = List (List ℕ)
 -- A list of segments that is a key.
 abbrev Valid : Key → Type 0
 Valid key = IsTrue (is_key key)
+
+-- Where all of a list are keys each is.
+pub each_valid : (keys : List Key) → IsTrue (list_all is_key keys) → AllByRecursion Valid keys
+each_valid [] all = tt
+each_valid (k ∷ keys) all = let parts = and_parts (is_key k) (list_all is_key keys) all in (parts.0, each_valid keys parts.1)
+
+-- And where each is, all are.
+pub all_valid : (keys : List Key) → AllByRecursion Valid keys → IsTrue (list_all is_key keys)
+all_valid [] each = refl
+all_valid (k ∷ keys) each = and_from (is_key k) (list_all is_key keys) each.0 (all_valid keys each.1)
 
 -- The first keys are done, and the JSON values that are left are those of the others.
 pub record KeysLeft (keys done : List Key) (left : List Data) : Type 0 where
@@ -55,7 +67,7 @@ keys_next keys done d left h = by h.rest h.whole h.are h.valid where
 -- At first all are left.
 pub keys_begun : (d : Data) (vs ws : List Value) (done : List Key) → as_array d ≡ Some (items_view vs) → ws ≡ vs → done ≡ [] → KeysFilling d done (map view ws)
 keys_begun d vs ws done read same none = record {
-  each = λ keys valid is. record { rest = keys; whole = sym (ap (λ (l : List Key). l ++ keys) none); are = ap (map view) same ∙ listed d vs (map key_data keys) read is; valid = valid.valid };
+  each = λ keys valid is. record { rest = keys; whole = sym (ap (λ (l : List Key). l ++ keys) none); are = ap (map view) same ∙ listed d vs (map key_data keys) read is; valid = each_valid keys valid.valid };
 }
 
 module _ (d : Data) (done : List Key) (v : Value) (ws left : List Value) (next : ws ≡ v ∷ left) (filling : KeysFilling d done (map view ws)) where

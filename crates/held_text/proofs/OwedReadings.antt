@@ -3,7 +3,8 @@ use Rattle.std.proofs.Common.{◌≡◌, ℕ, List, true, false, is_some, Ok, Er
 use Rattle.serde_json.specs.Data.{Data}
 use Rattle.serde_json.specs.Find.{as_array}
 use Rattle.held_text.specs.HeldText.{keys_data, owed_data}
-use Rattle.held_text.specs.HeldRules.{IsKeyList, IsOwed, Reads}
+use Rattle.held_text.specs.HeldRules.{Reads}
+use Rattle.settings_tree.specs.Owed.{IsKeyList, IsOwed}
 use Rattle.settings_tree.specs.declared.entry.Owed.{Owed}
 use Rattle.settings_tree.specs.declared.entry.Owed.TheVariants.{All, Keys}
 use Rattle.held_text.specs.declared.held_error.HeldError.{HeldError}

@@ -1,5 +1,5 @@
 -- What each part of a `Held` keeps to by its type, and what it means to read and write it as JSON.
-use Rattle.std.specs.Prelude.{◌≡◌, ◌++◌, ℕ, List, [], ◌∷◌, codes, IsTrue, MatchResult, Option, Some, Result, ⊤}
+use Rattle.std.specs.Prelude.{◌≡◌, ◌++◌, ℕ, List, [], ◌∷◌, codes, IsTrue, MatchResult, Option, Some, Result}
 use Rattle.std.specs.FinMap.{FinMap, entries, empty}
 use Rattle.std.specs.List.{AllByRecursion, flat_map}
 use Rattle.std.specs.Str.{IsUtf8}
@@ -17,30 +17,18 @@ use Rattle.json_trees.specs.Tree.{scalar_leaf, pending_leaf, pending_data}
 use Rattle.json_trees.specs.Written.{data_tokens}
 use Rattle.json_trees.specs.declared.pending.Pending.{Pending}
 use Rattle.json_trees.specs.declared.scalar.Scalar.{Scalar}
-use Rattle.settings_maps.specs.KeyList.{IsRising}
 use Rattle.settings_maps.specs.Maps.{IsFull}
 use Rattle.settings_maps.specs.TxName.{is_tx_name}
 use Rattle.settings_tree.specs.Content.{Contents, IsContent, IsNamed}
 use Rattle.held_text.specs.HeldText.{Row, rows, keys_data, map_data, metadata_data, owed_data, pending_maps_data, image_data, held_text}
 use Rattle.settings_tree.specs.Pending.{IsPending}
 use Rattle.settings_tree.specs.Rule.{IsPrefixFree}
-use Rattle.settings_tree.specs.declared.entry.Owed.{Owed}
-use Rattle.settings_tree.specs.declared.entry.Owed.TheVariants.{All, Keys}
 use Rattle.settings_tree.specs.declared.held.Held.{Held}
 use Rattle.held_text.specs.declared.held_error.HeldError.{HeldError}
 use Rattle.held_text.specs.declared.held_error.HeldError.TheVariants.{Memory}
+use Rattle.settings_tree.specs.Owed.{IsKeyList, IsOwed}
 
 -- ---- what is held
-
--- A list of keys, each below those after it.
-pub record IsKeyList (keys : List (List (List ℕ))) : Type 0 where
-  pub rising : IsRising keys
-  pub valid : AllByRecursion (λ key. IsTrue (is_key key)) keys
-
--- The owed keys are such a list, where they are not all.
-abbrev pub IsOwed : Owed → Type 0
-IsOwed All = ⊤
-IsOwed (Keys keys) = IsKeyList keys
 
 -- A row has a key, and a value that can be written and reads back.
 pub record IsRow (row : Row) : Type 0 where

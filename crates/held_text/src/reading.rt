@@ -13,7 +13,8 @@ ghost use Rattle.settings_maps.specs.Maps.{is_empty};
 ghost use Rattle.settings_maps.specs.TxName.{is_tx_name};
 ghost use Rattle.settings_tree.specs.Content.{no_content};
 ghost use Rattle.held_text.specs.HeldText.{key_data, keys_data, pair_data, map_data, row_data, transaction_data, pending_maps_data, owed_data, image_data, held_data};
-ghost use Rattle.held_text.specs.HeldRules.{IsKeyList, IsOwed, IsRow, IsMap, IsWholeTransaction, ArePending, IsHeld, Reads, HasValues, ReadsContent, PutsRows, member_values};
+ghost use Rattle.held_text.specs.HeldRules.{IsRow, IsMap, IsWholeTransaction, ArePending, IsHeld, Reads, HasValues, ReadsContent, PutsRows, member_values};
+ghost use Rattle.settings_tree.specs.Owed.{IsKeyList, IsOwed};
 ghost use Rattle.settings_tree.specs.Rule.{IsPrefixFree};
 ghost use Rattle.held_text.specs.declared.held_error.HeldError.TheVariants.{Memory};
 

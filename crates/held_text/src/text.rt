@@ -9,7 +9,8 @@ ghost use Rattle.json_trees.specs.Scalar.{scalar_data};
 ghost use Rattle.json_trees.specs.Tree.{scalar_leaf};
 ghost use Rattle.settings_tree.specs.Content.{IsContent};
 ghost use Rattle.held_text.specs.HeldText.{rows, held_data, held_text};
-ghost use Rattle.held_text.specs.HeldRules.{IsHeld, IsRow, IsOwed, IsKeyList, ArePending, IsRead, Wrote, WroteFirst, first_members, last_members};
+ghost use Rattle.held_text.specs.HeldRules.{IsHeld, IsRow, ArePending, IsRead, Wrote, WroteFirst, first_members, last_members};
+ghost use Rattle.settings_tree.specs.Owed.{IsKeyList, IsOwed};
 ghost use Rattle.settings_tree.specs.declared.held.Held.{Held};
 ghost use Rattle.held_text.specs.declared.held_error.HeldError.TheVariants.{BadHeld};
 

@@ -8,7 +8,8 @@ ghost use Rattle.json_trees.specs.Nested.{IsSound};
 ghost use Rattle.settings_maps.specs.Maps.{inner};
 ghost use Rattle.held_text.specs.HeldText.{key_data, keys_data, pair_data, map_data, rows, rows_at, row_data, metadata_data};
 ghost use Rattle.held_text.specs.HeldText.{transaction_data, pending_maps_data, owed_data, image_data};
-ghost use Rattle.held_text.specs.HeldRules.{IsKeyList, IsOwed, IsRow, IsTransaction, ArePending, Wrote, WroteEach};
+ghost use Rattle.held_text.specs.HeldRules.{IsRow, IsTransaction, ArePending, Wrote, WroteEach};
+ghost use Rattle.settings_tree.specs.Owed.{IsKeyList, IsOwed};
 
 use base64::engine::general_purpose::STANDARD;
 use json::Writer;

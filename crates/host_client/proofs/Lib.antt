@@ -1,5 +1,5 @@
 pub mod Asking
 pub mod Sendings
 pub mod Hearings
-pub mod Digits
+pub mod Checked
 pub mod Replies

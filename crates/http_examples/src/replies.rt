@@ -5,10 +5,6 @@ use settings_tree::TxName;
 use std::alloc::{AllocError, Global};
 use std::test::Fail;
 
-fn text(alloc: Global, bytes: &str) -> Result<Text, AllocError> {
-    Ok(Text::of(String::from_str(alloc, bytes)?))
-}
-
 // A text of lines as it is sent: each line ends with CR LF, but for the body behind the last.
 fn sent(alloc: Global, lines: &str) -> Result<Vec<u8>, AllocError> {
     let mut bytes = Vec::new(alloc);
@@ -36,7 +32,7 @@ fn prints(alloc: Global, answer: &Answer, status: u16, lines: &str) -> Result<()
 
 #[test]
 fn prints_a_tree(rt: HostRuntime) -> Result<(), Fail> {
-    let text = text(
+    let text = Text::from_str(
         rt.alloc(),
         "{\"motd\":\"Welcome\",\"ntp\":{\"time-servers\":[\"a.example\",\"b.example\"]}}",
     )?;
@@ -133,7 +129,7 @@ fn prints_the_refusals_of_bytes(rt: HostRuntime) -> Result<(), Fail> {
 }
 
 fn allows(alloc: Global, path: &str, methods: &str) -> Result<(), Fail> {
-    let path = text(alloc, path)?;
+    let path = Text::from_str(alloc, path)?;
     let front = format!(in alloc; "Method Not Allowed\nAllow: {methods}")?;
     refuses(
         alloc,
@@ -169,7 +165,7 @@ fn prints_the_methods_of_each_path(rt: HostRuntime) -> Result<(), Fail> {
 #[test]
 fn prints_the_refusals_of_types(rt: HostRuntime) -> Result<(), Fail> {
     let key = Key::read(rt.alloc(), b"settings.ntp")?;
-    let wanted = text(rt.alloc(), "nothing")?;
+    let wanted = Text::from_str(rt.alloc(), "nothing")?;
     let body = "{\"error\":\"type\",\"key\":\"settings.ntp\",\"wanted\":\"nothing\"}";
     refuses(
         rt.alloc(),
@@ -189,7 +185,7 @@ fn prints_the_refusals_of_keys(rt: HostRuntime) -> Result<(), Fail> {
 
 #[test]
 fn prints_the_refusals_of_names(rt: HostRuntime) -> Result<(), Fail> {
-    let name = text(rt.alloc(), "none")?;
+    let name = Text::from_str(rt.alloc(), "none")?;
     let body = "{\"error\":\"name\",\"name\":\"none\"}";
     refuses(rt.alloc(), Refusal::NoName { name }, 404, "Not Found", body)
 }
@@ -211,7 +207,7 @@ fn prints_the_refusals_of_transactions(rt: HostRuntime) -> Result<(), Fail> {
 
 #[test]
 fn prints_the_refusals_of_stores(rt: HostRuntime) -> Result<(), Fail> {
-    let at = text(rt.alloc(), "store/v1")?;
+    let at = Text::from_str(rt.alloc(), "store/v1")?;
     let body = "{\"at\":\"store/v1\",\"error\":\"store\"}";
     refuses(
         rt.alloc(),
@@ -220,7 +216,7 @@ fn prints_the_refusals_of_stores(rt: HostRuntime) -> Result<(), Fail> {
         "Internal Server Error",
         body,
     )?;
-    let at = text(rt.alloc(), "")?;
+    let at = Text::from_str(rt.alloc(), "")?;
     refuses(
         rt.alloc(),
         Refusal::Store { at },

@@ -1,12 +1,5 @@
 //! Texts, owned and compared.
-use key_names::Text;
-use std::alloc::{AllocError, Global};
 use std::test::Fail;
-
-/// The text, owned.
-pub fn text(alloc: Global, text: &str) -> Result<Text, AllocError> {
-    Ok(Text::of(String::from_str(alloc, text)?))
-}
 
 /// The text is the wanted one.
 pub fn same(shown: &str, wanted: &str, at: &str) -> Result<(), Fail> {

@@ -13,6 +13,7 @@ pub mod RisingNames
 pub mod Flat
 pub mod Writable
 pub mod Segments
+pub mod LongerKeys
 pub mod Groups
 pub mod Objects
 pub mod Branches

@@ -1,5 +1,5 @@
 -- Keys that part at a segment.
-use Rattle.std.proofs.Common.{◌≡◌, ℕ, zero, suc, arith, inl, inr, false, List, [], ◌∷◌, ◌++◌, Less, Equal, Greater, refl, sym, ap, ◌∙◌}
+use Rattle.std.proofs.Common.{◌≡◌, ◌<◌, ◌+◌, ℕ, zero, suc, length, get_or, drop, drop-cons, add-one, arith, inl, inr, false, List, [], ◌∷◌, ◌++◌, Less, Equal, Greater, refl, sym, ap, ◌∙◌}
 use Rattle.std.specs.Ordering.{ordering_reverse}
 use Rattle.std.specs.List.{AllByRecursion, AllPairs, All}
 use Rattle.std.specs.List.Sorted.{IsStrictlySortedBy}
@@ -80,3 +80,7 @@ unlike (k ∷ keys) h =
 -- keys of which each parts with each later one are apart
 pub AreApart-from_Pairwise : (keys : List (List (List ℕ))) → Pairwise Parts keys → AreApart keys
 AreApart-from_Pairwise keys h = record { rising = rising keys h; no_prefix = unlike keys h }
+
+-- the first of what is left of a list
+pub next_item : {X : Type 0} (xs : List X) (i : ℕ) (x : X) → i < length xs → x ≡ get_or xs i x → drop i xs ≡ x ∷ drop (i + 1) xs
+next_item xs i x low is = drop-cons xs i x low ∙ ap (λ (y : _). y ∷ drop (suc i) xs) (sym is) ∙ ap (λ (n : ℕ). x ∷ drop n xs) (sym (add-one i))

@@ -1,4 +1,5 @@
 pub mod Ties
+pub mod Digits
 pub mod FileNames
 pub mod Printed
 pub mod Runs
@@ -6,6 +7,8 @@ pub mod Segments
 pub mod KeyLimits
 pub mod Spellings
 pub mod ChildFaults
+pub mod SpelledKeys
+pub mod Prefixes
 pub mod Heads
 pub mod Parts
 pub mod OneParting

@@ -16,7 +16,7 @@ use Rattle.key_names.proofs.First.{head, fault, first, first-spelling, first-fau
 use Rattle.key_names.proofs.OneParting.{OneItem, OneFault, one_joined, one_place, no_fault_behind, one_fault_behind}
 
 -- the segment at the head of a text is determined
-one_segment : OneItem IsSpelling 46
+pub one_segment : OneItem IsSpelling 46
 one_segment = record { one = λ f r g s x y spelled ends spelled' ends' same. parts f r g s x y spelled ends spelled' ends' same }
   where
     parts : (f r g s x y : List ℕ) → IsSpelling f x → Ends 46 r → IsSpelling g y → Ends 46 s → f ++ r ≡ g ++ s → (f ≡ g) × (x ≡ y) × (r ≡ s)

@@ -1,5 +1,5 @@
 //! Bytes that contracts see as a list.
-ghost use Rattle.std.specs.Prelude.{◌≡◌, ◌↔◌, IfOk, IsTrue};
+ghost use Rattle.std.specs.Prelude.{◌≡◌, ◌↔◌, IfOk, IsTrue, drop};
 ghost use Rattle.std.specs.Ordering.{eq_by_cmp};
 ghost use Rattle.key_names.specs.Order.{bytes_cmp};
 
@@ -42,6 +42,16 @@ impl Bytes {
     {
         let bytes = self.bytes.to_vec(*self.bytes.allocator())?;
         Ok(Bytes { bytes })
+    }
+}
+
+/// All bytes but the first, and none of none. It takes no memory.
+pub fn behind_first(bytes: &[u8]) -> &[u8]
+    ensures { result.now ≡ drop 1 bytes.now }
+{
+    match bytes {
+        [] => bytes,
+        [_, rest @ ..] => rest,
     }
 }
 

@@ -50,7 +50,8 @@ pub fn is_segment(bytes: &[u8]) -> bool
     !bytes.is_empty() && are_quotable(bytes)
 }
 
-fn are_quotable(bytes: &[u8]) -> bool
+/// Whether each byte may stand in a quoted segment. It takes no memory.
+pub fn are_quotable(bytes: &[u8]) -> bool
     ensures { result ≡ list_all is_quotable bytes.now }
 {
     bytes.iter().all(|b| is_quotable(*b))

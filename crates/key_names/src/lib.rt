@@ -15,10 +15,10 @@ mod segment;
 mod spelled;
 mod text;
 
-pub use bytes::Bytes;
-pub use characters::{are_bare, is_bare};
+pub use bytes::{Bytes, behind_first};
+pub use characters::{are_bare, are_quotable, is_bare};
 pub use file_names::{file_name, of_file_name};
 pub use key::Key;
 pub use key_error::{KeyError, KeyFault};
 pub use list::read_list;
-pub use text::Text;
+pub use text::{Text, copy_texts};

@@ -23,7 +23,7 @@ fn model_file(alloc: Global, count: u32) -> Result<LoadFile, AllocError>
     ensures { IfOk result (λ file. file_of file ≡ model_file count) }
 {
     Ok(LoadFile {
-        path: Text::of(String::from_str(alloc, "image/model.toml")?),
+        path: Text::from_str(alloc, "image/model.toml")?,
         bytes: Bytes::of(model_text(alloc, count)?),
     })
 }

@@ -32,6 +32,7 @@ use Rattle.load_run.specs.declared.counts.Counts.{Counts}
 use Rattle.load_run.specs.Counts.{no_counts, with_reply, with_turn, with_event, with_events}
 use Rattle.load_run.specs.Counted.{IsAskedBy, AreAskedBy, requests_in, AskedIdle, CountedBy, Counted}
 use Rattle.api_core.proofs.Replied.{says_success, alone}
+use Rattle.door_requests.proofs.Lasts.{head_same}
 
 clash : (b : Bool) → b ≡ false → b ≡ true → ⊥
 clash true off on = absurd (cc off)
@@ -199,14 +200,11 @@ turn_is n m a b goes_on r s job is before after_it goes =
 
 -- ---- what a connection asks
 
-first_same : (x y : Exchange) (xs ys : List Exchange) → x ∷ xs ≡ y ∷ ys → x ≡ y
-first_same x y xs ys e = cc
-
 -- What is heard from the start of a connection is asked by its bytes.
 pub heard_by : (bytes : List ℕ) (ask : Ask) (old new : List Exchange) → old ≡ fresh bytes ∷ [] → LastBy (IsHeard (heard.Asked ask)) old new
     → IsAskedBy bytes (request_of (question ask))
 heard_by bytes ask old new is last =
-    let start : last.before ≡ fresh bytes = first_same last.before (fresh bytes) last.others [] (sym last.old_is ∙ is) in
+    let start : last.before ≡ fresh bytes = head_same last.before (fresh bytes) last.others [] (sym last.old_is ∙ is) in
     let input : input_of last.now ≡ bytes = last.moved.input ∙ ap input_of start in
     let heard_it : (n : ℕ) × Asks (input_of last.now) (question ask) n = last.moved.hears (ap (λ (e : Exchange). e.heard) start) in
     record {

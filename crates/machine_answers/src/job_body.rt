@@ -16,13 +16,6 @@ use settings_machine::Cause;
 use settings_tree::Owed;
 use std::alloc::{AllocError, Global};
 
-fn text(alloc: Global, text: &str) -> Result<Text, AllocError>
-    ensures { IfOk result (λ copy. copy ≡ text.now) }
-{
-    let text = text.to_string(alloc)?;
-    Ok(Text::of(text))
-}
-
 fn spawn_words(alloc: Global, service: &str) -> Result<Text, AllocError>
     ensures { IfOk result (λ text. text ≡ codes "spawn " ++ service.now) }
 {
@@ -48,11 +41,11 @@ fn cause_words(alloc: Global, cause: &Cause) -> Result<Text, AllocError>
     ensures { IfOk result (λ text. text ≡ cause_words cause.now) }
 {
     match cause {
-        Cause::Disk => text(alloc, "disk"),
+        Cause::Disk => Text::from_str(alloc, "disk"),
         Cause::Spawn { service } => spawn_words(alloc, service.as_str()),
         Cause::Render { file, .. } => render_words(alloc, file.as_str()),
         Cause::Status { service, number } => status_words(alloc, service.as_str(), *number),
-        Cause::Memory => text(alloc, "memory"),
+        Cause::Memory => Text::from_str(alloc, "memory"),
     }
 }
 

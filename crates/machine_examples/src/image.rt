@@ -4,7 +4,7 @@ ghost use Rattle.model_file.specs.Model.{AreTyped};
 ghost use Rattle.opening_step.specs.Step.{AreSettings};
 ghost use Rattle.typed_settings.specs.Order.{IsTable};
 
-use crate::texts::{bytes, text};
+use crate::texts::bytes;
 use key_names::{Bytes, Text};
 use metadata_links::Manifest;
 use model_file::Model;
@@ -69,7 +69,11 @@ fn templates(alloc: Global) -> Result<Templates, Fail> {
     ];
     let mut templates = Templates::new(alloc);
     for (file, source) in rows {
-        add(&mut templates, text(alloc, file)?, bytes(alloc, source)?)?;
+        add(
+            &mut templates,
+            Text::from_str(alloc, file)?,
+            bytes(alloc, source)?,
+        )?;
     }
     Ok(templates)
 }

@@ -1,13 +1,8 @@
 //! Texts, and what is made of them.
-use key_names::{Bytes, Text};
+use key_names::Bytes;
 use settings_tree::TxName;
 use std::alloc::{AllocError, Global};
 use std::test::Fail;
-
-/// The text, owned.
-pub fn text(alloc: Global, text: &str) -> Result<Text, AllocError> {
-    Ok(Text::of(String::from_str(alloc, text)?))
-}
 
 /// The bytes of the text.
 pub fn bytes(alloc: Global, text: &str) -> Result<Bytes, AllocError> {

@@ -30,7 +30,7 @@ pub(crate) fn live_below(
 fn pending_text(alloc: Global, value: &Pending) -> Result<Text, AllocError> {
     match value {
         Pending::Put(value) => value.print(alloc),
-        Pending::Gone => Ok(Text::of(String::from_str(alloc, "null")?)),
+        Pending::Gone => Text::from_str(alloc, "null"),
     }
 }
 

@@ -2,7 +2,7 @@
 use crate::entries::{key_of, live_below, pending_in};
 use crate::tree::{Entry, tree_text};
 use api_http::{Answer, Refusal};
-use key_names::{Key, Text};
+use key_names::{Key, Text, copy_texts};
 use machine_answers::MachineReply;
 use metadata_links::{Manifest, Steps};
 use plain_machine::{PlainImage, PlainMachine};
@@ -148,14 +148,6 @@ fn nearest<'a>(manifest: &'a Manifest, key: &Key) -> Option<&'a [Text]> {
     None
 }
 
-fn copies(alloc: Global, names: &[Text]) -> Result<Vec<Text>, AllocError> {
-    let mut copies = Vec::new(alloc);
-    for name in names {
-        copies.push(name.copy()?)?;
-    }
-    Ok(copies)
-}
-
 // The keys, each once and rising.
 fn rising(alloc: Global, keys: &[Key]) -> Result<KeyList, AllocError> {
     let mut all = KeyList::new(alloc);
@@ -175,7 +167,7 @@ pub(crate) fn affected(
     let mut lists = Vec::new(alloc);
     for key in rising(alloc, keys)?.as_slice() {
         if let Some(list) = nearest(&image.manifest, key) {
-            lists.push((key.copy()?, copies(alloc, list)?))?;
+            lists.push((key.copy()?, copy_texts(alloc, list)?))?;
         }
     }
     MachineReply::Lists(lists).into_answer(alloc)

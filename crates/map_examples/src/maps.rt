@@ -1,7 +1,7 @@
 //! Names of transactions and of metadata, and the maps by key.
-use crate::texts::{key, text};
+use crate::texts::key;
 use json_trees::{Pending, Scalar};
-use key_names::Key;
+use key_names::{Key, Text};
 use settings_maps::{KeyMap, Metadata, Transactions, TxName, is_meta_name};
 use std::alloc::{AllocError, Global};
 use std::test::Fail;
@@ -85,8 +85,8 @@ fn goes_over_a_map(rt: HostRuntime) -> Result<(), Fail> {
 
 // Whether the name keeps its last value, and a key without names goes.
 fn keeps_names(alloc: Global, metadata: &mut Metadata, key: &Key) -> Result<bool, AllocError> {
-    metadata.put(key.copy()?, text(alloc, "n")?, Scalar::Int(1))?;
-    metadata.put(key.copy()?, text(alloc, "n")?, Scalar::Int(2))?;
+    metadata.put(key.copy()?, Text::from_str(alloc, "n")?, Scalar::Int(1))?;
+    metadata.put(key.copy()?, Text::from_str(alloc, "n")?, Scalar::Int(2))?;
     let had = metadata.value(key, b"n").is_some() && metadata.next_key(None).is_some();
     Ok(had && metadata.take(key, b"n") == Some(Scalar::Int(2)) && metadata.next_key(None).is_none())
 }

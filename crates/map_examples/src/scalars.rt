@@ -1,5 +1,5 @@
 //! Scalars of their JSON texts.
-use crate::texts::{answers, same, text};
+use crate::texts::{answers, same};
 use json_trees::{Item, Items, Pending, Scalar};
 use key_names::Text;
 use std::alloc::{AllocError, Global};
@@ -55,7 +55,7 @@ fn refuses(rt: HostRuntime) -> Result<(), Fail> {
 }
 
 fn list(alloc: Global) -> Result<Scalar, AllocError> {
-    let items = vec![in alloc; Item::Bool(true), Item::Text(text(alloc, "a")?)]?;
+    let items = vec![in alloc; Item::Bool(true), Item::Text(Text::from_str(alloc, "a")?)]?;
     Ok(Scalar::List(Items::of(items)))
 }
 

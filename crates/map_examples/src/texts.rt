@@ -1,12 +1,7 @@
 //! Texts, owned and compared.
 use key_names::{Key, Text};
-use std::alloc::{AllocError, Global};
+use std::alloc::Global;
 use std::test::Fail;
-
-/// The text, owned.
-pub fn text(alloc: Global, text: &str) -> Result<Text, AllocError> {
-    Ok(Text::of(String::from_str(alloc, text)?))
-}
 
 /// The key that the text is.
 pub fn key(alloc: Global, text: &str) -> Result<Key, Fail> {

@@ -1,6 +1,6 @@
 -- Loops over lists, by what is left of them.
-use Rattle.std.proofs.Common.{◌≡◌, ◌<◌, ◌≤◌, ◌+◌, ℕ, List, [], ◌∷◌, ◌++◌, length, get_or, drop, map, filter, Option, Some, None, false, true, refl, sym, ◌∙◌, ap, subst, append_assoc, append-nil}
-use Rattle.std.specs.Prelude.{Bool, Result, Ok, Err, IfErr, IsErrAnd}
+use Rattle.std.proofs.Common.{◌≡◌, ◌<◌, ◌≤◌, ◌+◌, ℕ, List, [], ◌∷◌, ◌++◌, length, get_or, drop, map, filter, Option, Some, None, false, true, refl, sym, ◌∙◌, ap, append_assoc, append-nil}
+use Rattle.std.specs.Prelude.{Bool}
 use Rattle.std.specs.List.{filter_map, flat_map, cons_option}
 use Rattle.std.proofs.lemmas.List.{at_drop_more, at_drop_all}
 use Rattle.std.proofs.lemmas.Bool.{cond-true, cond-false}
@@ -76,8 +76,3 @@ pub flat_rest : {X E : Type 0} (f : X → List E) (x : X) (xs : List X) → f x 
 flat_rest f x xs none = ap (λ l. l ++ flat_map f xs) none
 
 -- ---- errors that are handed on
-
--- What holds of the error that is handed on holds of the answer.
-pub handed : {T E : Type 0} (r : Result T E) (e : E) (P : E → Type 0) → IsErrAnd r (λ x. x ≡ e) → P e → IfErr r P
-handed (Ok v) e P is p = tt
-handed (Err x) e P is p = subst P (sym is) p

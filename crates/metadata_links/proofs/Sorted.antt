@@ -1,13 +1,12 @@
 -- Entries that rise by key: the finite map that they are seen as, and the search in them.
-use Rattle.std.proofs.Common.{arith, ◌≡◌, ◌<◌, ℕ, zero, suc, List, [], ◌∷◌, length, get_or, Option, Some, None, IsTrue, T, Bool, refl, sym, ◌∙◌, ap, subst}
+use Rattle.std.proofs.Common.{◌≡◌, ◌<◌, ℕ, List, length, get_or, Option, Some, None, IsTrue, T, Bool, sym, ◌∙◌, ap, subst}
 use Rattle.std.specs.declared.cmp.Ordering.{Ordering}
 use Rattle.std.specs.declared.cmp.Ordering.TheVariants.{Less, Equal, Greater}
-use Rattle.std.specs.Ordering.{is_eq, ordering_index, ordering_reverse}
+use Rattle.std.specs.Ordering.{ordering_index}
 use Rattle.std.specs.Cmp.{IsTotalOrder}
 use Rattle.std.specs.List.Sorted.{IsNonDecreasingBy, IsPartitionPoint}
 use Rattle.std.specs.FinMap.{FinMap, IsAntisymmetric, find, is_sorted, entries, get, from_sorted, entries-from_sorted, get-from_sorted}
-use Rattle.std.proofs.lemmas.Bool.{cond-false}
-use Rattle.settings_maps.proofs.SortedEntries.{entries_searchable, find_found}
+use Rattle.settings_maps.proofs.SortedEntries.{entries_searchable, find_found, find_missing}
 
 T_of : (b : Bool) → IsTrue b → T b
 T_of b holds = subst T (sym holds) tt
@@ -31,23 +30,10 @@ module _ {K X : Type 0} {R : K → K → Ordering} where
 
 -- ---- the search
 
-module _ {K : Type 0} {R : K → K → Ordering} (o : IsTotalOrder R) where
-  turned : (k q : K) (r : Ordering) → R q k ≡ r → R k q ≡ ordering_reverse r
-  turned k q r is = o.antisymm k q ∙ ap ordering_reverse is
-
 module _ {K X : Type 0} {R : K → K → Ordering} (o : IsTotalOrder R) where
   -- The keys before place i are below k, and the others above it.
   abbrev Point : List (K × X) → K → ℕ → Type 0
   Point es k i = IsPartitionPoint (λ e. R e.0 k ≡ Less) (λ e. R e.0 k ≡ Greater) es i
-
-  find_missing : (es : List (K × X)) (i : ℕ) (k : K) → Point es k i → find R k es ≡ None
-  find_missing [] i k point = refl
-  find_missing (e ∷ es) zero k point =
-      cond-false _ _ _ (ap is_eq (turned o k e.0 Greater (point.1 0 e (omega arith) (omega arith))))
-      ∙ find_missing es zero k (λ j d low high. absurd (omega arith), λ j d low high. point.1 (suc j) d (omega arith) (omega arith))
-  find_missing (e ∷ es) (suc i) k point =
-      cond-false _ _ _ (ap is_eq (turned o k e.0 Less (point.0 0 e (omega arith) (omega arith))))
-      ∙ find_missing es i k (λ j d low high. point.0 (suc j) d (omega arith) (omega arith), λ j d low high. point.1 (suc j) d (omega arith) (omega arith))
 
   -- A search that hits.
   pub hit : IsAntisymmetric R → (es : List (K × X)) (k : K) (i : ℕ) (d : K × X) → IsTrue (is_sorted R es) → i < length es → ((d : K × X) → R (get_or es i d).0 k ≡ Equal) → Some (get_or es i d).1 ≡ find R k es
@@ -55,6 +41,6 @@ module _ {K X : Type 0} {R : K → K → Ordering} (o : IsTotalOrder R) where
 
   -- A search that misses.
   pub miss : (es : List (K × X)) (k : K) (i : ℕ) → IsTrue (is_sorted R es) → (IsNonDecreasingBy (λ e. ordering_index (R e.0 k)) es → Point es k i) → None ≡ find R k es
-  miss es k i rises point = sym (find_missing es i k (point (entries_searchable o es k rises)))
+  miss es k i rises point = sym (find_missing o es i k (point (entries_searchable o es k rises)))
 
 pub ruleset sorted_entries = (entries_of, slice_seen, get_seen, rises_seen)

@@ -46,7 +46,7 @@ pub(crate) fn segment_text(alloc: Global, segment: &[u8]) -> Result<Text, AllocE
     ensures { IfOk result (λ text. text ≡ segment.now) }
 {
     let text = std::str::from_utf8(segment).unwrap();
-    Ok(Text::of(String::from_str(alloc, text)?))
+    Text::from_str(alloc, text)
 }
 
 fn is_text(item: &Item) -> bool

@@ -1,6 +1,6 @@
 -- Tasks that are carried out one after another.
-use Rattle.std.proofs.Common.{◌≡◌, inl, inr, ℕ, ◌+◌, ◌-◌, ◌<◌, ◌≤◌, Bool, true, false, cond, List, [], ◌∷◌, ◌++◌, Option, Some, None, Result, Ok, Err, length, map, get_or, take, drop, refl, sym, ◌∙◌, ap, subst, arith, append_assoc}
-use Rattle.std.specs.Prelude.{IsTrue, IsErrAnd, IfErr, flat_map, slice_get, reverse}
+use Rattle.std.proofs.Common.{◌≡◌, inl, inr, ℕ, ◌+◌, ◌-◌, ◌<◌, ◌≤◌, Bool, true, false, cond, List, [], ◌∷◌, ◌++◌, Option, Some, None, length, map, get_or, take, drop, refl, sym, ◌∙◌, ap, subst, arith, append_assoc}
+use Rattle.std.specs.Prelude.{IsTrue, flat_map, slice_get, reverse}
 use Rattle.std.specs.List.{list_all}
 use Rattle.std.proofs.lemmas.Bool.{false≢true}
 use Rattle.std.proofs.lemmas.List.Folds.{list_all_at, list_all-map}
@@ -153,11 +153,6 @@ known_at p true names given i name all same at = elim (p name) as (λ b. p name 
       let turned : get_or given (length given - 1 - i) name ≡ name = sym (get_or-reverse given i name within) ∙ there.1 in
       absurd (false≢true (sym (list_all_at p given (length given - 1 - i) name (omega (arith, within)) (ap p turned ∙ e)) ∙ ap (list_all p) same ∙ all))
 ] refl
-
--- What holds of the error that is handed on holds of the answer.
-pub handed_on : {T E : Type 0} (r : Result T E) (e : E) (P : E → Type 0) → IsErrAnd r (λ x. x ≡ e) → P e → IfErr r P
-handed_on (Ok v) e P is p = tt
-handed_on (Err x) e P is p = subst P (sym is) p
 
 -- ---- the steps of a way
 

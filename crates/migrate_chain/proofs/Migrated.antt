@@ -1,6 +1,6 @@
 -- A store is moved to a version, as a whole.
 use Rattle.std.proofs.Common.{◌≡◌, inl, inr, ◌⊎◌, ℕ, Bool, true, false, ◌&&◌, List, [], ◌∷◌, map, length, Option, Result, Ok, Err, refl, sym, ◌∙◌, ap, subst, codes, arith}
-use Rattle.std.specs.Prelude.{IsTrue, Contains, IfOk, OnOk, IfErr, IsErrOf, reverse}
+use Rattle.std.specs.Prelude.{IsTrue, Contains, OnOk, IfErr, IsErrOf, reverse}
 use Rattle.std.specs.List.{list_all}
 use Rattle.std.proofs.lemmas.Bool.{false≢true}
 use Rattle.std.proofs.lemmas.List.{length-map, length-reverse, reverse-append}
@@ -45,6 +45,7 @@ use Rattle.migrate_chain.specs.Moving.{IsAtHand, HasMoved, HasOldOrNew, MovesAlo
 use Rattle.migrate_chain.specs.Migrating.{HasMigrated, IsThere, HasSome, Migrates}
 use Rattle.migrate_chain.proofs.Stays.{standing}
 use Rattle.migrate_chain.proofs.Along.{in_store}
+use Rattle.std.proofs.lemmas.Result.{IfOk-weaker}
 
 -- ---- the way
 
@@ -225,10 +226,6 @@ on_ok_all : {T E X : Type 0} (r : Result T E) → X → OnOk r X
 on_ok_all (Ok v) x = x
 on_ok_all (Err e) x = tt
 
-if_ok_map : {T E : Type 0} {P Q : T → Type 0} (r : Result T E) → ((v : T) → P v → Q v) → IfOk r P → IfOk r Q
-if_ok_map (Ok v) f p = f v p
-if_ok_map (Err e) f p = tt
-
 module _ (to : Version) (transitions : List Transition) (migrations : List Named) (before after : Option (List Mapped)) (p q : Option (List Refused)) where
   abbrev Moment : Place → Held → ℕ → Tree → Type 0
   Moment place held format image = HasStore place held format image ⊎ HasMigrated place held to transitions migrations before after image
@@ -336,10 +333,10 @@ module _ (to : Version) (transitions : List Transition) (migrations : List Named
           (keeps_since (Ok start) old mid starts start.place start.held start.format settled (back_found (λ q h f. HasStore q h f (tree_of old)) start place held format found store)))
           (since_map (HasOldOrNew start (tasks_of migrations back way) to before after) (Moment start.place start.held start.format) mid new (λ image either. elim either [ inl s ↦ inl s | inr m ↦ inr (migrated_image image m) ])
           (along.any_moment (hand old mid starts.ready))));
-      done = if_ok_map result (λ moved done place held format store.
+      done = IfOk-weaker result _ _ (λ moved done place held format store.
           let both = done (hand old mid starts.ready) in
           (both.1, inr (for_found (λ q h f. HasMigrated q h to transitions migrations before after (tree_of new)) start place held format (starts.found place held format store) (migrated_image (tree_of new) both.0)))) along.done;
-      answer = if_ok_map result (λ moved answer place held format store. for_found (λ r h f. IsAnswer moved r.version to (tree_of new)) start place held format (starts.found place held format store) (answer (hand old mid starts.ready))) along.answer;
+      answer = IfOk-weaker result _ _ (λ moved answer place held format store. for_found (λ r h f. IsAnswer moved r.version to (tree_of new)) start place held format (starts.found place held format store) (answer (hand old mid starts.ready))) along.answer;
       found = on_ok_all result (some_store start old mid starts);
       found_first = if_err_all result (λ e behind. some_store start old mid starts);
       stays = λ place held store same.

@@ -1,7 +1,7 @@
 //! Copies of the lists that migrations name.
 ghost use Rattle.std.specs.Prelude.{◌≡◌, IfOk};
 
-use key_names::{Key, Text};
+use key_names::Key;
 use std::alloc::{AllocError, Global};
 
 pub(crate) fn copied_pairs(
@@ -13,16 +13,6 @@ pub(crate) fn copied_pairs(
     let mut copies = Vec::new(alloc);
     for (from, to) in pairs {
         copies.push((from.copy()?, to.copy()?))?;
-    }
-    Ok(copies)
-}
-
-pub(crate) fn copied_texts(alloc: Global, texts: &[Text]) -> Result<Vec<Text>, AllocError>
-    ensures { IfOk result (λ copies. copies.items ≡ texts.now) }
-{
-    let mut copies = Vec::new(alloc);
-    for text in texts {
-        copies.push(text.copy()?)?;
     }
     Ok(copies)
 }

@@ -3,10 +3,10 @@ ghost use Rattle.std.specs.Prelude.{◌≡◌, IfOk};
 ghost use Rattle.migrate_helpers.specs.Borrowed.{step};
 ghost use Rattle.migrate_helpers.specs.Step.{backward_step, forward_step};
 
-use crate::copies::{copied_pairs, copied_texts};
+use crate::copies::copied_pairs;
 use crate::step::{Edit, Step};
 use json_trees::Scalar;
-use key_names::{Key, Text};
+use key_names::{Key, Text, copy_texts};
 use settings_maps::copy_keys;
 use std::alloc::AllocError;
 
@@ -139,11 +139,11 @@ impl Migration {
             },
             Migration::AddMetadata { key, names } => Migration::AddMetadata {
                 key: key.copy()?,
-                names: copied_texts(*names.allocator(), names)?,
+                names: copy_texts(*names.allocator(), names)?,
             },
             Migration::RemoveMetadata { key, names } => Migration::RemoveMetadata {
                 key: key.copy()?,
-                names: copied_texts(*names.allocator(), names)?,
+                names: copy_texts(*names.allocator(), names)?,
             },
             Migration::ReplaceMetadata {
                 key,

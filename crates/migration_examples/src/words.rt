@@ -14,12 +14,8 @@ pub fn keys(alloc: Global, text: &str) -> Result<Vec<Key>, Fail> {
     Ok(read_list(alloc, text.as_bytes())?)
 }
 
-fn text(alloc: Global, text: &str) -> Result<Text, AllocError> {
-    Ok(Text::of(String::from_str(alloc, text)?))
-}
-
 fn names(alloc: Global, name: &str) -> Result<Vec<Text>, AllocError> {
-    Ok(vec![in alloc; text(alloc, name)?]?)
+    Ok(vec![in alloc; Text::from_str(alloc, name)?]?)
 }
 
 /// Settings that came.
@@ -47,8 +43,8 @@ pub fn removed(settings: Result<Vec<Key>, Fail>) -> Result<Migration, Fail> {
 pub fn replaced(alloc: Global, setting: &str, old: &str, new: &str) -> Result<Migration, Fail> {
     Ok(Migration::ReplaceString {
         setting: key(alloc, setting)?,
-        old: text(alloc, old)?,
-        new: text(alloc, new)?,
+        old: Text::from_str(alloc, old)?,
+        new: Text::from_str(alloc, new)?,
     })
 }
 
@@ -95,7 +91,7 @@ pub fn replaced_name(
 ) -> Result<Migration, Fail> {
     Ok(Migration::ReplaceMetadata {
         key: key(alloc, at)?,
-        name: text(alloc, name)?,
+        name: Text::from_str(alloc, name)?,
         old: Scalar::Int(old),
         new: Scalar::Int(new),
     })

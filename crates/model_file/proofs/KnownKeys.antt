@@ -1,11 +1,10 @@
 -- Keys that the types know, and values that they take.
-use Rattle.std.proofs.Common.{◌≡◌, ℕ, List, [], ◌∷◌, ◌++◌, Option, Some, None, Bool, true, false, cond, refl, sym, ap, ◌∙◌, subst, append-nil, IsSome, IsTrue, arith}
+use Rattle.std.proofs.Common.{◌≡◌, List, [], ◌++◌, Option, Some, None, Bool, true, false, cond, refl, sym, ap, ◌∙◌, subst, append-nil, IsSome, IsTrue}
 use Rattle.std.specs.Prelude.{unwrap_or}
 use Rattle.std.specs.FinMap.{FinMap, empty, get, insert, get-empty, get-insert}
 use Rattle.std.specs.Ordering.{eq_by_cmp}
-use Rattle.std.proofs.lemmas.Bool.{and_parts}
 use Rattle.key_names.specs.Key.{is_prefix}
-use Rattle.key_names.specs.Order.{bytes_cmp, bytes_cmp-IsAntisymmetric, key_cmp, key_total, key_cmp-IsAntisymmetric}
+use Rattle.key_names.specs.Order.{key_cmp, key_total, key_cmp-IsAntisymmetric}
 use Rattle.json_trees.specs.declared.scalar.Scalar.{Scalar}
 use Rattle.settings_maps.proofs.NestedMaps.{tied_by}
 use Rattle.settings_tree.specs.Rule.{Fits}
@@ -17,6 +16,7 @@ use Rattle.typed_settings.proofs.OneTable.{all_of_settings}
 use Rattle.model_file.specs.Rows.{RowTexts}
 use Rattle.model_file.specs.Entries.{Path}
 use Rattle.model_file.specs.Model.{AreKnown, AreTyped}
+use Rattle.key_names.proofs.Prefixes.{behind}
 
 -- ---- tables of the same rows
 
@@ -61,15 +61,6 @@ typed_put table values key value typed here q v is = by (eq_by_cmp key_cmp q key
   by false e same = typed q v same
 
 -- ---- maps whose keys are known
-
-behind : (p k : Path) → is_prefix p k ≡ true → (rest : Path) × (k ≡ p ++ rest)
-behind [] k begins = (k, refl)
-behind (n ∷ p) [] begins = absurd (grind arith)
-behind (n ∷ p) (m ∷ k) begins =
-    let parts = and_parts (eq_by_cmp bytes_cmp n m) (is_prefix p k) begins in
-    let one : n ≡ m = bytes_cmp-IsAntisymmetric n m (tied_by (bytes_cmp n m) parts.0) in
-    let more = behind p k parts.1 in
-    (more.0, ap (λ (x : List ℕ). x ∷ k) (sym one) ∙ ap (λ (l : Path). n ∷ l) more.1)
 
 -- Known keys of which one begins the other are one.
 pub one_known : (table : List Row) (p k : Path) → IsPrefixFree table → IsKnown table p → IsKnown table k → IsTrue (is_prefix p k) → p ≡ k

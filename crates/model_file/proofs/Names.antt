@@ -2,9 +2,7 @@
 use Rattle.std.proofs.Common.{◌≡◌, ℕ, List, [], ◌∷◌, true, false, sym, ◌∙◌, ap}
 use Rattle.std.specs.List.{list_any}
 use Rattle.std.specs.Ordering.{eq_by_cmp}
-use Rattle.std.proofs.lemmas.Bool.{both_ways, false_from_ne_true}
-use Rattle.std.proofs.lemmas.Map.Lookups.{exact_bytes}
-use Rattle.std.proofs.lemmas.Map.Views.{tells_apart}
+use Rattle.std.proofs.lemmas.Bool.{both_ways}
 use Rattle.key_names.specs.Order.{bytes_cmp}
 use Rattle.model_file.specs.Checks.{Check, test}
 use Rattle.model_file.specs.Document.{sections}
@@ -12,10 +10,6 @@ use Rattle.model_file.specs.Refused.{Passes, Refuses, IsAt}
 use Rattle.model_file.specs.declared.model_error.ModelKind.TheVariants.{UnknownSection}
 use Rattle.model_file.specs.declared.refusal.Refusal.{Refusal}
 use Rattle.model_file.proofs.Checking.{refuses_first}
-
--- Names that are two do not tie.
-pub none_equal : (a b : List ℕ) → (a ≡ b → ⊥) → eq_by_cmp bytes_cmp a b ≡ false
-none_equal a b differ = false_from_ne_true (eq_by_cmp bytes_cmp a b) (λ tie. differ (tells_apart exact_bytes a b tie))
 
 -- The check of a top-level name.
 abbrev pub name_check : List ℕ → Check

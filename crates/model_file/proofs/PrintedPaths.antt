@@ -1,14 +1,9 @@
 -- Paths as texts.
-use Rattle.std.proofs.Common.{◌≡◌, ◌<◌, ◌+◌, ℕ, List, [], ◌∷◌, ◌++◌, length, take, get_or, refl, sym, ◌∙◌, ap, append_assoc}
+use Rattle.std.proofs.Common.{◌≡◌, ◌<◌, ◌+◌, ℕ, List, [], ◌∷◌, ◌++◌, length, take, get_or, sym, ◌∙◌, ap, append_assoc}
 use Rattle.std.specs.List.{join_with_byte}
 use Rattle.std.proofs.lemmas.List.{take_more}
 use Rattle.model_file.specs.Entries.{Path}
-
--- One name more behind the others.
-pub join_push : (c : ℕ) (first : List ℕ) (names : Path) (n : List ℕ) → join_with_byte c (first ∷ names ++ n ∷ []) ≡ join_with_byte c (first ∷ names) ++ c ∷ n
-join_push c first [] n = refl
-join_push c first (next ∷ names) n =
-    ap (λ (l : List ℕ). first ++ c ∷ l) (join_push c next names n) ∙ sym (append_assoc first (c ∷ join_with_byte c (next ∷ names)) (c ∷ n))
+use Rattle.toml_values.proofs.Joins.{join_push}
 
 -- The text of the names so far, with the next name behind them.
 pub join_more : (c : ℕ) (first text longer : List ℕ) (names : Path) (i : ℕ) (n d : List ℕ) → i < length names → text ≡ join_with_byte c (first ∷ take i names) → n ≡ get_or names i d → longer ≡ (text ++ c ∷ []) ++ n

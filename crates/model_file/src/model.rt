@@ -20,7 +20,7 @@ use crate::value_sections::put_section;
 use crate::{ModelError, ModelKind};
 use key_names::Text;
 use settings_tree::{Content, Os};
-use std::alloc::{AllocError, Global};
+use std::alloc::Global;
 use toml::Table;
 use toml_values::table_of;
 use typed_settings::Types;
@@ -80,7 +80,7 @@ fn model_of(alloc: Global, text: &[u8]) -> Result<Model, Refusal>
     ensures typed { IfOk result (λ model. AreTyped model.types model.content.values) }
 {
     let Some(document) = table_of(alloc, text)? else {
-        let at = Text::of(String::from_str(alloc, "-")?);
+        let at = Text::from_str(alloc, "-")?;
         return Err(Refusal::Fault(ModelKind::NotToml, at));
     };
     sections_of(alloc, &document)

@@ -67,8 +67,8 @@ fn name_of(alloc: Global, name: &str, value: &Value) -> Result<OsName, Refusal>
         return Err(bad_os(alloc, name));
     };
     Ok(OsName {
-        name: Text::of(String::from_str(alloc, name)?),
-        text: Text::of(String::from_str(alloc, text)?),
+        name: Text::from_str(alloc, name)?,
+        text: Text::from_str(alloc, text)?,
     })
 }
 

@@ -14,7 +14,7 @@ fn longer(alloc: Global, path: &[Text], name: &str) -> Result<Vec<Text>, AllocEr
     ensures { IfOk result (λ longer. longer.items ≡ path.now ++ name.now ∷ []) }
 {
     let mut longer = copied(alloc, path)?;
-    longer.push(Text::of(String::from_str(alloc, name)?))?;
+    longer.push(Text::from_str(alloc, name)?)?;
     Ok(longer)
 }
 

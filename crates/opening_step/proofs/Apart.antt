@@ -7,16 +7,12 @@ use Rattle.std.specs.Ordering.{eq_by_cmp, is_lt}
 use Rattle.std.specs.FinMap.{find, is_sorted}
 use Rattle.std.specs.FinMap.Entries.{below_all}
 use Rattle.std.proofs.lemmas.Bool.{and_parts, and_from}
-use Rattle.pending_tx.proofs.Named.{unnamed-append, are_apart, once-append}
+use Rattle.pending_tx.proofs.Named.{unnamed-append, are_apart, apart-append1, once-append}
 use Rattle.settings_tree.specs.Change.{place, is_unnamed, is_once}
 use Rattle.settings_tree.specs.declared.entry.Entry.{Entry}
 use Rattle.opening_step.proofs.InOrder.{less, behind}
 
 -- ---- apart
-
-pub apart-append1 : (es fs gs : List Entry) → are_apart es gs ≡ true → are_apart fs gs ≡ true → are_apart (es ++ fs) gs ≡ true
-apart-append1 [] fs gs one two = two
-apart-append1 (e ∷ es) fs gs one two = let both = and_parts (is_unnamed (place e) gs) (are_apart es gs) one in and_from _ _ both.0 (apart-append1 es fs gs both.1 two)
 
 pub apart-append2 : (es fs gs : List Entry) → are_apart es fs ≡ true → are_apart es gs ≡ true → are_apart es (fs ++ gs) ≡ true
 apart-append2 [] fs gs one two = refl

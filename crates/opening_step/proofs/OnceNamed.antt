@@ -10,7 +10,7 @@ use Rattle.std.proofs.lemmas.Bool.{and_from}
 use Rattle.key_names.specs.Order.{bytes_cmp, key_cmp}
 use Rattle.json_trees.specs.declared.scalar.Scalar.{Scalar}
 use Rattle.settings_maps.specs.KeyList.{has_key, joined}
-use Rattle.pending_tx.proofs.Named.{unnamed-append, are_apart, once-append}
+use Rattle.pending_tx.proofs.Named.{unnamed-append, are_apart, apart-append1, once-append}
 use Rattle.settings_maps.specs.Maps.{value_at}
 use Rattle.settings_tree.specs.Change.{Place, Live, Meta, TheOwed, TheImage, TheWeak, is_same, is_unnamed, is_once}
 use Rattle.settings_tree.specs.Content.{Contents}
@@ -24,7 +24,7 @@ use Rattle.opening_step.specs.Entries.{owed_entries, image_entries, weak_entries
 use Rattle.settings_machine.specs.Opening.{is_of_store}
 use Rattle.settings_tree.proofs.Rising.{entries_rise}
 use Rattle.settings_machine.proofs.Elements.{key_tied, key_itself, name_tied, name_itself}
-use Rattle.opening_step.proofs.Apart.{apart-append1, apart-append2, apart-flat1, apart-flat2, flat_once, known_apart}
+use Rattle.opening_step.proofs.Apart.{apart-append2, apart-flat1, apart-flat2, flat_once, known_apart}
 
 abbrev Key : Type 0
 Key = List (List ℕ)

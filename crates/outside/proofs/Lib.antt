@@ -1,4 +1,5 @@
 pub mod PathTexts
+pub mod Results
 pub mod Told
 pub mod Trees
 pub mod Ties

@@ -35,7 +35,7 @@ use Rattle.pending_tx.proofs.Changing.{all_live_change, all_gone_change, owed_ch
 use Rattle.pending_tx.proofs.Effects.{live_laid, gone_laid, owed_laid, weak_laid, changes_suffice}
 use Rattle.pending_tx.proofs.Ended.{all_taken, removed_free}
 use Rattle.settings_maps.proofs.KeySets.{has_key-without}
-use Rattle.pending_tx.proofs.Named.{are_apart, unnamed-append, once-append, live_once, live_bare, live_other, gone_once, gone_bare, gone_no_live, gone_no_weak, live_apart, gone_apart, live_no_weak}
+use Rattle.pending_tx.proofs.Named.{are_apart, apart-append1, unnamed-append, once-append, live_once, live_bare, live_other, gone_once, gone_bare, gone_no_live, gone_no_weak, live_apart, gone_apart, live_no_weak}
 use Rattle.settings_tree.proofs.Rising.{entries_rise, keys_rise, sorted_some}
 use Rattle.pending_tx.proofs.Found.{not_found}
 
@@ -147,18 +147,15 @@ module _ (h : Held) (tx : List ℕ) (owed_part weak_part : Option Entry) (tells_
   owed_weak_apart None next tells = refl
   owed_weak_apart (Some e) next tells = and_from _ _ (ap (λ (x : Entry). is_unnamed (place x) (option_to_list weak_part)) tells.0 ∙ weak_unnamed TheOwed refl weak_part _ tells_weak) refl
 
-  all_apart : (es fs gs : List Entry) → are_apart es gs ≡ true → are_apart fs gs ≡ true → are_apart (es ++ fs) gs ≡ true
-  all_apart es fs gs first second = list_all-append (λ e. is_unnamed (place e) gs) es fs ∙ and_from _ _ first second
-
   pub commit_once : is_once commit_entries ≡ true
   commit_once = once-append (lives ++ ends ++ option_to_list owed_part) (option_to_list weak_part)
       (once-append (lives ++ ends) (option_to_list owed_part)
       (once-append lives ends (live_once (changes_of h tx) changes_rise) (gone_once tx (keys_of h tx) (keys_rise (inner h.pending tx) (keys_of h tx) refl)) (live_apart (changes_of h tx) ends (λ k. gone_no_live tx (keys_of h tx) k)))
       (one_once owed_part)
-      (all_apart lives ends (option_to_list owed_part) (live_apart (changes_of h tx) _ (λ k. owed_unnamed (Live k) refl owed_part _ tells_owed)) (gone_apart tx (keys_of h tx) _ (λ k. owed_unnamed (Pend tx k) refl owed_part _ tells_owed))))
+      (apart-append1 lives ends (option_to_list owed_part) (live_apart (changes_of h tx) _ (λ k. owed_unnamed (Live k) refl owed_part _ tells_owed)) (gone_apart tx (keys_of h tx) _ (λ k. owed_unnamed (Pend tx k) refl owed_part _ tells_owed))))
       (one_once weak_part)
-      (all_apart (lives ++ ends) (option_to_list owed_part) (option_to_list weak_part)
-      (all_apart lives ends (option_to_list weak_part) (live_apart (changes_of h tx) _ (λ k. weak_unnamed (Live k) refl weak_part _ tells_weak)) (gone_apart tx (keys_of h tx) _ (λ k. weak_unnamed (Pend tx k) refl weak_part _ tells_weak)))
+      (apart-append1 (lives ++ ends) (option_to_list owed_part) (option_to_list weak_part)
+      (apart-append1 lives ends (option_to_list weak_part) (live_apart (changes_of h tx) _ (λ k. weak_unnamed (Live k) refl weak_part _ tells_weak)) (gone_apart tx (keys_of h tx) _ (λ k. weak_unnamed (Pend tx k) refl weak_part _ tells_weak)))
       (owed_weak_apart owed_part _ tells_owed))
 
   owed_bare : (e : Option Entry) (next : Owed) → Tells e OwedSet h.owed next → list_all has_bare_name (option_to_list e) ≡ true

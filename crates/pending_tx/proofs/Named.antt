@@ -31,6 +31,10 @@ unnamed-append p es fs first second = list_all-append (λ e. not (is_same p (pla
 abbrev pub are_apart : List Entry → List Entry → Bool
 are_apart es fs = list_all (λ e. is_unnamed (place e) fs) es
 
+-- What both lists leave alone the joined list leaves alone.
+pub apart-append1 : (es fs gs : List Entry) → are_apart es gs ≡ true → are_apart fs gs ≡ true → are_apart (es ++ fs) gs ≡ true
+apart-append1 es fs gs one two = list_all-append (λ e. is_unnamed (place e) gs) es fs ∙ and_from _ _ one two
+
 -- Two lists that name no place twice, and none in common.
 pub once-append : (es fs : List Entry) → is_once es ≡ true → is_once fs ≡ true → are_apart es fs ≡ true → is_once (es ++ fs) ≡ true
 once-append [] fs first second apart = second

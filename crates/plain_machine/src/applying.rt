@@ -12,9 +12,8 @@ ghost use Rattle.plain_machine.specs.Worlds.{world_of};
 use crate::image::PlainImage;
 use crate::job_steps::{next_job, note, noted, take_up};
 use crate::machine::PlainMachine;
-use crate::transactions::keep_rule;
 use pending_tx::CommitError;
-use settings_machine::apply;
+use settings_machine::{apply, keep_rule};
 use settings_tree::{KeyList, TxName};
 use std::alloc::{AllocError, Global};
 

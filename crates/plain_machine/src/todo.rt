@@ -25,7 +25,7 @@ fn words_of(alloc: Global, words: &[String]) -> Result<Vec<Text>, AllocError>
 {
     let mut copies = Vec::new(alloc);
     for word in words {
-        copies.push(Text::of(String::from_str(alloc, word.as_str())?))?;
+        copies.push(Text::from_str(alloc, word.as_str())?)?;
     }
     Ok(copies)
 }

@@ -3,7 +3,6 @@ ghost use Rattle.std.specs.Prelude.{◌≡◌, All, IfOk, OnErr, None, Err, true
 ghost use Rattle.std.specs.FinMap.{get};
 ghost use Rattle.key_names.specs.Key.{is_prefix};
 ghost use Rattle.settings_tree.specs.Content.{settings_key};
-ghost use Rattle.settings_tree.specs.Laid.{KeepsPrefixRule};
 ghost use Rattle.settings_machine.specs.Plain.{patch_reply, keys_reply, missing_reply};
 ghost use Rattle.settings_machine.specs.Refused.{seen};
 ghost use Rattle.settings_machine.specs.Requests.{Patch, DropTx, Commit};
@@ -18,17 +17,9 @@ use crate::job_steps::{note, noted};
 use crate::machine::PlainMachine;
 use key_names::Key;
 use pending_tx::CommitError;
-use settings_machine::{Refused, drop_tx, pend};
-use settings_tree::{Held, KeyList, Pending, TxName};
+use settings_machine::{Refused, drop_tx, keep_rule, pend};
+use settings_tree::{KeyList, Pending, TxName};
 use std::alloc::{AllocError, Global};
-
-/// What is held keeps the prefix rule. It does nothing.
-pub(crate) fn keep_rule(held: &Held)
-    ensures { KeepsPrefixRule held.now }
-{
-    held.live.weak();
-    held.pending.next_tx(None);
-}
 
 impl PlainMachine {
     /// Makes the pairs pending in the transaction, unless the types refuse one of them: then it tells the first of these

@@ -1,6 +1,6 @@
 -- The farthest of steps, found one after another, and the chain of them.
-use Rattle.std.proofs.Common.{◌≡◌, inl, inr, ◌⊎◌, ℕ, zero, suc, ◌+◌, ◌<◌, ◌≤◌, Bool, true, false, cond, List, [], ◌∷◌, ◌++◌, map, length, get_or, take, Option, Some, None, Result, Ok, Err, refl, sym, ◌∙◌, ap, subst, arith}
-use Rattle.std.specs.Prelude.{IsTrue, IfSome, IfOk, Contains, count_by, reverse, IsErrAnd, IsErrOf}
+use Rattle.std.proofs.Common.{◌≡◌, inl, inr, ◌⊎◌, ℕ, zero, suc, ◌+◌, ◌<◌, ◌≤◌, Bool, true, false, cond, List, [], ◌∷◌, ◌++◌, map, length, get_or, take, Option, Some, None, Result, Err, refl, sym, ◌∙◌, ap, subst, arith}
+use Rattle.std.specs.Prelude.{IsTrue, IfSome, Contains, count_by, reverse, IsErrAnd, IsErrOf}
 use Rattle.std.proofs.lemmas.Result.{err_from_is_err_and}
 use Rattle.std.proofs.lemmas.List.{map-append, reverse-append, take_more, take_all}
 use Rattle.std.proofs.lemmas.List.Sums.{sum_by-cons, sum_by-le-sum_by}
@@ -145,7 +145,7 @@ fewer_left all at target t lead is =
 
 -- ---- the way
 
-map-reverse : {S T : Type 0} (f : S → T) (xs : List S) → map f (reverse xs) ≡ reverse (map f xs)
+pub map-reverse : {S T : Type 0} (f : S → T) (xs : List S) → map f (reverse xs) ≡ reverse (map f xs)
 map-reverse f [] = refl
 map-reverse f (x ∷ xs) =
     ap (map f) (reverse-append (x ∷ []) xs) ∙ map-append f (reverse xs) (reverse (x ∷ [])) ∙ ap (λ l. l ++ f x ∷ []) (map-reverse f xs) ∙ sym (reverse-append (f x ∷ []) (map f xs))
@@ -185,10 +185,6 @@ same_error y e is = cc
 -- A refusal that is handed on.
 pub handed : {T : Type 0} (r : Result T PlanError) (e : PlanError) (P : Version → Version → Type 0) → IsErrAnd r (λ y. y ≡ e) → ((at end : Version) → e ≡ Missing at end → P at end) → (at end : Version) → IsErrOf r (Missing at end) → P at end
 handed r e P is f at end told = let p = err_from_is_err_and r is in f at end (sym p.2 ∙ same_error p.0 (Missing at end) (sym p.1 ∙ told))
-
-pub if_ok_map : {T E : Type 0} {P Q : T → Type 0} (r : Result T E) → ((v : T) → P v → Q v) → IfOk r P → IfOk r Q
-if_ok_map (Ok v) f p = f v p
-if_ok_map (Err e) f p = tt
 
 -- One step of the plan more is pushed.
 pub steps_pushed : {S : Type 0} (f : S → Transition) (back : Bool) (xs : List S) (i : ℕ) (s : S) (steps new : List Step) (x : Step) → i < length xs → s ≡ get_or xs i s → steps ≡ map (step_of back) (map f (take i xs)) → new ≡ steps ++ x ∷ [] → x ≡ step_of back (f s)

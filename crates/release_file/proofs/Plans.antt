@@ -1,5 +1,5 @@
 -- A plan is a function of the transitions and the versions.
-use Rattle.std.proofs.Common.{◌≡◌, ◌≢◌, Bool, true, false, List, [], ◌∷◌, ◌++◌, map, get_or, refl, sym, ◌∙◌, ap, subst}
+use Rattle.std.proofs.Common.{◌≡◌, ◌≢◌, Bool, true, false, List, [], ◌∷◌, map, get_or, refl, sym, ◌∙◌, ap, subst}
 use Rattle.std.specs.Prelude.{IsTrue, Contains, reverse}
 use Rattle.std.specs.List.{list_all}
 use Rattle.std.specs.declared.cmp.Ordering.{Ordering}
@@ -7,7 +7,6 @@ use Rattle.std.specs.declared.cmp.Ordering.TheVariants.{Less, Equal, Greater}
 use Rattle.std.specs.Ordering.{ordering_reverse, is_le}
 use Rattle.key_names.specs.Order.{bytes_cmp-IsAntisymmetric}
 use Rattle.std.proofs.lemmas.Bool.{false≢true}
-use Rattle.std.proofs.lemmas.List.{reverse-append, map-append}
 use Rattle.version_links.specs.declared.version.Version.{Version}
 use Rattle.release_file.specs.declared.transition.Transition.{Transition}
 use Rattle.release_file.specs.declared.planning.Step.{Step}
@@ -16,7 +15,7 @@ use Rattle.release_file.specs.Order.{is_before, is_upto}
 use Rattle.release_file.specs.Release.{leads_on}
 use Rattle.release_file.specs.Chain.{IsFarthest, Leads, IsMissing, is_back, lower, upper, in_order, step_of, IsPlan, HasNoPlan}
 use Rattle.release_file.proofs.Versions.{version_total, before_back}
-use Rattle.release_file.proofs.Farthest.{all_lead}
+use Rattle.release_file.proofs.Farthest.{all_lead, map-reverse}
 
 -- ---- versions that are not beyond each other
 
@@ -74,13 +73,9 @@ module _ (all : List Transition) (target : Version) (lead : IsTrue (list_all lea
 
 -- ---- plans
 
-reverse-map : {S T : Type 0} (f : S → T) (xs : List S) → map f (reverse xs) ≡ reverse (map f xs)
-reverse-map f [] = refl
-reverse-map f (x ∷ xs) = ap (map f) (reverse-append (x ∷ []) xs) ∙ map-append f (reverse xs) (reverse (x ∷ [])) ∙ ap (λ l. l ++ f x ∷ []) (reverse-map f xs) ∙ sym (reverse-append (f x ∷ []) (map f xs))
-
 ordered_same : (turn back : Bool) (one other : List Transition) → map (step_of back) one ≡ map (step_of back) other → map (step_of back) (in_order turn one) ≡ map (step_of back) (in_order turn other)
 ordered_same false back one other same = same
-ordered_same true back one other same = reverse-map (step_of back) one ∙ ap reverse same ∙ sym (reverse-map (step_of back) other)
+ordered_same true back one other same = map-reverse (step_of back) one ∙ ap reverse same ∙ sym (map-reverse (step_of back) other)
 
 pub plans_once : (all : List Transition) (from to : Version) (one other : List Step) → IsTrue (list_all leads_on all) → IsPlan all from to one → IsPlan all from to other → one ≡ other
 plans_once all from to one other lead a b =

@@ -3,9 +3,7 @@ use Rattle.std.proofs.Common.{◌≡◌, ◌||◌, ℕ, List, [], ◌∷◌, map
 use Rattle.std.specs.Prelude.{is_some, unwrap_or}
 use Rattle.std.specs.List.{list_any}
 use Rattle.std.specs.Ordering.{eq_by_cmp}
-use Rattle.std.proofs.lemmas.Bool.{false≢true, both_ways, false_from_ne_true}
-use Rattle.std.proofs.lemmas.Map.Lookups.{exact_bytes}
-use Rattle.std.proofs.lemmas.Map.Views.{tells_apart}
+use Rattle.std.proofs.lemmas.Bool.{false≢true, both_ways}
 use Rattle.key_names.specs.Order.{bytes_cmp}
 use Rattle.toml.specs.Data.{Data, as_table, Members, no_members, get_member}
 use Rattle.release_file.specs.Checks.{Check, test, sections, is_section, section_check, section_members}
@@ -16,10 +14,6 @@ use Rattle.release_file.specs.declared.release_error.ReleaseKind.{ReleaseKind}
 use Rattle.release_file.specs.declared.release_error.ReleaseKind.TheVariants.{UnknownSection}
 use Rattle.toml_values.specs.Document.{named}
 use Rattle.release_file.proofs.Checking.{refuses_first, refuses_after}
-
--- Names that are two do not tie.
-pub none_equal : (a b : List ℕ) → (a ≡ b → ⊥) → eq_by_cmp bytes_cmp a b ≡ false
-none_equal a b differ = false_from_ne_true (eq_by_cmp bytes_cmp a b) (λ tie. differ (tells_apart exact_bytes a b tie))
 
 -- A name among borrowed names.
 pub any_mapped : (p : List ℕ → Bool) (names : List (Bor (List ℕ))) → list_any (λ n. p n.now) names ≡ list_any p (map (λ n. n.now) names)

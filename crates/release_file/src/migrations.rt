@@ -26,7 +26,7 @@ fn named_at(alloc: Global, name: &str, value: &Value) -> Result<Named, Refusal>
     let Some(work) = migration_of(alloc, value)? else {
         return Err(refused(alloc, ReleaseKind::BadMigration, name));
     };
-    let name = Text::of(String::from_str(alloc, name)?);
+    let name = Text::from_str(alloc, name)?;
     Ok(Named { name, work })
 }
 

@@ -51,7 +51,7 @@ fn release_of(alloc: Global, text: &[u8]) -> Result<Release, Refusal>
     ensures fault { IfErr result (RefusesText text.now) }
 {
     let Some(document) = table_of(alloc, text)? else {
-        let at = Text::of(String::from_str(alloc, "-")?);
+        let at = Text::from_str(alloc, "-")?;
         return Err(Refusal::Fault(ReleaseKind::NotToml, at));
     };
     sections_of(alloc, &document)

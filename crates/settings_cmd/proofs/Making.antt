@@ -30,6 +30,7 @@ use Rattle.settings_cmd.specs.Carried.{Generates, Provides}
 use Rattle.settings_cmd.specs.Committing.{Made}
 use Rattle.settings_cmd.specs.Generators.{generate_tx, generators_path, Answers, AreGeneratorsIn, HandsError, IsGenerated, IsOfGenerating, IsOfGenerators, TellsOfGenerators}
 use Rattle.settings_cmd.specs.UserData.{data_tx, TellsOfData}
+use Rattle.core_commands.proofs.Causes.{same_refusal}
 
 -- A commit of the pairs that were lent is one of those that were made.
 as_lent : (store : Opened) (outcome : Outcome) (d d' : Option History) (tx named : List ℕ) (lent pairs : List (List (List ℕ) × Scalar)) → tx ≡ named → lent ≡ pairs
@@ -73,9 +74,6 @@ generates_pairs a a' store tx pairs lent outcome d between d' gives is same list
 }
 
 -- ---- causes
-
-same_refusal : {T : Type 0} (e f : Refusal) → ◌≡◌ {A = Result T Refusal} (Err e) (Err f) → e ≡ f
-same_refusal e f is = cc is
 
 -- A refusal of this kind is none of another.
 pub is_none_of : {T : Type 0} (P : Refusal → Type 0) (outcome : Result T Refusal) (e : Refusal) → (P e → ⊥) → IfErr outcome P → IsErrOf outcome e → ⊥

@@ -1,9 +1,9 @@
 -- The keys of user data and of generators begin with `settings`.
-use Rattle.std.proofs.Common.{◌≡◌, inl, inr, ℕ, IsTrue, All, Bool, true, false, not, List, [], ◌∷◌, ◌++◌, Option, Some, None, Ok, Err, ok_or, option_map, codes, if◌then◌else◌, refl, sym, subst}
+use Rattle.std.proofs.Common.{◌≡◌, inl, inr, ℕ, IsTrue, All, not, List, [], ◌∷◌, ◌++◌, Option, Some, None, Ok, Err, ok_or, option_map, codes, refl, sym, subst}
 use Rattle.std.specs.FinMap.{contains_key}
 use Rattle.std.proofs.lemmas.List.Elements.{All-nil, All-cons, All-append, All-head, All-tail, All-filter}
 use Rattle.std.proofs.lemmas.List.Sorted.{All-permutation}
-use Rattle.key_names.specs.Key.{is_key, is_prefix}
+use Rattle.key_names.specs.Key.{is_prefix}
 use Rattle.json_trees.specs.Collected.{result_and_then}
 use Rattle.json_trees.specs.declared.scalar.Scalar.{Scalar}
 use Rattle.outside.specs.Spawner.{Question}
@@ -14,11 +14,12 @@ use Rattle.toml_values.specs.Values.{scalar_of}
 use Rattle.typed_settings.specs.declared.row.Row.{Row}
 use Rattle.user_data.specs.Pairs.{Path, Pairs, settings, other_name, fault_at, printed_path, where_key, joined, value_pairs, members_pairs, settings_pairs, where_none, document_pairs, pairs_of}
 use Rattle.user_data.specs.declared.user_data_error.UserDataError.{UserDataError}
-use Rattle.user_data.specs.declared.user_data_error.UserDataKind.TheVariants.{NotToml, BadKey, BadValue}
+use Rattle.user_data.specs.declared.user_data_error.UserDataKind.TheVariants.{NotToml, BadValue}
 use Rattle.setting_generators.specs.Generators.{Given}
 use Rattle.setting_generators.specs.Reading as reading
 use Rattle.setting_generators.specs.Reading.{Entry, Reads, Spells, with_first}
 use Rattle.setting_generators.specs.Asking.{Generated, wanted, with_pair, AreAsked}
+use Rattle.user_data.proofs.Parted.{kept}
 
 abbrev Begins : Path → Type 0
 Begins key = IsTrue (is_prefix settings_key key)
@@ -41,12 +42,6 @@ leaf_begins path None e pairs begins is = absurd (cc is)
 leaf_begins path (Some v) e pairs begins is =
     let one : (path, v) ∷ [] ≡ pairs = cc is in
     subst AllBegin one (All-cons (λ pair. Begins pair.0) (path, v) [] begins (All-nil (λ pair. Begins pair.0)))
-
-kept : (path : Path) (pairs : Pairs) (found : List (Path × Scalar)) → where_key path pairs ≡ Ok found → pairs ≡ Ok found
-kept path pairs found is = by (is_key path) is where
-  by : (test : Bool) → (if test then pairs else Err (fault_at BadKey (printed_path path))) ≡ Ok found → pairs ≡ Ok found
-  by true is = is
-  by false is = absurd (cc is)
 
 joined_begin : (front back : Pairs) (pairs : List (Path × Scalar)) → ((xs : List (Path × Scalar)) → front ≡ Ok xs → AllBegin xs)
     → ((ys : List (Path × Scalar)) → back ≡ Ok ys → AllBegin ys) → joined front back ≡ Ok pairs → AllBegin pairs

@@ -42,8 +42,8 @@ fn bad_generators(alloc: Global, kind: &str, at: Text) -> Result<Refusal, AllocE
     ensures { IfOk result (λ refusal. refusal ≡ Refusal.BadImage (codes "generators.toml") kind.now at) }
 {
     Ok(Refusal::BadImage {
-        file: Text::of(String::from_str(alloc, "generators.toml")?),
-        kind: Text::of(String::from_str(alloc, kind)?),
+        file: Text::from_str(alloc, "generators.toml")?,
+        kind: Text::from_str(alloc, kind)?,
         at,
     })
 }

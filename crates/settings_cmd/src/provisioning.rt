@@ -48,7 +48,7 @@ fn bad_data(alloc: Global, kind: &str, at: Text) -> Result<Refusal, AllocError>
     ensures { IfOk result (λ refusal. refusal ≡ Refusal.UserData kind.now at) }
 {
     Ok(Refusal::UserData {
-        kind: Text::of(String::from_str(alloc, kind)?),
+        kind: Text::from_str(alloc, kind)?,
         at,
     })
 }
@@ -56,7 +56,7 @@ fn bad_data(alloc: Global, kind: &str, at: Text) -> Result<Refusal, AllocError>
 fn missing_data(alloc: Global) -> Result<Refusal, AllocError>
     ensures { IfOk result (λ refusal. refusal ≡ Refusal.UserData (codes "missing") (codes "-")) }
 {
-    let at = Text::of(String::from_str(alloc, "-")?);
+    let at = Text::from_str(alloc, "-")?;
     bad_data(alloc, "missing", at)
 }
 

@@ -41,8 +41,8 @@ fn bad_release(alloc: Global, kind: &str, at: Text) -> Result<Refusal, AllocErro
     ensures { IfOk result (λ refusal. refusal ≡ Refusal.BadImage (codes "release.toml") kind.now at) }
 {
     Ok(Refusal::BadImage {
-        file: Text::of(String::from_str(alloc, "release.toml")?),
-        kind: Text::of(String::from_str(alloc, kind)?),
+        file: Text::from_str(alloc, "release.toml")?,
+        kind: Text::from_str(alloc, kind)?,
         at,
     })
 }
@@ -50,7 +50,7 @@ fn bad_release(alloc: Global, kind: &str, at: Text) -> Result<Refusal, AllocErro
 fn missing_release(alloc: Global) -> Result<Refusal, AllocError>
     ensures { IfOk result (λ refusal. refusal ≡ Refusal.BadImage (codes "release.toml") (codes "missing") (codes "-")) }
 {
-    let at = Text::of(String::from_str(alloc, "-")?);
+    let at = Text::from_str(alloc, "-")?;
     bad_release(alloc, "missing", at)
 }
 

@@ -129,7 +129,7 @@ fn tells_settings(rt: HostRuntime) -> Result<(), Fail> {
 // Puts the metadata `n` at the key, where that is a name of metadata.
 fn put_meta(alloc: Global, content: &mut Content, key: Key) -> Result<(), AllocError> {
     if is_meta_name(b"n") {
-        let name = Text::of(String::from_str(alloc, "n")?);
+        let name = Text::from_str(alloc, "n")?;
         content.put_meta(key, name, Scalar::Int(2))?;
     }
     Ok(())

@@ -12,13 +12,13 @@ use Rattle.settings_tree.specs.Content.{settings_key}
 use Rattle.settings_tree.specs.Rule.{Fits}
 use Rattle.settings_tree.specs.declared.held.Held.{Held}
 use Rattle.pending_tx.specs.Transactions.{pending_of, FitLive, FitPairs}
-use Rattle.template_eval.proofs.NameOrder.{behind}
 use Rattle.typed_settings.specs.Row.{IsKnown, IsTyped, IsPrefixFree}
 use Rattle.typed_settings.specs.declared.row.Row.{Row}
 use Rattle.settings_machine.specs.World.{Key, Among}
 use Rattle.settings_machine.specs.Typed.{first_wanted, is_of_image, IsTaken, MayPend, IsTypedHeld}
 use Rattle.settings_machine.proofs.Openings.{image_apart}
 use Rattle.settings_machine.proofs.Typing.{all_may}
+use Rattle.key_names.proofs.Prefixes.{behind}
 
 -- An element at an index is among a list.
 among_at : {X : Type 0} (xs : List X) (k : ℕ) (d : X) → k < length xs → Among xs (get_or xs k d)

@@ -17,5 +17,5 @@ pub use cause::Cause;
 pub use file::file_bytes;
 pub use job::{Job, Work, apply, begun, owes_none};
 pub use law::laws;
-pub use pending::{Committed, commit, drop_tx, pend};
+pub use pending::{Committed, commit, drop_tx, keep_rule, pend};
 pub use refused::{Refused, refused_pair};

@@ -27,8 +27,8 @@ pub struct Committed {
     pub changed: KeyList,
 }
 
-// What is held keeps the prefix rule. It does nothing.
-fn keep_rule(held: &Held)
+/// What is held keeps the prefix rule. It does nothing.
+pub fn keep_rule(held: &Held)
     ensures { KeepsPrefixRule held.now }
 {
     held.live.weak();

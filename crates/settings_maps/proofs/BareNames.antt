@@ -12,7 +12,7 @@ bare_low : (b : ℕ) → is_bare b ≡ true → b < 128
 bare_low b bare = grind (arith, nat_tests)
 
 -- Bare characters are ASCII.
-bare_ascii : (bytes : List ℕ) → list_all is_bare bytes ≡ true → IsAscii bytes
+pub bare_ascii : (bytes : List ℕ) → list_all is_bare bytes ≡ true → IsAscii bytes
 bare_ascii [] bare i = omega arith
 bare_ascii (b ∷ bytes) bare zero = bare_low b ((and_parts (is_bare b) _ bare).0)
 bare_ascii (b ∷ bytes) bare (suc i) = bare_ascii bytes ((and_parts (is_bare b) _ bare).1) i

@@ -23,7 +23,7 @@ none_rises keys none = rw none tt
 pub without_rises : (keys others : List (List (List ℕ))) (key : List (List ℕ)) → IsRising keys → others ≡ without_key keys key → IsRising others
 without_rises keys others key rises is = subst IsRising (sym is) (IsStrictlySortedBy-filter key_cmp (λ q. not (eq_by_cmp key_cmp key q)) keys rises)
 
-not_less : (a b : Ordering) → b ≡ ordering_reverse a → a ≡ Less → is_lt b ≡ false
+pub not_less : (a b : Ordering) → b ≡ ordering_reverse a → a ≡ Less → is_lt b ≡ false
 not_less a b e l = ap is_lt (e ∙ ap ordering_reverse l)
 
 module _ {K : Type 0} {R : K → K → Ordering} (o : IsTotalOrder R) where
@@ -40,7 +40,8 @@ module _ {K : Type 0} {R : K → K → Ordering} (o : IsTotalOrder R) where
   all_differ k x (y ∷ ks) tie above = ap (λ b. cond b (y ∷ filter (λ q. not (eq_by_cmp R k q)) ks) (filter (λ q. not (eq_by_cmp R k q)) ks)) (differ k y Less (o.congr k x y tie ∙ above.0) refl)
       ∙ ap (λ (t : List K). y ∷ t) (all_differ k x ks tie above.1)
 
-  turned : (k q : K) (r : Ordering) → R q k ≡ r → R k q ≡ ordering_reverse r
+  -- The other way round the order is reversed.
+  pub turned : (k q : K) (r : Ordering) → R q k ≡ r → R k q ≡ ordering_reverse r
   turned k q r is = o.antisymm k q ∙ ap ordering_reverse is
 
   -- To remove the element that ties with k is to leave k out.

@@ -3,7 +3,7 @@ use Rattle.std.proofs.Common.{arith, ◌≡◌, ◌<◌, ◌≤◌, ◌+◌, ◌
 use Rattle.std.specs.Prelude.{remove as without_place, insert as with_place, ◌==◌}
 use Rattle.std.specs.declared.cmp.Ordering.{Ordering}
 use Rattle.std.specs.declared.cmp.Ordering.TheVariants.{Less, Equal, Greater}
-use Rattle.std.specs.Ordering.{eq_by_cmp, is_eq, is_lt, is_gt, ordering_index, ordering_reverse}
+use Rattle.std.specs.Ordering.{eq_by_cmp, is_eq, is_lt, is_gt, ordering_index}
 use Rattle.std.specs.Cmp.{IsTotalOrder, alike_right, eq_by_cmp_equiv}
 use Rattle.std.specs.List.Sorted.{IsNonDecreasingBy, IsPartitionPoint}
 use Rattle.std.specs.Prelude.{IfOk, IfErr}
@@ -20,6 +20,7 @@ use Rattle.std.proofs.lemmas.Bool.{and_parts, cond-true, cond-false, cases_order
 use Rattle.std.proofs.lemmas.Option.{get_or_from_slice_get, slice_get_cases}
 use Rattle.std.proofs.lemmas.Cmp.{tied_itself}
 use Rattle.std.proofs.lemmas.List.Sorted.{searchable_from_sorted}
+use Rattle.settings_maps.proofs.RisingKeys.{not_less, turned}
 
 T_of : (b : Bool) → IsTrue b → T b
 T_of b holds = subst T (sym holds) tt
@@ -38,13 +39,7 @@ less Less lt = refl
 less Equal lt = absurd (grind arith)
 less Greater lt = absurd (grind arith)
 
-not_less : (a b : Ordering) → b ≡ ordering_reverse a → a ≡ Less → is_lt b ≡ false
-not_less a b e l = ap is_lt (e ∙ ap ordering_reverse l)
-
 module _ {K : Type 0} {R : K → K → Ordering} (o : IsTotalOrder R) where
-  turned : (k q : K) (r : Ordering) → R q k ≡ r → R k q ≡ ordering_reverse r
-  turned k q r is = o.antisymm k q ∙ ap ordering_reverse is
-
   same_tied : (k q : K) → q ≡ k → R k q ≡ Equal
   same_tied k q e = ap (R k) e ∙ tied_itself o k
 
@@ -107,7 +102,8 @@ module _ {K X : Type 0} {R : K → K → Ordering} (o : IsTotalOrder R) where
   head_above : (e : K × X) (es : List (K × X)) (k : K) → Point (e ∷ es) k 0 → R k e.0 ≡ Less
   head_above e es k point = turned o k e.0 Greater (point.1 0 e (omega arith) (omega arith))
 
-  find_missing : (es : List (K × X)) (i : ℕ) (k : K) → Point es k i → find R k es ≡ None
+  -- A list with no place for a key lacks it.
+  pub find_missing : (es : List (K × X)) (i : ℕ) (k : K) → Point es k i → find R k es ≡ None
   find_missing [] i k point = refl
   find_missing (e ∷ es) zero k point = cond-false _ _ _ (ap is_eq (head_above e es k point)) ∙ find_missing es zero k (later_all e es k point)
   find_missing (e ∷ es) (suc i) k point = cond-false _ _ _ (ap is_eq (head_below e es k i point)) ∙ find_missing es i k (later e es k i point)

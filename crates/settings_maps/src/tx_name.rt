@@ -42,7 +42,7 @@ impl TxName {
         if !is_tx_name(text.as_bytes()) {
             return Ok(None);
         }
-        let name = Text::of(String::from_str(alloc, text)?);
+        let name = Text::from_str(alloc, text)?;
         Ok(Some(TxName { name }))
     }
 

@@ -8,10 +8,9 @@ use Rattle.outside.proofs.Told.{moves_same}
 use Rattle.outside.proofs.Crash.{settled_image}
 use Rattle.outside.specs.Tree.{file_in}
 use Rattle.settings_tree.specs.declared.held.Held.{Held}
-use Rattle.settings_machine.specs.World.{Image, World, Job, Idle, is_running}
-use Rattle.settings_machine.specs.Opening.{added_keys}
+use Rattle.settings_machine.specs.World.{Image, World, is_running}
 use Rattle.settings_machine.specs.Requests.{Request}
-use Rattle.settings_machine.specs.Step.{noting, opened}
+use Rattle.settings_machine.specs.Step.{opened}
 use Rattle.settings_machine.specs.Events.{Event, Opened, Succeeded, Failing, after, next}
 use Rattle.settings_machine.specs.Paid.{Paid, IsGood}
 use Rattle.machine_disk.specs.Store.{HasStore}
@@ -36,6 +35,7 @@ use Rattle.settings_cmd.specs.Serving.{served, OpensAndServes, Serves}
 use Rattle.settings_run.specs.Laws.{Begins, IsRun, IsUnopened, RequestEvents, RequestsRun, SetsRun, AppliesRun, ServeEvents, ServesRun, GetEvents, GetsRun}
 use Rattle.settings_run.proofs.Whole.{whole}
 use Rattle.settings_run.proofs.Served.{comes_served, all_served}
+use Rattle.core_commands.proofs.Carryings.{opened_job}
 
 module _ (I : Image) (good : IsGood I) (folder : Folder) (is : IsImageOfFolder I folder) (W : World) (old new : History) (begins : Begins I folder W old) where
   -- On a settled disk each image is the tree.
@@ -167,10 +167,6 @@ serves_run I good folder is W boot slice x x' outcome r r' old new begins serves
     by_serving I good folder is W old new begins boot slice x x' outcome r r' serves.fine serves.opening serves.answers serves.hands serves.unserved serves.makes.told
 
 -- ---- get
-
-pub opened_job : (I : Image) (W : World) → W.job ≡ Idle → Idle ≡ (opened I W false).job
-unfolding opened
-opened_job I W idle = sym (ap (λ (j : Job). noting j (added_keys I.defaults.values W.held.live.values)) idle)
 
 module _ (I : Image) (good : IsGood I) (folder : Folder) (is : IsImageOfFolder I folder) (W : World) (old new : History) (begins : Begins I folder W old)
     (keys : List (List (List ℕ))) (outcome : Outcome) (r : Option (List Run)) where

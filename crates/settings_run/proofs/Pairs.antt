@@ -34,9 +34,10 @@ use Rattle.settings_cmd.specs.Committing.{Made, CommitsMade}
 use Rattle.settings_cmd.specs.Generators.{generate_tx, generators_path, AreGeneratorsIn, TellsOfGenerators, IsGenerated, Answers as AnsweredBy}
 use Rattle.settings_cmd.specs.UserData.{data_tx}
 use Rattle.settings_run.specs.Laws.{Begins, IsRun, MadeEvents, GivenBy, GenerateEvents, GeneratesRun, ProvisionEvents, ProvisionsRun}
-use Rattle.settings_run.proofs.CommandRuns.{disk_at, opened_job, opened_runs, unopened_run}
+use Rattle.settings_run.proofs.CommandRuns.{disk_at, opened_runs, unopened_run}
 use Rattle.settings_run.proofs.Keeping.{keeps_live}
 use Rattle.settings_run.proofs.Served.{ArePlain, commits_plain}
+use Rattle.core_commands.proofs.Carryings.{opened_job}
 
 module _ (I : Image) (good : IsGood I) (folder : Folder) (is : IsImageOfFolder I folder) (W : World) (old between : History) (begins : Begins I folder W old)
     (store : answer.Opened) (opens : Opens false (Ok store) old between) where

@@ -36,7 +36,7 @@ may_stay true v o has = refl
 may_stay false v o has = has
 
 -- A put leaves each weak key a value.
-weak_put : (m : FinMap key_cmp Scalar) (k : List (List ℕ)) (v : Scalar) (q : List (List ℕ)) → MayBeWeak m q → MayBeWeak (insert m k v) q
+pub weak_put : (m : FinMap key_cmp Scalar) (k : List (List ℕ)) (v : Scalar) (q : List (List ℕ)) → MayBeWeak m q → MayBeWeak (insert m k v) q
 weak_put m k v q may = record { stands = subst IsSome (sym (get-insert key_total m k v q)) (may_stay (eq_by_cmp key_cmp q k) v (get m q) may.stands); setting = may.setting }
 
 -- A removal leaves each other weak key its value.

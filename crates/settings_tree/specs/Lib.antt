@@ -1,6 +1,7 @@
 pub mod Change
 pub mod Content
 pub mod Laid
+pub mod Owed
 pub mod Pending
 pub mod Rooms
 pub mod Rule

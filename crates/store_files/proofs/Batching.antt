@@ -1,5 +1,5 @@
 -- The entries of a batch that writes a change down.
-use Rattle.std.proofs.Common.{arith, ◌≡◌, ◌≤◌, ℕ, zero, suc, List, [], ◌∷◌, ◌++◌, length, length-append, Option, Some, IsSome, Bool, true, cond, inl, inr, refl, sym, ap, ◌∙◌, subst}
+use Rattle.std.proofs.Common.{arith, ◌≡◌, ◌≤◌, ℕ, suc, List, [], ◌∷◌, ◌++◌, length, length-append, Option, Some, IsSome, Bool, true, cond, inl, inr, refl, sym, ap, ◌∙◌, subst}
 use Rattle.std.specs.Prelude.{IsTrue, All, Contains}
 use Rattle.std.specs.List.{list_all, AllByRecursion}
 use Rattle.std.specs.List.Sorted.{IsStrictlySortedBy}
@@ -25,6 +25,7 @@ use Rattle.store_files.proofs.FileNames.{key_length}
 use Rattle.store_files.proofs.Filing.{laid_over}
 use Rattle.store_files.proofs.Showing.{shows_below}
 use Rattle.store_files.proofs.Changes.{stands_laid}
+use Rattle.json_trees.proofs.Parting.{AllByRecursion-weaker, All-from}
 
 abbrev Written : Type 0
 Written = BTreeMap Names (Option (List ℕ))
@@ -54,15 +55,6 @@ found_named (e ∷ es) p some = elim (path_cases p e.0) [
   | inl here ↦ inl here
   | inr other ↦ inr (found_named es p (subst (λ (b : Bool). IsSome (cond b (Some e.1) (lookup (λ k. is_eq (path_cmp p k)) es))) other some))
 ]
-
-each_to_all : {X : Type 0} (P : X → Type 0) (xs : List X) → AllByRecursion P xs → All P xs
-each_to_all P [] h i d low = absurd (omega arith)
-each_to_all P (x ∷ xs) h zero d low = h.0
-each_to_all P (x ∷ xs) h (suc i) d low = each_to_all P xs h.1 i d (omega arith)
-
-each_mapped : {X : Type 0} (P Q : X → Type 0) (xs : List X) → ((x : X) → P x → Q x) → AllByRecursion P xs → AllByRecursion Q xs
-each_mapped P Q [] f h = tt
-each_mapped P Q (x ∷ xs) f h = (f x h.0, each_mapped P Q xs f h.1)
 
 each_test : {X : Type 0} (p : X → Bool) (P : X → Type 0) (xs : List X) → ((x : X) → P x → p x ≡ true) → AllByRecursion P xs → list_all p xs ≡ true
 each_test p P [] f h = refl
@@ -104,7 +96,7 @@ among P xs x all (i, low, is) = subst P is (all i x low)
 
 module _ (change : List Entry) (m : Written) (entries : List journal.Entry) (files_of : AreFilesOf change m) (same : entries ≡ m.entries) (ordered : IsOrdered path_cmp m) where
   in_map : AllByRecursion (IsFileIn change) m.entries
-  in_map = each_mapped (λ f. lookup (λ k. is_eq (path_cmp f.0 k)) m.entries ≡ Some f.1) (IsFileIn change) m.entries (λ f is. files_of.only f.0 f.1 is) (each_found m.entries ordered)
+  in_map = AllByRecursion-weaker (λ f. lookup (λ k. is_eq (path_cmp f.0 k)) m.entries ≡ Some f.1) (IsFileIn change) m.entries (λ f is. files_of.only f.0 f.1 is) (each_found m.entries ordered)
 
   pub in_change : AllByRecursion (IsFileIn change) entries
   in_change = subst (λ (l : List journal.Entry). AllByRecursion (IsFileIn change) l) (sym same) in_map
@@ -123,7 +115,7 @@ module _ (change : List Entry) (m : Written) (entries : List journal.Entry) (fil
   pub writes_down : (batch : List journal.Entry) → batch ≡ entries → WritesDown change batch
   writes_down batch is = subst (WritesDown change) (sym is) (record {
     each = λ e has. subst (λ (l : List journal.Entry). journal.IsNamed l (path_of (place e))) (sym same) (found_named m.entries (path_of (place e)) (files_of.each e has));
-    only = each_to_all (IsFileIn change) entries in_change;
+    only = All-from (IsFileIn change) entries in_change;
   })
 
   laid_is : (files : Files) (p : Names) → overlaid m files p ≡ laid entries files p

@@ -5,30 +5,19 @@ use Rattle.std.specs.List.{list_all, flat_map}
 use Rattle.std.proofs.lemmas.Bool.{false≢true, and_parts}
 use Rattle.std.proofs.lemmas.List.{take_more}
 use Rattle.outside.specs.Names.{Names}
-use Rattle.key_names.specs.Joined.{Ends, Joins}
-use Rattle.key_names.specs.Key.{is_key}
+use Rattle.key_names.specs.Joined.{Joins}
 use Rattle.key_names.specs.Segment.{quoted, file_name, is_segment, has_short_name, IsFileNameOf}
 use Rattle.key_names.specs.Spelling.{IsSpelling, Spells, SpellsKey}
-use Rattle.key_names.proofs.First.{head, first, first-spelling}
-use Rattle.key_names.proofs.OneParting.{OneItem, one_joined}
-use Rattle.key_names.proofs.Spellings.{Spells_some, Spells_valid}
-use Rattle.key_names.proofs.KeyLimits.{IsKey-from, is_key-from, Fits-from, fits-from}
+use Rattle.key_names.proofs.OneParting.{one_joined}
+use Rattle.key_names.proofs.OneReading.{one_segment}
+use Rattle.key_names.proofs.KeyLimits.{IsKey-from, fits-from}
 use Rattle.store_files.specs.Places.{names_of}
 use Rattle.store_files.specs.FoundFiles.{AreFileNames, Quotes, QuotesOne, IsKeyOf}
 use Rattle.store_files.specs.Texts.{Finds}
 use Rattle.store_files.proofs.FileNames.{segment_one, file_named, key_segments}
+use Rattle.key_names.proofs.SpelledKeys.{spelled_key}
 
 -- ---- texts of segments in quotes
-
-one_segment : OneItem IsSpelling 46
-one_segment = record { one = λ f r g s x y spelled ends spelled' ends' same. parts f r g s x y spelled ends spelled' ends' same }
-  where
-    parts : (f r g s x y : List ℕ) → IsSpelling f x → Ends 46 r → IsSpelling g y → Ends 46 s → f ++ r ≡ g ++ s → (f ≡ g) × (x ≡ y) × (r ≡ s)
-    parts f r g s x y spelled ends spelled' ends' same =
-        let p = first-spelling f x r spelled ends in
-        let q = first-spelling g y s spelled' ends' in
-        let heads : head f x r ≡ head g y s = sym p ∙ ap first same ∙ q in
-        (cc, cc, cc)
 
 abbrev behind : List (List ℕ) → List ℕ
 behind segments = flat_map (λ s. quoted s ++ 46 ∷ []) segments
@@ -107,9 +96,6 @@ no_names (n ∷ names) zero name low at none (x ∷ xs) a = none x (subst (λ (l
 no_names (n ∷ names) (suc i) name low at none (x ∷ xs) a = no_names names i name (omega arith) at none xs a.1
 
 -- ---- keys
-
-spelled_key : (text : List ℕ) (key : List (List ℕ)) → SpellsKey text key → IsTrue (is_key key)
-spelled_key text key spells = is_key-from key (record { some = Spells_some key text spells.spells; valid = Spells_valid key text spells.spells; fits = Fits-from key spells.within })
 
 -- a key's segments have its names
 segments_named : (key : List (List ℕ)) → IsTrue (list_all is_segment key) → IsTrue (list_all has_short_name key) → AreFileNames (names_of key) key

@@ -13,9 +13,7 @@ use Rattle.key_names.specs.Spelling.{SpellsKey}
 use Rattle.key_names.specs.Faults.{IsRead}
 use Rattle.key_names.specs.declared.key_error.KeyError.{KeyError}
 use Rattle.key_names.specs.declared.key_error.KeyFault.TheVariants.{Memory}
-use Rattle.key_names.proofs.KeyLimits.{is_key-from, Fits-from}
 use Rattle.key_names.proofs.Segments.{both}
-use Rattle.key_names.proofs.Spellings.{Spells_some, Spells_valid}
 use Rattle.json_trees.specs.Json.{data_of}
 use Rattle.json_trees.specs.Written.{data_tokens, IsReadable}
 use Rattle.json_trees.proofs.Trip.{data_of-tokens}
@@ -27,10 +25,7 @@ use Rattle.json_trees.specs.declared.pending.Pending.TheVariants.{Gone}
 use Rattle.settings_tree.specs.declared.entry.Owed.{Owed}
 use Rattle.store_files.specs.Values.{Spells, pending, owed, weak}
 use Rattle.store_files.specs.Texts.{Finds, key_items}
-use Rattle.store_files.proofs.Spelled.{printed_key}
-
-pub spelled_key : (text : List ℕ) (key : List (List ℕ)) → SpellsKey text key → IsTrue (is_key key)
-spelled_key text key spells = is_key-from key (record { some = Spells_some key text spells.spells; valid = Spells_valid key text spells.spells; fits = Fits-from key spells.within })
+use Rattle.key_names.proofs.SpelledKeys.{spelled_key, printed_key}
 
 -- one more key
 pub items_more : (keys : List (List (List ℕ))) (i : ℕ) (key : List (List ℕ)) (items now : List Item) (text : List ℕ) → i < length keys → key ≡ get_or keys i key → items ≡ key_items (take i keys) → text ≡ printed key → now ≡ items ++ item.Text text ∷ [] → now ≡ key_items (take (i + 1) keys)

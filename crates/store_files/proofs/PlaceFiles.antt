@@ -1,8 +1,8 @@
 -- Which place a path is that of, by its first and its last name.
-use Rattle.std.proofs.Common.{arith, ◌≡◌, ◌<◌, ◌==◌, ℕ, zero, suc, List, [], ◌∷◌, ◌++◌, codes, Some, Result, Ok, Err, Bool, true, false, refl, sym, ap, ◌∙◌, subst}
+use Rattle.std.proofs.Common.{arith, ◌≡◌, ◌<◌, ◌==◌, ℕ, List, [], ◌∷◌, ◌++◌, codes, Some, Result, Ok, Err, Bool, true, false, refl, sym, ap, ◌∙◌, subst}
 use Rattle.std.specs.Prelude.{IsTrue, IfOk}
 use Rattle.std.specs.List.{list_all}
-use Rattle.std.specs.Str.{IsUtf8, IsAscii, bytes_eq}
+use Rattle.std.specs.Str.{IsUtf8, bytes_eq}
 use Rattle.std.proofs.lemmas.Slice.Eq.{bytes_eq-Decides}
 use Rattle.std.proofs.lemmas.Str.{IsUtf8-from_ascii}
 use Rattle.std.proofs.lemmas.Bool.{false≢true, and_parts, false_from_ne_true}
@@ -24,18 +24,14 @@ use Rattle.store_files.specs.FoundFiles.{IsKeyOf, IsPlaceOf, place_of, Says, Rea
 use Rattle.store_files.specs.declared.found.Found.{Found}
 use Rattle.store_files.specs.declared.place.FilePlace.{FilePlace}
 use Rattle.store_files.specs.declared.place.FilePlace.TheVariants as named
-use Rattle.store_files.proofs.Places.{one_place}
+use Rattle.store_files.proofs.Places.{one_place, meta_valid}
 use Rattle.store_files.proofs.FileNames.{segment_bytes, lacks_dot, key_segments, key_length}
+use Rattle.settings_maps.proofs.BareNames.{bare_ascii}
 
 -- ---- names of metadata
 
 bare_low : (b : ℕ) → is_bare b ≡ true → b < 128
 bare_low b bare = grind (arith, nat_tests)
-
-bare_ascii : (bytes : List ℕ) → list_all is_bare bytes ≡ true → IsAscii bytes
-bare_ascii [] bare i = omega arith
-bare_ascii (b ∷ bytes) bare zero = bare_low b ((and_parts (is_bare b) _ bare).0)
-bare_ascii (b ∷ bytes) bare (suc i) = bare_ascii bytes ((and_parts (is_bare b) _ bare).1) i
 
 -- bytes that are no text are no name of metadata
 pub no_text : (bytes : List ℕ) → ¬ (IsUtf8 bytes) → is_meta_name bytes ≡ false
@@ -96,16 +92,13 @@ differ p q other is = false≢true (sym other ∙ ap (λ (n : ℕ). n == first_b
 rest_of : (a : List ℕ) (p q : Names) → a ∷ p ≡ a ∷ q → p ≡ q
 rest_of a p q is = cc is
 
-meta_key : (k : List (List ℕ)) (n : List ℕ) → IsTrue (is_place (Meta k n)) → IsTrue (is_key k)
-meta_key k n valid = (and_parts (is_key k) (is_meta_name n) valid).0
-
 -- ---- below `live`
 
 -- no place has this path where no key has these names and the last of them has no dot
 pub no_value : (first : Names) (last : List ℕ) → Lacks 46 last → ((key : List (List ℕ)) → IsKeyOf (first ++ last ∷ []) key → ⊥) → (p : FilePlace) → IsPlaceOf (codes "live" ∷ first ++ last ∷ []) p → ⊥
 no_value first last lacks none (named.Live k) of = none k (record { valid = of.valid; names_are = rest_of (codes "live") (first ++ last ∷ []) (names_of k) of.path_is })
 no_value first last lacks none (named.Meta k n) of =
-    let dotted = meta_end k n first last (key_segments k (meta_key k n of.valid)).0 (sym (rest_of (codes "live") (first ++ last ∷ []) (meta_names k n) of.path_is)) in
+    let dotted = meta_end k n first last (key_segments k (meta_valid k n of.valid)).0 (sym (rest_of (codes "live") (first ++ last ∷ []) (meta_names k n) of.path_is)) in
     lacks_none 46 (file_name dotted.segment) n (subst (λ (l : List ℕ). Lacks 46 l) dotted.last_is lacks)
 no_value first last lacks none (named.Pending t k) of = differ (codes "live" ∷ first ++ last ∷ []) (path_of (Pend t k)) refl of.path_is
 no_value first last lacks none named.Owed of = differ (codes "live" ∷ first ++ last ∷ []) (path_of TheOwed) refl of.path_is
@@ -116,10 +109,10 @@ no_value first last lacks none named.Weak of = differ (codes "live" ∷ first ++
 meta_alone : (first : Names) (last name : List ℕ) → Lacks 46 last → (p : FilePlace) → IsPlaceOf (codes "live" ∷ first ++ (last ++ 46 ∷ name) ∷ []) p → (key : List (List ℕ)) × IsKeyOf (first ++ last ∷ []) key × IsTrue (is_meta_name name)
 meta_alone first last name lacks (named.Live k) of = absurd (lacks_none 46 last name (key_end k first (last ++ 46 ∷ name) (key_segments k of.valid).0 (sym (rest_of (codes "live") (first ++ (last ++ 46 ∷ name) ∷ []) (names_of k) of.path_is))))
 meta_alone first last name lacks (named.Meta k n) of =
-    let dotted = meta_end k n first (last ++ 46 ∷ name) (key_segments k (meta_key k n of.valid)).0 (sym (rest_of (codes "live") (first ++ (last ++ 46 ∷ name) ∷ []) (meta_names k n) of.path_is)) in
+    let dotted = meta_end k n first (last ++ 46 ∷ name) (key_segments k (meta_valid k n of.valid)).0 (sym (rest_of (codes "live") (first ++ (last ++ 46 ∷ name) ∷ []) (meta_names k n) of.path_is)) in
     let parts = split_one 46 last (file_name dotted.segment) name n lacks (lacks_dot (file_name dotted.segment) (segment_bytes dotted.segment dotted.valid)) dotted.last_is in (
       k,
-      record { valid = meta_key k n of.valid; names_are = ap (λ (l : List ℕ). first ++ l ∷ []) parts.0 ∙ sym dotted.names_are },
+      record { valid = meta_valid k n of.valid; names_are = ap (λ (l : List ℕ). first ++ l ∷ []) parts.0 ∙ sym dotted.names_are },
       subst (λ (l : List ℕ). IsTrue (is_meta_name l)) (sym parts.1) (and_parts (is_key k) (is_meta_name n) of.valid).1,
     )
 meta_alone first last name lacks (named.Pending t k) of = absurd (differ (codes "live" ∷ first ++ (last ++ 46 ∷ name) ∷ []) (path_of (Pend t k)) refl of.path_is)
@@ -168,7 +161,7 @@ no_meta_names (x ∷ y ∷ key) name valid is = cc is
 
 pub no_live : (p : FilePlace) → IsPlaceOf (codes "live" ∷ []) p → ⊥
 no_live (named.Live k) of = no_names k of.valid (rest_of (codes "live") [] (names_of k) of.path_is)
-no_live (named.Meta k n) of = no_meta_names k n (meta_key k n of.valid) (rest_of (codes "live") [] (meta_names k n) of.path_is)
+no_live (named.Meta k n) of = no_meta_names k n (meta_valid k n of.valid) (rest_of (codes "live") [] (meta_names k n) of.path_is)
 no_live (named.Pending t k) of = differ (codes "live" ∷ []) (path_of (Pend t k)) refl of.path_is
 no_live named.Owed of = differ (codes "live" ∷ []) (path_of TheOwed) refl of.path_is
 no_live named.Image of = differ (codes "live" ∷ []) (path_of TheImage) refl of.path_is
@@ -216,7 +209,7 @@ pending_place tx also names key same valid of = record {
 
 pub no_other_top : (name : List ℕ) (a b d : Bool) → a ≡ bytes_eq name (codes "owed") → a ≡ false → b ≡ bytes_eq name (codes "image") → b ≡ false → d ≡ bytes_eq name (codes "weak") → d ≡ false → (p : FilePlace) → IsPlaceOf (name ∷ []) p → ⊥
 no_other_top name a b d is_a a_false is_b b_false is_d d_false (named.Live k) of = let none : [] ≡ names_of k = cc of.path_is in no_names k of.valid none
-no_other_top name a b d is_a a_false is_b b_false is_d d_false (named.Meta k n) of = let none : [] ≡ meta_names k n = cc of.path_is in no_meta_names k n (meta_key k n of.valid) none
+no_other_top name a b d is_a a_false is_b b_false is_d d_false (named.Meta k n) of = let none : [] ≡ meta_names k n = cc of.path_is in no_meta_names k n (meta_valid k n of.valid) none
 no_other_top name a b d is_a a_false is_b b_false is_d d_false (named.Pending t k) of = cc of.path_is
 no_other_top name a b d is_a a_false is_b b_false is_d d_false named.Owed of = let same : name ≡ codes "owed" = cc of.path_is in false≢true (sym a_false ∙ is_a ∙ (bytes_eq-Decides name (codes "owed")).1 same)
 no_other_top name a b d is_a a_false is_b b_false is_d d_false named.Image of = let same : name ≡ codes "image" = cc of.path_is in false≢true (sym b_false ∙ is_b ∙ (bytes_eq-Decides name (codes "image")).1 same)

@@ -134,7 +134,8 @@ tail_of a p q is = cc is
 two_of : (a t u : List ℕ) (p q : Names) → a ∷ t ∷ p ≡ a ∷ u ∷ q → (t ≡ u) × (p ≡ q)
 two_of a t u p q is = (cc is, cc is)
 
-meta_valid : (k : List (List ℕ)) (n : List ℕ) → IsTrue (is_place (Meta k n)) → IsTrue (is_key k)
+-- Metadata stands at a key.
+pub meta_valid : (k : List (List ℕ)) (n : List ℕ) → IsTrue (is_place (Meta k n)) → IsTrue (is_key k)
 meta_valid k n valid = (and_parts (is_key k) (is_meta_name n) valid).0
 
 pend_valid : (t : List ℕ) (k : List (List ℕ)) → IsTrue (is_place (Pend t k)) → IsTrue (is_key k)

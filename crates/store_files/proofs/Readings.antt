@@ -1,8 +1,7 @@
 -- One more file that is read, and one that is refused.
-use Rattle.std.proofs.Common.{◌≡◌, ℕ, List, slice_index_or, Option, Some, None, IsSome, Ok, Bool, true, false, cond, refl, sym, subst}
+use Rattle.std.proofs.Common.{◌≡◌, ℕ, List, slice_index_or, Option, Some, None, Ok, Bool, refl, sym, subst}
 use Rattle.std.specs.Prelude.{IsTrue, All, MatchOption, ⊤}
-use Rattle.std.specs.Ordering.{eq_by_cmp}
-use Rattle.std.specs.FinMap.{FinMap, get, insert, get-insert}
+use Rattle.std.specs.FinMap.{FinMap, insert}
 use Rattle.std.proofs.lemmas.Bool.{and_parts}
 use Rattle.outside.specs.Tree.{file}
 use Rattle.commit_journal.specs.Files.{Files, with_node}
@@ -29,18 +28,13 @@ use Rattle.store_files.specs.FoundFiles.{what_found, KeepsRules, Says}
 use Rattle.store_files.specs.declared.found.Found.{Found}
 use Rattle.store_files.proofs.Showing.{shows_with, shows_alike}
 use Rattle.store_files.proofs.Put.{put_at, put_in}
+use Rattle.settings_tree.proofs.Contents.{weak_put}
 
 -- ---- what may be weak stays so
 
-weak_more : (m : FinMap key_cmp Scalar) (k : List (List ℕ)) (v : Scalar) (q : List (List ℕ)) → MayBeWeak m q → MayBeWeak (insert m k v) q
-weak_more m k v q may = record { stands = subst IsSome (sym (get-insert key_total m k v q)) (by (eq_by_cmp key_cmp q k) may.stands); setting = may.setting } where
-  by : (b : Bool) → IsSome (get m q) → IsSome (cond b (Some v) (get m q))
-  by true some = refl
-  by false some = some
-
 all_weak : (m : FinMap key_cmp Scalar) (k : List (List ℕ)) (v : Scalar) (listed : Option (List (List (List ℕ)))) → MatchOption listed ⊤ (λ keys. All (MayBeWeak m) keys) → MatchOption listed ⊤ (λ keys. All (MayBeWeak (insert m k v)) keys)
 all_weak m k v None may = tt
-all_weak m k v (Some keys) may = λ i d low. weak_more m k v (slice_index_or keys i d) (may i d low)
+all_weak m k v (Some keys) may = λ i d low. weak_put m k v (slice_index_or keys i d) (may i d low)
 
 -- ---- the rules
 

@@ -6,8 +6,6 @@ use Rattle.std.proofs.lemmas.Bool.{false≢true, and_parts}
 use Rattle.serde_json.specs.Data.{Data, null}
 use Rattle.key_names.specs.Key.{is_key, printed}
 use Rattle.key_names.specs.Spelling.{SpellsKey}
-use Rattle.key_names.proofs.KeyLimits.{IsKey-from, fits-from}
-use Rattle.key_names.proofs.Spellings.{Spells-printed}
 use Rattle.key_names.proofs.OneReading.{one_key}
 use Rattle.json_trees.specs.Collected.{result_and_then}
 use Rattle.json_trees.specs.Json.{data_of}
@@ -22,12 +20,10 @@ use Rattle.settings_tree.specs.Change.{Place}
 use Rattle.settings_tree.specs.Change.{Live, Meta, Pend, TheOwed, TheImage, TheWeak}
 use Rattle.settings_tree.specs.declared.entry.Owed.{Owed}
 use Rattle.settings_tree.specs.declared.entry.Owed.TheVariants.{All, Keys}
-use Rattle.store_files.specs.Values.{Value, live, pending, owed, image, weak, IsKeyList, IsOwed, Spells, list_of, owed_scalar, is_for}
+use Rattle.store_files.specs.Values.{Value, live, pending, owed, image, weak, Spells, list_of, owed_scalar, is_for}
+use Rattle.settings_tree.specs.Owed.{IsKeyList, IsOwed}
 use Rattle.store_files.specs.Texts.{key_items}
-
--- a key's printed text spells it
-pub printed_key : (key : List (List ℕ)) → IsTrue (is_key key) → SpellsKey (printed key) key
-printed_key key valid = let k = IsKey-from key valid in record { spells = Spells-printed key k.some k.valid; within = fits-from key k.fits }
+use Rattle.key_names.proofs.SpelledKeys.{printed_key}
 
 printed_one : (key other : List (List ℕ)) → IsTrue (is_key key) → IsTrue (is_key other) → printed key ≡ printed other → key ≡ other
 printed_one key other v w is = one_key (printed_key key v) (subst (λ (t : List ℕ). SpellsKey t other) (sym is) (printed_key other w))

@@ -1,9 +1,8 @@
 -- What stands at a place, and the bytes of its file.
-use Rattle.std.specs.Prelude.{◌≡◌, ℕ, List, map, codes, Bool, true, false, Option, Some, Ok, IsTrue, option_map, ⊤}
-use Rattle.std.specs.List.{list_all}
+use Rattle.std.specs.Prelude.{◌≡◌, ℕ, List, map, codes, Bool, true, false, Option, Some, Ok, option_map}
 use Rattle.std.specs.FinMap.{get}
 use Rattle.serde_json.specs.Data.{null}
-use Rattle.key_names.specs.Key.{is_key, printed}
+use Rattle.key_names.specs.Key.{printed}
 use Rattle.json_trees.specs.Json.{data_of}
 use Rattle.json_trees.specs.Scalar.{scalar_read, json_text}
 use Rattle.json_trees.specs.declared.item.Item.TheVariants as item
@@ -11,13 +10,13 @@ use Rattle.json_trees.specs.declared.scalar.Scalar.{Scalar}
 use Rattle.json_trees.specs.declared.scalar.Scalar.TheVariants as scalar
 use Rattle.json_trees.specs.declared.pending.Pending.{Pending}
 use Rattle.json_trees.specs.declared.pending.Pending.TheVariants.{Put, Gone}
-use Rattle.settings_maps.specs.KeyList.{IsRising}
 use Rattle.settings_maps.specs.Maps.{value_at}
 use Rattle.settings_tree.specs.Change.{Place}
 use Rattle.settings_tree.specs.Change.{Live, Meta, Pend, TheOwed, TheImage, TheWeak}
 use Rattle.settings_tree.specs.declared.entry.Owed.{Owed}
 use Rattle.settings_tree.specs.declared.entry.Owed.TheVariants.{All, Keys}
 use Rattle.settings_tree.specs.declared.held.Held.{Held}
+use Rattle.settings_tree.specs.Owed.{IsKeyList, IsOwed}
 
 -- What stands at a place: a live value or metadata, a pending value or removal, the owed keys, the image text, or the weak keys.
 pub data Value : Type 0 where
@@ -37,16 +36,6 @@ value_in held listed TheImage = Some (image held.image)
 value_in held listed TheWeak = option_map weak listed
 
 -- ---- the bytes
-
--- A list of keys, each below those after it.
-pub record IsKeyList (keys : List (List (List ℕ))) : Type 0 where
-  pub rising : IsRising keys
-  pub valid : IsTrue (list_all is_key keys)
-
--- Owed keys are such a list, where they are not all.
-abbrev pub IsOwed : Owed → Type 0
-IsOwed All = ⊤
-IsOwed (Keys keys) = IsKeyList keys
 
 -- Keys are written as a JSON list of their printed texts.
 abbrev pub list_of : List (List (List ℕ)) → Scalar

@@ -41,7 +41,7 @@ fn meta_name_of(alloc: Global, bytes: &[u8]) -> Result<Option<Text>, AllocError>
     if !is_meta_name(text.as_bytes()) {
         return Ok(None);
     }
-    Ok(Some(Text::of(String::from_str(alloc, text)?)))
+    Ok(Some(Text::from_str(alloc, text)?))
 }
 
 // The metadata of a key whose names are the first ones and a last one of these two parts, joined by a dot.

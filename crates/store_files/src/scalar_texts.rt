@@ -8,7 +8,8 @@ ghost use Rattle.json_trees.specs.Json.{data_of};
 ghost use Rattle.json_trees.specs.Scalar.{scalar_read, json_text};
 ghost use Rattle.json_trees.specs.declared.item.Item.TheVariants as kind;
 ghost use Rattle.settings_tree.specs.declared.entry.Owed.{Owed};
-ghost use Rattle.store_files.specs.Values.{IsKeyList, IsOwed, Spells, pending, owed, weak, list_of, owed_scalar};
+ghost use Rattle.store_files.specs.Values.{Spells, pending, owed, weak, list_of, owed_scalar};
+ghost use Rattle.settings_tree.specs.Owed.{IsKeyList, IsOwed};
 ghost use Rattle.store_files.specs.Batches.{pending_text};
 ghost use Rattle.store_files.specs.Texts.{Finds, key_items};
 
@@ -19,12 +20,6 @@ use serde_json::Value;
 use settings_maps::KeyList;
 use settings_tree::Owed;
 use std::alloc::{AllocError, Global};
-
-fn copy_of(alloc: Global, text: &str) -> Result<Text, AllocError>
-    ensures { IfOk result (λ copy. copy ≡ text.now) }
-{
-    Ok(Text::of(String::from_str(alloc, text)?))
-}
 
 // ---- writing
 
@@ -81,7 +76,7 @@ fn owed_scalar(alloc: Global, keys: &Owed) -> Result<Scalar, AllocError>
     ensures valid { OnOk result (IsOwed keys.now) }
 {
     match keys {
-        Owed::All => Ok(Scalar::Text(copy_of(alloc, "all")?)),
+        Owed::All => Ok(Scalar::Text(Text::from_str(alloc, "all")?)),
         Owed::Keys(keys) => list_of(alloc, keys),
     }
 }

@@ -1,7 +1,6 @@
 -- The sources of templates, read one behind another.
 use Rattle.std.proofs.Common.{◌≡◌, ℕ, List, Option, Some, None, IsSome, is_some, Bool, true, false, cond, refl, sym, ◌∙◌, ap, subst, inl, inr}
-use Rattle.std.specs.declared.cmp.Ordering.{Ordering}
-use Rattle.std.specs.declared.cmp.Ordering.TheVariants.{Less, Equal, Greater}
+use Rattle.std.specs.declared.cmp.Ordering.TheVariants.{Less}
 use Rattle.std.specs.Ordering.{eq_by_cmp, is_lt, is_gt, ordering_reverse}
 use Rattle.std.specs.Option.{option_map}
 use Rattle.std.specs.FinMap.{FinMap, get, insert, empty, get-insert, get-empty}
@@ -17,6 +16,7 @@ use Rattle.template_reader.specs.declared.template_error.TemplateError.{Template
 use Rattle.store_image.specs.Paths.{sources_in, template_path}
 use Rattle.store_image.specs.Refused.{Fault, template_fault}
 use Rattle.store_image.specs.Reading.{UpTo, AreAt, AreFaultless, AreThere, IsBadAt, IsFirstBadOf}
+use Rattle.key_names.proofs.Ties.{tied}
 
 abbrev Paths : Type 0
 Paths = FinMap path_cmp (Unit {0})
@@ -36,12 +36,6 @@ put_at sources k source = get-insert path_total sources k source k ∙ ap (λ b.
 
 put_apart : (sources : Texts) (k : Names) (source : List ℕ) (p : Names) → eq_by_cmp path_cmp p k ≡ false → get (insert sources k source) p ≡ get sources p
 put_apart sources k source p other = get-insert path_total sources k source p ∙ ap (λ b. cond b (Some source) (get sources p)) other
-
--- neither below nor above
-tied : (r : Ordering) → is_lt r ≡ false → is_gt r ≡ false → r ≡ Equal
-tied Less l g = absurd (cc l)
-tied Equal l g = refl
-tied Greater l g = absurd (cc g)
 
 -- a path of the map at or before the next one is that one, or not past the last one
 passed : (paths : Paths) (after : Option Names) (k : Names) (x : Unit {0}) → IsLeastAfter paths after k x → (p : Names) → IsSome (get paths p) → is_lt (path_cmp k p) ≡ false → eq_by_cmp path_cmp p k ≡ false → is_past path_cmp after p ≡ false

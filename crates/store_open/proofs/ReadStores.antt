@@ -1,6 +1,6 @@
 -- What the refusals of a data directory and of an image tell.
-use Rattle.std.proofs.Common.{◌≡◌, ◌≢◌, ◌⊎◌, inl, inr, ℕ, List, Option, Result, Ok, Err, Bool, true, false, refl, sym, subst}
-use Rattle.std.specs.Prelude.{IsErrOf, IfErr, if◌then◌else◌}
+use Rattle.std.proofs.Common.{◌≡◌, ◌≢◌, ◌⊎◌, inl, inr, ℕ, List, Option, Err, Bool, true, false, refl, sym, subst}
+use Rattle.std.specs.Prelude.{IsErrOf, if◌then◌else◌}
 use Rattle.outside.specs.Names.{Names}
 use Rattle.outside.specs.History.{History, tree_of}
 use Rattle.outside.specs.Told.{WhereTold}
@@ -70,7 +70,3 @@ module _ (dir : Names) (a : Option History) where
       (where_both means read)
   at_types held i refused.Failed ill means read = absurd ill
   at_types held i refused.Memory ill means read = where_all (λ h. tt)
-
-pub if_err : {T E : Type 0} (r : Result T E) (P Q : E → Type 0) → ((e : E) → P e → Q e) → IfErr r P → IfErr r Q
-if_err (Ok x) P Q f is = tt
-if_err (Err e) P Q f is = f e is

@@ -1,7 +1,7 @@
 -- A walk in order of keys, up to the first key at which something does not hold.
 use Rattle.std.proofs.Common.{◌≡◌, Option, Some, None, IsSome, is_some, Bool, true, false, refl, ◌∙◌, ap, subst}
 use Rattle.std.specs.declared.cmp.Ordering.{Ordering}
-use Rattle.std.specs.declared.cmp.Ordering.TheVariants.{Less, Equal, Greater}
+use Rattle.std.specs.declared.cmp.Ordering.TheVariants.{Less}
 use Rattle.std.specs.Ordering.{is_lt, is_gt, ordering_reverse}
 use Rattle.std.specs.Cmp.{IsTotalOrder}
 use Rattle.std.specs.BTreeMap.Range.{IsLeBy}
@@ -9,11 +9,7 @@ use Rattle.std.specs.FinMap.{FinMap, IsAntisymmetric, get}
 use Rattle.settings_maps.specs.Maps.{IsPast, HasNoneAfter}
 use Rattle.settings_tree.specs.Walks.{is_past}
 use Rattle.settings_tree.proofs.Walks.{past_fact}
-
-tied : (r : Ordering) → is_lt r ≡ false → is_gt r ≡ false → r ≡ Equal
-tied Less l g = absurd (cc l)
-tied Equal l g = refl
-tied Greater l g = absurd (cc g)
+use Rattle.key_names.proofs.Ties.{tied}
 
 -- P holds of each key that is not past the given one.
 pub record Fine {K X : Type 0} {R : K → K → Ordering} (P : K → Type 0) (m : FinMap R X) (after : Option K) : Type 0 where

@@ -2,7 +2,7 @@
 use Rattle.std.proofs.Common.{◌≡◌, ◌<◌, ℕ, suc, List, [], ◌∷◌, ◌++◌, length, map, Bool, true, false, cond, Option, Some, None, refl, sym, ◌∙◌, ap, arith, append-nil, length-append}
 use Rattle.std.specs.Prelude.{◌==◌, ◌&&◌, not, slice_get, is_some, IfSome, IfNone}
 use Rattle.std.specs.Borrow.{Bor}
-use Rattle.std.specs.Ordering.{is_eq}
+use Rattle.std.specs.Ordering.{is_eq, is_gt}
 use Rattle.std.specs.FinMap.{FinMap, get, entries, find, get-entries}
 use Rattle.std.proofs.lemmas.Cmp.{tied_itself}
 use Rattle.key_names.specs.Order.{bytes_cmp, bytes_total, bytes_cmp-IsAntisymmetric, key_cmp}
@@ -13,9 +13,10 @@ use Rattle.settings_tree.proofs.Walks.{walk_start, walk_next, walk_end}
 use Rattle.template_eval.specs.Place.{Path, Place}
 use Rattle.template_eval.specs.Children.{name_below, names_below, child, children_below}
 use Rattle.template_eval.specs.Steps.{IsNextChild, name_at}
-use Rattle.template_eval.proofs.NameOrder.{behind, name_there, begins-name_below}
+use Rattle.template_eval.proofs.NameOrder.{cmp-behind, name_there, begins-name_below}
 use Rattle.template_eval.proofs.NameSets.{key_of_name, name_of_key}
 use Rattle.template_eval.proofs.NextNames.{nothing, none_there}
+use Rattle.key_names.proofs.Prefixes.{behind}
 
 -- A path begins with itself.
 pub prefix_itself : (p : Path) → is_prefix p p ≡ true
@@ -65,7 +66,19 @@ module _ {X : Type 0} (values : FinMap key_cmp X) (p : Path) where
     }),
   )
 
-  -- Where the first key from a path on goes on beyond it, the path has a child.
+  not_first : (rest : Path) → is_gt (key_cmp rest []) ≡ false → rest ≡ []
+  not_first [] low = refl
+  not_first (n ∷ rest) low = absurd (cc low)
+
+  -- Where the first key from a path on goes on beyond it, no value stands at the path.
+  pub no_value : (k : Path) (x : X) → IsLeastBelow values p None k x → length p < length k → get values p ≡ None
+  no_value k x first longer = nothing (get values p) (λ has. by (behind p k first.begins).0 (behind p k first.begins).1 (first.least p tt (prefix_itself p) has)) where
+    by : (rest : Path) → k ≡ p ++ rest → is_gt (key_cmp k p) ≡ false → ⊥
+    by rest is low =
+        let empty : rest ≡ [] = not_first rest (ap is_gt (sym (ap (λ (l : Path). key_cmp l p) is ∙ ap (key_cmp (p ++ rest)) (sym (append-nil p)) ∙ cmp-behind p rest [])) ∙ low) in
+        omega (arith, ap length is, length-append p rest, ap length empty)
+
+  -- And the path has a child.
   pub some_child : (k : Path) (x : X) → IsLeastBelow values p None k x → length p < length k → (c : Place) × (cs : List Place) × (children_below values p ≡ c ∷ cs)
   some_child k x first longer =
       by (entries (names_below values p)) refl (sym (get-entries (names_below values p) (name_at p k)) ∙ name_of_key p values k x (name_at p k) first.stands (name_there p k first.begins longer))
@@ -99,8 +112,3 @@ module _ {X : Type 0} (values : FinMap key_cmp X) (p : Path) where
     by : (rest : Path) → k ≡ p ++ rest → length p < length k
     by [] is = absurd (other (ap length (is ∙ append-nil p)))
     by (n ∷ rest) is = omega (arith, ap length is, length-append p (n ∷ rest))
-
-  -- Where a key begins with a path, and no value stands at the path, the path has a child.
-  pub has_child : {k : Path} {x : X} → IsLeastBelow values p None k x → get values p ≡ None → (c : Place) × (cs : List Place) × (children_below values p ≡ c ∷ cs)
-  has_child {k = k} {x = x} first none =
-      some_child k x first (longer_key k first.begins (λ same. cc (first.stands, ap (get values) (same_key k first.begins same), none)))

@@ -1,55 +1,25 @@
 -- Keys that are made of others.
-use Rattle.std.proofs.Common.{◌≡◌, ◌<◌, ◌+◌, ℕ, List, [], ◌∷◌, ◌++◌, length, take, drop, Bool, true, false, Some, None, IsTrue, refl, sym, ◌∙◌, ap, arith, append_assoc, append-nil, length-append}
+use Rattle.std.proofs.Common.{◌≡◌, ◌<◌, ◌+◌, ℕ, List, [], ◌∷◌, ◌++◌, length, take, Bool, true, false, Some, None, IsTrue, refl, sym, ◌∙◌, ap, arith, append_assoc, append-nil, length-append}
 use Rattle.std.specs.Prelude.{slice_index_or, if◌then◌else◌}
-use Rattle.std.proofs.lemmas.List.{take-append-drop, take_more}
-use Rattle.std.proofs.lemmas.Bool.{both_ways, cond-false}
 use Rattle.json_trees.proofs.Segments.{is_key-first}
 use Rattle.key_names.specs.Key.{is_key, is_prefix}
 use Rattle.template_eval.specs.Place.{Path}
 use Rattle.template_eval.specs.Node.{os_path}
 use Rattle.template_eval.specs.Steps.{name_at}
-use Rattle.template_eval.proofs.NameOrder.{behind, index-behind}
-
--- A key with one name more, of those that are to come behind it.
-pub one_more : (key names joined : Path) (i : ℕ) (n : List ℕ) → i < length names → joined ≡ key ++ take i names → n ≡ slice_index_or names i [] → joined ++ n ∷ [] ≡ key ++ take (i + 1) names
-one_more key names joined i n low is name =
-    ap (λ (l : Path). l ++ n ∷ []) is ∙ append_assoc key (take i names) (n ∷ []) ∙ ap (λ (x : List ℕ). key ++ (take i names ++ x ∷ [])) name
-    ∙ ap (λ (l : Path). key ++ l) (sym (take_more names i [] low))
-
-not_true : (b : Bool) → (b ≡ true → ⊥) → b ≡ false
-not_true true never = absurd (never refl)
-not_true false never = refl
-
--- Where a key with one name more is none, it is none with all names.
-pub none_more : (key names longer : Path) (i : ℕ) → 0 < length longer → longer ≡ key ++ take (i + 1) names → is_key longer ≡ false → is_key (key ++ names) ≡ false
-none_more key names longer i some is no_key =
-    not_true (is_key (key ++ names)) (λ whole. both_ways (is_key longer) no_key
-    (is_key-first longer (drop (i + 1) names) some
-    (ap is_key (ap (λ (l : Path). l ++ drop (i + 1) names) is ∙ append_assoc key (take (i + 1) names) (drop (i + 1) names) ∙ ap (λ (l : Path). key ++ l) (take-append-drop (i + 1) names)) ∙ whole)))
+use Rattle.template_eval.proofs.NameOrder.{index-behind}
+use Rattle.key_names.proofs.Prefixes.{behind}
+use Rattle.json_trees.proofs.LongerKeys.{one_more, push_some}
 
 some_if : (b : Bool) (k : Path) (j : Path) → Some k ≡ (if b then Some j else None) → (b ≡ true) × (k ≡ j)
 some_if true k j is = (refl, cc is)
 some_if false k j is = absurd (cc is)
-
-none_if : (b : Bool) (j : Path) → None ≡ (if b then Some j else None) → b ≡ false
-none_if true j is = absurd (cc is)
-none_if false j is = refl
-
-push_some : (l : Path) (n : List ℕ) → 0 < length (l ++ n ∷ [])
-push_some l n = omega (arith, length-append l (n ∷ []))
 
 -- The loop goes on with a key that is longer by a name.
 pub goes_on : (key names joined k : Path) (i : ℕ) (n : List ℕ) → i < length names → joined ≡ key ++ take i names → n ≡ slice_index_or names i [] → Some k ≡ (if is_key (joined ++ n ∷ []) then Some (joined ++ n ∷ []) else None)
     → (k ≡ key ++ take (i + 1) names) × (0 < i + 1 → IsTrue (is_key k))
 goes_on key names joined k i n low is name made =
     let found = some_if (is_key (joined ++ n ∷ [])) k (joined ++ n ∷ []) made in
-    (found.1 ∙ one_more key names joined i n low is name, λ _. ap is_key found.1 ∙ found.0)
-
--- The loop ends where that is no key.
-pub ends : (key names joined : Path) (i : ℕ) (n : List ℕ) → i < length names → joined ≡ key ++ take i names → n ≡ slice_index_or names i [] → None ≡ (if is_key (joined ++ n ∷ []) then Some (joined ++ n ∷ []) else None)
-    → None ≡ (if is_key (key ++ names) then Some (key ++ names) else None)
-ends key names joined i n low is name made =
-    sym (cond-false _ (Some (key ++ names)) None (none_more key names (joined ++ n ∷ []) i (push_some joined n) (one_more key names joined i n low is name) (none_if _ (joined ++ n ∷ []) made)))
+    (found.1 ∙ one_more key names joined i n [] low is name, λ _. ap is_key found.1 ∙ found.0)
 
 -- A key that goes on beyond a path has a name there, and maybe more.
 pub parted : (p k : Path) → is_prefix p k ≡ true → length p < length k → (rest : Path) × (k ≡ (p ++ name_at p k ∷ []) ++ rest)

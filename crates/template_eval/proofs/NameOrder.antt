@@ -3,27 +3,17 @@ use Rattle.std.proofs.Common.{◌≡◌, ◌<◌, ℕ, List, [], ◌∷◌, ◌+
 use Rattle.std.specs.Prelude.{slice_get, slice_index_or}
 use Rattle.std.specs.declared.cmp.Ordering.{Ordering}
 use Rattle.std.specs.declared.cmp.Ordering.TheVariants.{Less, Equal, Greater}
-use Rattle.std.specs.Ordering.{eq_by_cmp, is_gt, ordering_then}
+use Rattle.std.specs.Ordering.{is_gt, ordering_then}
 use Rattle.std.specs.BTreeMap.Range.{IsLeBy}
-use Rattle.std.proofs.lemmas.Bool.{and_parts, cond-true}
+use Rattle.std.proofs.lemmas.Bool.{cond-true}
 use Rattle.std.proofs.lemmas.Cmp.{tied_itself}
 use Rattle.key_names.specs.Order.{bytes_cmp, bytes_total, bytes_cmp-IsAntisymmetric, key_cmp}
 use Rattle.key_names.specs.Key.{is_prefix}
 use Rattle.settings_maps.specs.Maps.{IsPast}
-use Rattle.settings_maps.proofs.NestedMaps.{tied_by}
 use Rattle.template_eval.specs.Place.{Path}
 use Rattle.template_eval.specs.Children.{name_below}
 use Rattle.template_eval.specs.Steps.{name_at}
-
--- What a key has behind a path that it begins with.
-pub behind : (p k : Path) → is_prefix p k ≡ true → (rest : Path) × (k ≡ p ++ rest)
-behind [] k begins = (k, refl)
-behind (n ∷ p) [] begins = absurd (grind arith)
-behind (n ∷ p) (m ∷ k) begins =
-    let parts = and_parts (eq_by_cmp bytes_cmp n m) (is_prefix p k) begins in
-    let one : n ≡ m = bytes_cmp-IsAntisymmetric n m (tied_by (bytes_cmp n m) parts.0) in
-    let more = behind p k parts.1 in
-    (more.0, ap (λ (x : List ℕ). x ∷ k) (sym one) ∙ ap (λ (l : Path). n ∷ l) more.1)
+use Rattle.key_names.proofs.Prefixes.{behind}
 
 -- Keys that begin with a path are ordered by what they have behind it.
 pub cmp-behind : (p a b : Path) → key_cmp (p ++ a) (p ++ b) ≡ key_cmp a b

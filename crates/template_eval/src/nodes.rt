@@ -1,5 +1,5 @@
 //! The tree of the live values and of the operating system, seen place by place: none is built.
-ghost use Rattle.std.specs.Prelude.{◌≡◌, ◌∷◌, [], drop, find, false, None};
+ghost use Rattle.std.specs.Prelude.{◌≡◌, ◌∷◌, [], drop, find, false};
 ghost use Rattle.key_names.specs.Key.{is_prefix};
 ghost use Rattle.template_eval.specs.Node as nodes;
 ghost use Rattle.template_eval.specs.Node.{scalar_node, os_node, os_path, tree_node, value_node};
@@ -40,31 +40,24 @@ fn scalar_node(scalar: &Scalar) -> Node<'_>
     }
 }
 
-// What stands at a key without a value: the children below it, if there are any.
-fn children_node<'a>(content: &'a Content, key: &'a Key) -> Node<'a>
-    requires outside { is_prefix os_path key.now ≡ false }
-    requires none { get content.now.values key.now ≡ None }
-    ensures { node_of content.now result ≡ value_node None (children_below content.now.values key.now) }
-{
-    match content.next_below(key, None) {
-        None => Node::Missing,
-        Some(_) => Node::Children(Places::Children(Children {
-            parent: key,
-            after: key,
-        })),
-    }
-}
-
-// What stands at a key of the values. Most keys that a template names have a value, and asking for
-// that costs a fraction of asking for the keys below.
+// What stands at a key of the values, by one look-up.
 fn value_node<'a>(content: &'a Content, key: &'a Key) -> Node<'a>
     requires { is_prefix os_path key.now ≡ false }
     ensures { node_of content.now result
         ≡ value_node (get content.now.values key.now) (children_below content.now.values key.now) }
 {
-    match content.value(key) {
-        Some(scalar) => scalar_node(scalar),
-        None => children_node(content, key),
+    match content.next_below(key, None) {
+        None => Node::Missing,
+        Some((found, scalar)) => {
+            if found.len() == key.len() {
+                scalar_node(scalar)
+            } else {
+                Node::Children(Places::Children(Children {
+                    parent: key,
+                    after: key,
+                }))
+            }
+        }
     }
 }
 

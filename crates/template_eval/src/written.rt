@@ -12,18 +12,11 @@ pub fn path_text(alloc: Global, path: &Walk) -> Result<Text, AllocError>
 {
     match path {
         Walk::Root(key) => key.print(),
-        Walk::This(None) => text_of(alloc, "this"),
+        Walk::This(None) => Text::from_str(alloc, "this"),
         Walk::This(Some(key)) => below_this(alloc, key.print()?.as_str()),
-        Walk::AtKey => text_of(alloc, "@key"),
-        Walk::AtIndex => text_of(alloc, "@index"),
+        Walk::AtKey => Text::from_str(alloc, "@key"),
+        Walk::AtIndex => Text::from_str(alloc, "@index"),
     }
-}
-
-fn text_of(alloc: Global, text: &str) -> Result<Text, AllocError>
-    ensures { IfOk result (λ copy. copy ≡ text.now) }
-{
-    let text = text.to_string(alloc)?;
-    Ok(Text::of(text))
 }
 
 fn below_this(alloc: Global, key: &str) -> Result<Text, AllocError>

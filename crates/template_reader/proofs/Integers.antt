@@ -112,8 +112,8 @@ parsed_integer {E} word text r o plain same p is =
     let P : List ℕ → Type 0 = λ w. ParsesSigned w64 10 w r in
     is ∙ parsed-is word r plain (subst P same p)
 
--- An integer is ASCII.
-ascii-cons : (b : ℕ) (bs : List ℕ) → b < 128 → IsAscii bs → IsAscii (b ∷ bs)
+-- A byte below 128 before ASCII is ASCII.
+pub ascii-cons : (b : ℕ) (bs : List ℕ) → b < 128 → IsAscii bs → IsAscii (b ∷ bs)
 ascii-cons b bs h a zero = h
 ascii-cons b bs h a (suc i) = a i
 

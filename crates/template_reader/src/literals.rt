@@ -8,21 +8,8 @@ ghost use Rattle.template_reader.specs.Says.{text_of, integer_of, literal_of, fa
 use crate::Literal;
 use crate::scan::tail;
 use crate::words::is_same;
-use key_names::Text;
+use key_names::{Text, are_quotable};
 use std::alloc::{AllocError, Global};
-
-// 0x20 to 0x7E other than `"`.
-fn is_quotable(byte: u8) -> bool
-    ensures { result ≡ is_quotable byte }
-{
-    (32..=126).contains(&byte) && byte != b'"'
-}
-
-fn are_quotable(bytes: &[u8]) -> bool
-    ensures { result ≡ list_all is_quotable bytes.now }
-{
-    bytes.iter().all(|b| is_quotable(*b))
-}
 
 // Double quotes stand at both ends.
 fn is_quoted(word: &[u8]) -> bool

@@ -1,10 +1,11 @@
 //! The words of a tag.
-ghost use Rattle.std.specs.Prelude.{◌≡◌, ◌≤◌, ◌&&◌, ◌++◌, ◌∷◌, [], length, map, filter, drop, not, false, IfOk, OnOk};
+ghost use Rattle.std.specs.Prelude.{◌≡◌, ◌≤◌, ◌&&◌, ◌++◌, ◌∷◌, [], length, map, filter, not, false, IfOk, OnOk};
 ghost use Rattle.std.specs.Str.{bytes_eq};
 ghost use Rattle.template_reader.specs.Bytes.{is_space};
 ghost use Rattle.template_reader.specs.Words.{words, has_bytes, part_length};
 
 use crate::scan::is_quoted_after;
+use key_names::behind_first;
 use std::alloc::{AllocError, Global};
 
 /// Space, tab, LF or CR.
@@ -50,15 +51,6 @@ fn push_word<'a>(found: &mut Vec<&'a [u8]>, word: &'a [u8]) -> Result<(), AllocE
     }
     found.push(word)?;
     Ok(())
-}
-
-fn behind_first(bytes: &[u8]) -> &[u8]
-    ensures { result.now ≡ drop 1 bytes.now }
-{
-    match bytes {
-        [] => bytes,
-        [_, rest @ ..] => rest,
-    }
 }
 
 /// The words, which white space outside double quotes separates. The only error is want of memory.

@@ -36,7 +36,7 @@ fn row(alloc: Global, first: &str, last: &str, word: Word, text: &str) -> Result
         ≡ row_with (Place.Plain first.now ∷ Place.Any ∷ Place.Plain last.now ∷ []) word text.now) }
 {
     let pattern = pattern(alloc, first, last)?;
-    let text = Text::of(String::from_str(alloc, text)?);
+    let text = Text::from_str(alloc, text)?;
     Ok(Row {
         pattern,
         word,

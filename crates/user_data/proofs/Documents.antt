@@ -2,9 +2,6 @@
 use Rattle.std.proofs.Common.{◌≡◌, ℕ, List, [], Option, Some, None, Err, true, false, if◌then◌else◌, refl, sym, ap, ◌∙◌}
 use Rattle.std.specs.Map.{keys_of}
 use Rattle.std.specs.Ordering.{eq_by_cmp}
-use Rattle.std.proofs.lemmas.Bool.{false_from_ne_true}
-use Rattle.std.proofs.lemmas.Map.Lookups.{exact_bytes}
-use Rattle.std.proofs.lemmas.Map.Views.{tells_apart}
 use Rattle.key_names.specs.Order.{bytes_cmp}
 use Rattle.json_trees.specs.Apart.{AreApart}
 use Rattle.json_trees.specs.declared.scalar.Scalar.{Scalar}
@@ -17,10 +14,6 @@ use Rattle.user_data.specs.declared.refusal.Refusal.{Refusal}
 use Rattle.user_data.specs.declared.refusal.Refusal.TheVariants.{Fault, Memory}
 use Rattle.user_data.specs.declared.user_data_error.UserDataKind.{UserDataKind}
 use Rattle.user_data.specs.declared.user_data_error.UserDataKind.TheVariants.{NotSettings}
-
--- Names that are two do not tie.
-pub none_equal : (a b : List ℕ) → (a ≡ b → ⊥) → eq_by_cmp bytes_cmp a b ≡ false
-none_equal a b differ = false_from_ne_true (eq_by_cmp bytes_cmp a b) (λ tie. differ (tells_apart exact_bytes a b tie))
 
 -- A name other than `settings` is the first such.
 other_first : (name : List ℕ) (d : Data) (left : Members) → eq_by_cmp bytes_cmp name settings ≡ false → other_name (member name d left) ≡ Some name

@@ -36,7 +36,8 @@ halves (Err e) back whole h = cc
 halves (Ok xs) (Err e) whole h = cc
 halves (Ok xs) (Ok ys) whole h = record { first = xs; second = ys; first_is = refl; second_is = refl; keys_are = let both : whole ≡ xs ++ ys = cc in ap keys_of both ∙ map-append (λ p. p.0) xs ys }
 
-kept : (path : Path) (pairs : Pairs) (found : List (Path × Scalar)) → where_key path pairs ≡ Ok found → pairs ≡ Ok found
+-- What is read at a key is read of its value.
+pub kept : (path : Path) (pairs : Pairs) (found : List (Path × Scalar)) → where_key path pairs ≡ Ok found → pairs ≡ Ok found
 kept path pairs found = by (is_key path)
   where
     by : (test : Bool) → (if test then pairs else Err (fault_at BadKey (printed_path path))) ≡ Ok found → pairs ≡ Ok found

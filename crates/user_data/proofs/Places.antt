@@ -1,14 +1,9 @@
 -- The places of entries.
-use Rattle.std.proofs.Common.{◌≡◌, ◌<◌, ℕ, List, [], ◌∷◌, ◌++◌, length, length-append, false, Err, append_assoc, refl, sym, ap, ◌∙◌, arith}
-use Rattle.std.specs.List.{join_with_byte}
+use Rattle.std.proofs.Common.{◌≡◌, ◌<◌, ℕ, List, [], ◌∷◌, ◌++◌, length, length-append, false, Err, refl, sym, ap, ◌∙◌, arith}
 use Rattle.key_names.specs.Key.{is_key}
 use Rattle.user_data.specs.Pairs.{Path, Pairs, where_key, fault_at, printed_path}
 use Rattle.user_data.specs.declared.user_data_error.UserDataKind.TheVariants.{BadKey}
-
-join_push : (c : ℕ) (first : List ℕ) (names : Path) (n : List ℕ) → join_with_byte c (first ∷ names ++ n ∷ []) ≡ join_with_byte c (first ∷ names) ++ c ∷ n
-join_push c first [] n = refl
-join_push c first (next ∷ names) n =
-    ap (λ (l : List ℕ). first ++ c ∷ l) (join_push c next names n) ∙ sym (append_assoc first (c ∷ join_with_byte c (next ∷ names)) (c ∷ n))
+use Rattle.toml_values.proofs.Joins.{join_push}
 
 below : (path : Path) (name : List ℕ) → 0 < length path → printed_path (path ++ name ∷ []) ≡ printed_path path ++ 47 ∷ name
 below [] name some = absurd (omega arith)

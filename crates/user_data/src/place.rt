@@ -26,7 +26,7 @@ impl Place {
     {
         match Key::of_segment(alloc, b"settings") {
             Ok(key) => {
-                let at = Text::of(String::from_str(alloc, "settings")?);
+                let at = Text::from_str(alloc, "settings")?;
                 Ok(Place { key, at })
             }
             Err(_) => Err(AllocError),

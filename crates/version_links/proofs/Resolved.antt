@@ -1,5 +1,5 @@
 -- Where the links lead, by the links that were read.
-use Rattle.std.proofs.Common.{◌≡◌, ◌≢◌, ℕ, ◌<◌, ◌^◌, List, [], ◌∷◌, ◌++◌, length, codes, Option, Some, None, Result, Err, IsErrOf, refl, sym, ◌∙◌, ap, subst, arith}
+use Rattle.std.proofs.Common.{◌≡◌, ◌≢◌, ℕ, ◌<◌, ◌^◌, List, [], ◌∷◌, ◌++◌, length, codes, Option, Some, None, refl, sym, ◌∙◌, ap, subst, arith}
 use Rattle.outside.specs.Names.{Names}
 use Rattle.std.specs.Prelude.{Vec, option_map}
 use Rattle.std.specs.declared.alloc.Global.{Global}
@@ -82,10 +82,6 @@ bad_current t0 first there other path path_is = where_map (λ h here. (
 -- What was read of `current`.
 pub there_now : (t0 : Option History) (seen : Option (Vec ℕ Global)) (path : Names) (text : Vec ℕ Global) → WhereTold t0 (λ h. option_map (λ v. v.items) seen ≡ link_in (node_at (tree_of h) path)) → seen ≡ Some text → path ≡ store (codes "current") → (first : List ℕ) → first ≡ text.items → WhereTold t0 (λ h. link_at (tree_of h) (codes "current") ≡ Some first)
 there_now t0 seen path text tells some path_is first first_is = where_map (λ h is. ap (λ (p : Names). link_in (node_at (tree_of h) p)) (sym path_is) ∙ sym is ∙ ap (λ (o : Option (Vec ℕ Global)). option_map (λ v. v.items) o) some ∙ ap Some (sym first_is)) tells
-
--- The error that a `?` hands on.
-pub handed_on : {S T E : Type 0} (r : Result T E) (x y z : E) → r ≡ Err x → x ≡ y → r ≡ Err z → IsErrOf {T = S} (Err y) z
-handed_on {S = S} {T = T} {E = E} r x y z is same err = let e : ◌≡◌ {A = Result T E} (Err x) (Err z) = sym is ∙ err in let f : x ≡ z = cc in ap (λ w. let v : Result S E = Err w in v) (sym same ∙ f)
 
 -- A text that was read, as it is passed on.
 pub seen_as : (t : Option History) (name text passed : List ℕ) → passed ≡ text → WhereTold t (λ h. link_at (tree_of h) name ≡ Some text) → WhereTold t (λ h. link_at (tree_of h) name ≡ Some passed)

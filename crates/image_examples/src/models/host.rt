@@ -1,5 +1,5 @@
 //! The model file of a host: what is read of it, and of its first bytes.
-use crate::texts::{same, text};
+use crate::texts::same;
 use key_names::{Key, Text};
 use model_file::{Model, ModelKind};
 use settings_tree::{Content, Os, Scalar};
@@ -45,7 +45,7 @@ affected-services = [\"sysctl\"]
 fn shown(alloc: Global, value: Option<&Scalar>) -> Result<Text, AllocError> {
     match value {
         Some(value) => value.print(alloc),
-        None => text(alloc, "none"),
+        None => Text::from_str(alloc, "none"),
     }
 }
 

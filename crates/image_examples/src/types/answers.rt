@@ -1,5 +1,5 @@
 //! Type tables of their texts, and what they answer.
-use crate::texts::{same, text};
+use crate::texts::same;
 use json_trees::Scalar;
 use key_names::{Key, Text};
 use std::alloc::{AllocError, Global};
@@ -7,7 +7,10 @@ use std::test::Fail;
 use typed_settings::{RowsError, TypeError, Types};
 
 fn pair(alloc: Global, pattern: &str, word: &str) -> Result<(Text, Text), AllocError> {
-    Ok((text(alloc, pattern)?, text(alloc, word)?))
+    Ok((
+        Text::from_str(alloc, pattern)?,
+        Text::from_str(alloc, word)?,
+    ))
 }
 
 // The rows of the text, with commas between them. A row is a pattern, a space and a word.

@@ -5,10 +5,6 @@ use std::process::Abort;
 use std::test::Fail;
 use template_reader::{Node, Span, Templates, piece, read};
 
-fn text(alloc: Global, text: &str) -> Result<Text, AllocError> {
-    Ok(Text::of(String::from_str(alloc, text)?))
-}
-
 fn bytes(alloc: Global, text: &str) -> Result<Bytes, AllocError> {
     Ok(Bytes::of(text.as_bytes().to_vec(alloc)?))
 }
@@ -21,7 +17,7 @@ fn add(
     file: &str,
     source: &str,
 ) -> Result<bool, AllocError> {
-    let file = text(alloc, file)?;
+    let file = Text::from_str(alloc, file)?;
     let source = bytes(alloc, source)?;
     match kept.source(file.as_str().as_bytes()) {
         Some(_) => panic!(rt; "added twice"),

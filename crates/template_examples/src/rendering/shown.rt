@@ -45,14 +45,10 @@ fn values(alloc: Global) -> Result<Content, Fail> {
     Ok(content)
 }
 
-fn text(alloc: Global, text: &str) -> Result<Text, AllocError> {
-    Ok(Text::of(text.to_string(alloc)?))
-}
-
 // The operating system has one name.
 fn os_of(alloc: Global) -> Result<Os, AllocError> {
-    let name = text(alloc, "arch")?;
-    let text = text(alloc, "x86_64")?;
+    let name = Text::from_str(alloc, "arch")?;
+    let text = Text::from_str(alloc, "x86_64")?;
     let mut names = Vec::new(alloc);
     names.push(OsName { name, text })?;
     Ok(Os::of(names))

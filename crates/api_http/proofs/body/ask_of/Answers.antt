@@ -3,12 +3,13 @@ use Rattle.api_http.specs.declared.route.Route.TheVariants.{Patch}
 use Rattle.api_http.specs.Questions.{NamesTx}
 use Rattle.api_http.specs.Plans.{IsPlan}
 use Rattle.api_http.proofs.Bodies.{patch_spelled}
-use Rattle.api_http.proofs.Given.{if_ok, if_some}
+use Rattle.api_http.proofs.Given.{if_some}
 use Rattle.api_http.proofs.body.ask_of.Goals as goal
+use Rattle.std.proofs.lemmas.Result.{IfOk-weaker}
 
 pub returns-in-Patch-clause-some : goal.returns-in-Patch-clause-some
 returns-in-Patch-clause-some c =
-    if_ok c.patch_of.result _ _
+    IfOk-weaker c.patch_of.result _ _
     (λ o some. if_some o _ _
     (λ ask is r pairs plan.
     let p : (r ≡ Patch) × NamesTx pairs c.in-Patch.tx = subst (IsPlan r pairs) c.in-Patch.is plan in

@@ -2,7 +2,7 @@ use Rattle.std.proofs.Common.{List, ℕ, sym, ◌∙◌, subst, ap}
 use Rattle.key_names.specs.Spelling.{SpellsKey}
 use Rattle.serde_json.specs.View.{view}
 use Rattle.held_text.specs.HeldText.{key_data}
-use Rattle.held_text.proofs.HeldBack.{printed_key}
+use Rattle.key_names.proofs.SpelledKeys.{printed_key}
 use Rattle.held_text.proofs.Readings.{texted, err_reads}
 use Rattle.held_text.specs.Refusals.{of_key_fault}
 use Rattle.held_text.proofs.reading.key_of.Goals as goal

@@ -1,6 +1,6 @@
 use Rattle.std.proofs.Common.{◌∙◌}
 use Rattle.std.proofs.lemmas.Result.{on_ok_weaker}
-use Rattle.held_text.proofs.HeldBack.{spelled_key}
+use Rattle.key_names.proofs.SpelledKeys.{spelled_key}
 use Rattle.held_text.proofs.JsonLists.{text_written}
 use Rattle.held_text.proofs.writing.write_key.Goals as goal
 

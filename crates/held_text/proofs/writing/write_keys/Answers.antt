@@ -3,9 +3,11 @@ use Rattle.std.proofs.lemmas.List.{drop_all}
 use Rattle.std.proofs.lemmas.Result.{on_ok_weaker}
 use Rattle.key_names.specs.Key.{is_key}
 use Rattle.held_text.specs.HeldText.{key_data}
-use Rattle.held_text.proofs.HeldWalks.{writing_none, writing_next, writing_all, valid_all, next_item, flat_map-same}
+use Rattle.held_text.proofs.HeldWalks.{writing_none, writing_next, writing_all, valid_all, flat_map-same}
 use Rattle.held_text.proofs.JsonLists.{list_written, one_written}
 use Rattle.held_text.proofs.writing.write_keys.Goals as goal
+use Rattle.json_trees.proofs.Parting.{next_item}
+use Rattle.held_text.proofs.KeysLeft.{all_valid}
 
 pub loop-key-init : goal.loop-key-init
 loop-key-init c = writing_none _ _ _ _ _ _ refl
@@ -28,6 +30,6 @@ returns-clause-valid c =
     (λ _. record {
       rising = c.as_slice-key-items.ensures.rising;
       valid =
-          valid_all (λ e. e ∷ []) key_data (λ key. IsTrue (is_key key)) _ _ _ _ _ c.loop-key.invariant (drop_all _ _ c.loop-key-test.false) (flat_map-same _ ∙ c.as_slice-key-items.ensures.items);
+          all_valid _ (valid_all (λ e. e ∷ []) key_data (λ key. IsTrue (is_key key)) _ _ _ _ _ c.loop-key.invariant (drop_all _ _ c.loop-key-test.false) (flat_map-same _ ∙ c.as_slice-key-items.ensures.items));
     })
     c.end_array.ensures.ok

@@ -8,8 +8,9 @@ use Rattle.metadata_links.specs.Faults.{list_faults, is_among}
 use Rattle.metadata_links.specs.Lists.{lists_of, lists_at}
 use Rattle.metadata_links.proofs.Filtered.{sound}
 use Rattle.metadata_links.proofs.Listings.{keys_fall, lists_next, lists_rise, read_more, sound_more, fault_first}
-use Rattle.metadata_links.proofs.Rests.{taken_all, handed}
+use Rattle.metadata_links.proofs.Rests.{taken_all}
 use Rattle.metadata_links.proofs.affected_lists.lists_in.Goals as goal
+use Rattle.outside.proofs.Results.{handed_on}
 
 pub loop-key-init : goal.loop-key-init
 loop-key-init c =
@@ -45,5 +46,5 @@ returns-clause-sound c = sym c.loop-key.invariant.left
 pub returns-in_err-push_list-clause-err : goal.returns-in_err-push_list-clause-err
 returns-in_err-push_list-clause-err c =
     let next = lists_next c.args.content.now.metadata (option_copied c.loop-key.after) c.in-Some.key.now c.in-Some.ensures.least (option_copied c.meta-value.result) c.meta-value.ensures in
-    handed c.from_residual.result c.in_err-push_list.field-0.0 _ c.from_residual.ensures.1
+    handed_on c.from_residual.result c.in_err-push_list.field-0.0 _ c.from_residual.ensures.1
     (λ other. fault_first (list_faults (is_among (option_copied c.args.services))) (lists_at c.in-Some.key.now (option_copied c.meta-value.result)) _ _ _ c.in_err-push_list.field-0.0 next (c.in_err-push_list.ensures.err other) c.loop-key.invariant.left)

@@ -2,9 +2,10 @@ use Rattle.std.proofs.Common.{arith, ◌∙◌, ap, subst, ◌≡◌, Some}
 use Rattle.std.specs.Prelude.{slice_get}
 use Rattle.release_file.specs.Release.{is_known}
 use Rattle.migrate_chain.specs.Tasks.{names_in_order, task_of, refusals_of, with_more}
-use Rattle.migrate_chain.proofs.Carried.{known_at, carried_more, carried_all, stopped_at, handed_on}
+use Rattle.migrate_chain.proofs.Carried.{known_at, carried_more, carried_all, stopped_at}
 use Rattle.migrate_chain.proofs.MapperCauses.{cause_task}
 use Rattle.migrate_chain.proofs.carrying.carry_out.Goals as goal
+use Rattle.outside.proofs.Results.{handed_on}
 
 pub work_named-work-requires : goal.work_named-work-requires
 work_named-work-requires g c =

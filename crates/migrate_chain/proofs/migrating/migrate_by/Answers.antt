@@ -4,11 +4,11 @@ use Rattle.std.proofs.lemmas.List.{length-map}
 use Rattle.release_file.specs.Release.{names_known}
 use Rattle.release_file.specs.Chain.{HasNoPlan}
 use Rattle.migrate_chain.proofs.Started.{error_is}
-use Rattle.migrate_chain.proofs.Carried.{handed_on}
 use Rattle.migrate_chain.specs.Errors.{of_plan}
 use Rattle.migrate_chain.proofs.MapperCauses.{cause_quiet, cause_done}
 use Rattle.migrate_chain.proofs.Migrated.{not_found, no_way, is_there, migrated, way_known, no_steps, no_way_on, none_mapped, plan_quiet}
 use Rattle.migrate_chain.proofs.migrating.migrate_by.Goals as goal
+use Rattle.outside.proofs.Results.{handed_on}
 
 pub returns-in_err-start-clause-migrates : goal.returns-in_err-start-clause-migrates
 returns-in_err-start-clause-migrates g c =

@@ -4,10 +4,11 @@ use Rattle.migrate_chain.specs.Errors.{of_disk, of_mapper}
 use Rattle.release_file.specs.Release.{names_known}
 use Rattle.migrate_chain.specs.Tasks.{tasks_in}
 use Rattle.migrate_chain.specs.Moving.{IsCarried, IsStopped}
-use Rattle.migrate_chain.proofs.Carried.{carried_none, handed_on, step_known, step_carried, step_stopped, steps_partly, steps_carried}
+use Rattle.migrate_chain.proofs.Carried.{carried_none, step_known, step_carried, step_stopped, steps_partly, steps_carried}
 use Rattle.migrate_chain.proofs.MapperCauses.{cause_mapped, cause_quiet, cause_done, disk_quiet}
 use Rattle.migrate_chain.proofs.Along.{none_saved, saved_then, copies_others, copy_saved}
 use Rattle.migrate_chain.proofs.moving.copy_along.Goals as goal
+use Rattle.outside.proofs.Results.{handed_on}
 
 pub loop-transition-init : goal.loop-transition-init
 loop-transition-init g c = record { carried = carried_none c.args.held _; carries = g.met.M.Mapper.carries_none _; refused = refl; others = none_saved _; disk_faults = refl; mapper_faults = refl }

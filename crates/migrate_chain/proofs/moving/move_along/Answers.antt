@@ -1,10 +1,10 @@
 use Rattle.std.proofs.Common.{inl, inr, refl, ◌∙◌}
 use Rattle.migrate_chain.specs.declared.move_error.MoveError.TheVariants.{Failed, Memory}
 use Rattle.migrate_chain.proofs.Started.{error_is}
-use Rattle.migrate_chain.proofs.Carried.{handed_on}
 use Rattle.migrate_chain.proofs.MapperCauses.{cause_handed, cause_other, cause_ok, cause_passed}
 use Rattle.migrate_chain.proofs.Along.{along_unmoved, along_failed, along_moved}
 use Rattle.migrate_chain.proofs.moving.move_along.Goals as goal
+use Rattle.outside.proofs.Results.{handed_on}
 
 pub returns-in_err-names-clause-moves : goal.returns-in_err-names-clause-moves
 returns-in_err-names-clause-moves g c =

@@ -1,5 +1,6 @@
 use Rattle.std.proofs.Common.{[], ◌∷◌, sym, ◌∙◌, arith}
-use Rattle.model_file.proofs.LongerPaths.{ends, ends_at_once}
+use Rattle.json_trees.proofs.LongerKeys.{ends}
+use Rattle.model_file.proofs.LongerPaths.{ends_at_once}
 use Rattle.model_file.proofs.key_path.key_of.Goals as goal
 
 pub returns-in-None : goal.returns-in-None

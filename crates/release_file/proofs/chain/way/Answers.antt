@@ -1,6 +1,7 @@
 use Rattle.std.proofs.Common.{sym, ◌∙◌, ap, Err}
-use Rattle.release_file.proofs.Farthest.{way_back, way_on, no_way_back, no_way_on, handed, if_ok_map}
+use Rattle.release_file.proofs.Farthest.{way_back, way_on, no_way_back, no_way_on, handed}
 use Rattle.release_file.proofs.chain.way.Goals as goal
+use Rattle.std.proofs.lemmas.Result.{IfOk-weaker}
 
 pub returns-in_err-chain-clause-missing : goal.returns-in_err-chain-clause-missing
 returns-in_err-chain-clause-missing c =
@@ -12,7 +13,7 @@ returns-in_ok-chain-clause-ok c =
 
 pub returns-else-is_before-clause-ok : goal.returns-else-is_before-clause-ok
 returns-else-is_before-clause-ok c =
-    if_ok_map c.chain_of-else-is_before.result (λ way is. way_on c.args.all.now c.args.from.now c.args.to.now _ (sym c.if-is_before.false ∙ c.is_before.ensures) is) c.chain_of-else-is_before.ensures.ok
+    IfOk-weaker c.chain_of-else-is_before.result _ _ (λ way is. way_on c.args.all.now c.args.from.now c.args.to.now _ (sym c.if-is_before.false ∙ c.is_before.ensures) is) c.chain_of-else-is_before.ensures.ok
 
 pub returns-else-is_before-clause-missing : goal.returns-else-is_before-clause-missing
 returns-else-is_before-clause-missing c =

@@ -1,4 +1,4 @@
-use Rattle.release_file.proofs.SectionNames.{none_equal}
+use Rattle.key_names.proofs.Ties.{none_equal}
 use Rattle.release_file.proofs.document.is_section.Goals as goal
 
 pub returns-in_default : goal.returns-in_default

@@ -5,8 +5,9 @@ use Rattle.outside.specs.Told.{WhereTold}
 use Rattle.settings_tree.specs.declared.held.Held.{Held}
 use Rattle.store_open.specs.Phases.{AtFault}
 use Rattle.store_open.specs.declared.open_error.OpenError.{OpenError}
-use Rattle.store_open.proofs.ReadStores.{at_load, at_format, if_err}
+use Rattle.store_open.proofs.ReadStores.{at_load, at_format}
 use Rattle.store_open.proofs.reading.load_current.Goals as goal
+use Rattle.std.proofs.lemmas.Result.{IfErr-weaker}
 
 pub returns-in_err-loaded-clause-refused : goal.returns-in_err-loaded-clause-refused
 returns-in_err-loaded-clause-refused g c =
@@ -18,5 +19,5 @@ returns-in_err-loaded-clause-refused g c =
 pub returns-clause-refused : goal.returns-clause-refused
 returns-clause-refused g c =
     let a = g.D.Disk.told c.args.disk.now in
-    if_err c.current.result _ (λ e. WhereTold a (AtFault c.args.dir.now e))
+    IfErr-weaker c.current.result _ (λ e. WhereTold a (AtFault c.args.dir.now e))
     (λ e is. at_format c.args.dir.now a c.in_ok-loaded.loaded.held c.in_ok-loaded.loaded.format e c.in_ok-loaded.ensures.ok is) c.current.ensures.refused

@@ -1,5 +1,5 @@
 use Rattle.std.proofs.Common.{sym}
-use Rattle.user_data.proofs.Documents.{none_equal}
+use Rattle.key_names.proofs.Ties.{none_equal}
 use Rattle.user_data.proofs.document.is_settings.Goals as goal
 
 pub returns-in_default : goal.returns-in_default

@@ -1,10 +1,10 @@
 use Rattle.std.proofs.Common.{refl, ap, map}
-use Rattle.migrate_chain.proofs.Carried.{handed_on}
 use Rattle.migrate_chain.specs.Tasks.{task_of}
 use Rattle.migrate_chain.specs.declared.mapper_error.MapperError.TheVariants.{Memory}
 use Rattle.migrate_programs.specs.Kept.{mapped_of, refused_of}
 use Rattle.migrate_programs.proofs.Noted.{carried_one, stopped_at, stopped_unnoted, cause_unnoted}
 use Rattle.migrate_programs.proofs.programs.ProgramsMapper.map.Goals as goal
+use Rattle.outside.proofs.Results.{handed_on}
 
 pub returns-in_err-note_made-in-Ok-clause-stops : goal.returns-in_err-note_made-in-Ok-clause-stops
 returns-in_err-note_made-in-Ok-clause-stops g c =
