@@ -1,6 +1,7 @@
 //! Each shape of body, and each refusal.
-use crate::texts::{key, said, same, tx, whole};
+use crate::texts::{said, same, tx, whole};
 use api_http::Answer;
+use example_texts::key;
 use json_trees::{flatten, flatten_patch};
 use key_names::{Key, Text};
 use machine_answers::{JobShown, MachineReply, job_text};

@@ -8,7 +8,8 @@ ghost use Rattle.settings_tree.specs.Content.{settings_key};
 ghost use Rattle.typed_settings.specs.Order.{IsTable};
 
 use crate::host::{image, ready, turns};
-use crate::texts::{key, said, same, tx};
+use crate::texts::{said, same, tx};
+use example_texts::key;
 use json_trees::flatten_patch;
 use key_names::Key;
 use machine_answers::{JobShown, MachineReply, job_text};

@@ -2,16 +2,10 @@
 ghost use Rattle.machine_answers.specs.Replies.{MayNest};
 
 use api_http::{Answer, print_reply};
-use key_names::Key;
 use machine_answers::MachineReply;
 use settings_tree::TxName;
 use std::alloc::{AllocError, Global};
 use std::test::Fail;
-
-/// The key that the text is.
-pub fn key(alloc: Global, text: &str) -> Result<Key, Fail> {
-    Ok(Key::read(alloc, text.as_bytes())?)
-}
 
 /// The name of a transaction.
 pub fn tx(alloc: Global, name: &str) -> Result<TxName, Fail> {

@@ -2,9 +2,10 @@
 ghost use Rattle.std.specs.Prelude.{All};
 ghost use Rattle.affected_apply.specs.Sees.{HasRow};
 
-use crate::shown::{files_of, machine_files, machine_runs, machine_stands, runs_of, same, stands};
+use crate::shown::{files_of, machine_files, machine_runs, machine_stands, runs_of, stands};
 use affected_apply::{Cause, Job, Turn, View};
 use disk_memory::{MemoryDisk, MemorySpawner, Node};
+use example_texts::same;
 use key_names::{Bytes, Text};
 use plain_machine::{PlainImage, PlainMachine, TurnAnswer};
 use settings_machine::Job as MachineJob;

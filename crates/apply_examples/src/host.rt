@@ -1,5 +1,6 @@
 //! A small host: three services with a file each, and four commands.
 use disk_memory::MemoryDisk;
+use example_texts::put;
 use key_names::Bytes;
 use outside::{Disk, Path};
 use plain_machine::{PlainImage, PlainMachine};
@@ -57,12 +58,6 @@ const FILES: &[(&str, &str)] = &[
     ("etc/motd", "old"),
     ("etc/sysctl", "old"),
 ];
-
-fn put(alloc: Global, disk: &mut MemoryDisk, path: &str, bytes: &str) -> Result<(), Fail> {
-    let path = Path::read(alloc, path.as_bytes())?;
-    disk.replace(&path, bytes.as_bytes())?;
-    Ok(())
-}
 
 /// The disk of the host, synced.
 pub fn disk_of(alloc: Global) -> Result<MemoryDisk, Fail> {

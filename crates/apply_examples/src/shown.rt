@@ -9,14 +9,6 @@ use settings_machine::Job;
 use std::alloc::{AllocError, Global};
 use std::test::Fail;
 
-/// The text is the wanted one.
-pub fn same(shown: &str, wanted: &str, at: &str) -> Result<(), Fail> {
-    if shown == wanted {
-        return Ok(());
-    }
-    Err(Fail::new(format_args!("{shown}, not {wanted}, at {at}")))
-}
-
 /// How the job stands after the turn.
 pub fn stands(alloc: Global, turn: &Turn) -> Result<String, AllocError> {
     match turn {

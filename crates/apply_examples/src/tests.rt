@@ -1,8 +1,9 @@
 //! A job of all that fails at each call of the disk and of the spawner, and is stopped after each.
 use crate::driving::drive;
 use crate::host::{disk_of, image_of, machine_of};
-use crate::shown::{files_of, same};
+use crate::shown::files_of;
 use disk_memory::{Bytes, MemoryDisk, MemorySpawner, Pick};
+use example_texts::same;
 use plain_machine::PlainImage;
 use std::alloc::{AllocError, Global};
 use std::test::Fail;

@@ -3,8 +3,8 @@ ghost use Rattle.api_core.specs.Cores.{IsSound};
 
 use crate::host::{Host, put};
 use crate::steps::{begin, crash, crashed, fail_behind, file, ready, step, stop_behind};
-use crate::texts::same;
 use disk_memory::MemoryDisk;
+use example_texts::same;
 use std::alloc::Global;
 use std::test::Fail;
 

@@ -4,7 +4,8 @@ ghost use Rattle.api_core.specs.Cores.{IsSound};
 
 use crate::host::{Host, begun, open};
 use crate::texts::{ask_of, held_line, reply_line};
-use disk_memory::{Bytes, MemoryDisk, Node, Pick};
+use disk_memory::{MemoryDisk, Node};
+use example_texts::repeated;
 use outside::Path;
 use std::alloc::{AllocError, Global};
 use std::test::Fail;
@@ -68,22 +69,10 @@ pub fn stop_behind(disk: &mut MemoryDisk, made: u64) {
     disk.stop_after(calls);
 }
 
-fn pick(alloc: Global, kind: &str) -> Result<Pick, AllocError> {
-    Ok(match kind {
-        "old" => Pick::Old,
-        "torn" => Pick::Torn(Bytes::of(b"xx".to_vec(alloc)?)),
-        _ => Pick::New,
-    })
-}
-
 /// What a crash of this kind leaves of the disk.
 pub fn crashed(alloc: Global, disk: &MemoryDisk, kind: &str) -> Result<MemoryDisk, AllocError> {
-    let mut picks = Vec::new(alloc);
     // more than any change touches
-    for _ in 0..20 {
-        picks.push(pick(alloc, kind)?)?;
-    }
-    disk.crash(&picks)
+    disk.crash(&repeated(alloc, kind, 20)?)
 }
 
 // The host begins anew on the disk, whose store is opened.

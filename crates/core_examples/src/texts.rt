@@ -46,11 +46,3 @@ pub fn job_line(alloc: Global, shown: JobShown<'_>, owed: &Owed) -> Result<Strin
 pub fn held_line(alloc: Global, held: &Held) -> Result<String, AllocError> {
     String::from_str(alloc, held.print()?.as_str())
 }
-
-/// The text is the wanted one.
-pub fn same(shown: &str, wanted: &str, at: &str) -> Result<(), Fail> {
-    if shown == wanted {
-        return Ok(());
-    }
-    Err(Fail::new(format_args!("{shown}, not {wanted}, at {at}")))
-}

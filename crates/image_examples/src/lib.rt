@@ -6,6 +6,4 @@ mod links;
 #[cfg(test)]
 mod models;
 #[cfg(test)]
-mod texts;
-#[cfg(test)]
 mod types;

@@ -2,7 +2,7 @@
 mod refusals;
 mod shown;
 
-use key_names::{Key, Text};
+use key_names::Text;
 use model_file::Model;
 use settings_tree::Content;
 use std::alloc::{AllocError, Global};
@@ -11,10 +11,6 @@ use std::test::Fail;
 // The content that the model file says.
 fn content(alloc: Global, text: &str) -> Result<Content, Fail> {
     Ok(Model::read(alloc, text.as_bytes())?.content)
-}
-
-fn key(alloc: Global, text: &str) -> Result<Key, Fail> {
-    Ok(Key::read(alloc, text.as_bytes())?)
 }
 
 // The names, each followed by a space.

@@ -3,8 +3,9 @@ ghost use Rattle.std.specs.Prelude.{◌≡◌, length, IfOk, IsTrue};
 ghost use Rattle.std.specs.List.{list_all};
 ghost use Rattle.commit_journal.specs.Entries.{has_first_name, are_rising};
 
+use crate::files::{data_dir, is_file};
 use commit_journal::{Batch, BatchError, JournalError, recover};
-use disk_memory::{MemoryDisk, Node};
+use disk_memory::MemoryDisk;
 use key_names::Bytes;
 use outside::{Disk, Path, PathError};
 use std::alloc::{AllocError, Global};
@@ -22,12 +23,6 @@ remove pending/default/settings/motd
 const WEAK: &str = r#"set weak 29
 ["settings.ntp.time-servers"]
 "#;
-
-fn data_dir(alloc: Global) -> Result<Path, PathError>
-    ensures { IfOk result (λ dir. length dir ≡ 2) }
-{
-    Path::root(alloc).child(b"data")?.child(b"7")
-}
 
 fn bytes(alloc: Global, text: &[u8]) -> Result<Option<Bytes>, AllocError> {
     Ok(Some(Bytes::of(text.to_vec(alloc)?)))
@@ -117,13 +112,6 @@ fn answer(alloc: Global, disk: &mut MemoryDisk) -> Result<&'static str, Fail> {
         Err(JournalError::Memory) => "memory",
         Err(_) => "failed",
     })
-}
-
-fn is_file(disk: &MemoryDisk, path: &Path, bytes: &[u8]) -> bool {
-    match disk.node(path) {
-        Some(Node::File(found)) => found.as_slice() == bytes,
-        _ => false,
-    }
 }
 
 // Whether a recovery answers so of the journal, leaves it exactly where it is refused, and so many files.

@@ -3,8 +3,10 @@ ghost use Rattle.std.specs.Prelude.{◌≡◌, length, IfOk, IsTrue};
 ghost use Rattle.std.specs.List.{list_all};
 ghost use Rattle.commit_journal.specs.Entries.{has_first_name, are_rising};
 
+use crate::files::{data_dir, is_file};
 use commit_journal::{Batch, change, recover};
-use disk_memory::{MemoryDisk, Node, Pick};
+use disk_memory::{MemoryDisk, Node};
+use example_texts::picks;
 use key_names::Bytes;
 use outside::{Path, PathError};
 use std::alloc::{AllocError, Global};
@@ -13,12 +15,6 @@ use std::test::Fail;
 // What a crash leaves of the paths that are not on the disk, the first path first: what was there (`o`), what is there
 // now (`n`), torn bytes (`t`) or nothing (`g`).
 const PICKS: &[&str] = &["oooo", "nnnn", "tttt", "gggg", "nogt"];
-
-fn data_dir(alloc: Global) -> Result<Path, PathError>
-    ensures { IfOk result (λ dir. length dir ≡ 2) }
-{
-    Path::root(alloc).child(b"data")?.child(b"7")
-}
 
 fn entries(alloc: Global) -> Result<Vec<(Path, Option<Bytes>)>, Fail>
     ensures named { IfOk result (λ entries. IsTrue (list_all (λ e. has_first_name e.0) entries.items)) }
@@ -48,23 +44,6 @@ fn disk_before(alloc: Global) -> Result<MemoryDisk, Fail> {
     Ok(MemoryDisk::of_tree(alloc, nodes)?)
 }
 
-fn pick(alloc: Global, kind: u8) -> Result<Pick, AllocError> {
-    Ok(match kind {
-        b'o' => Pick::Old,
-        b'n' => Pick::New,
-        b't' => Pick::Torn(disk_memory::Bytes::of(b"torn".to_vec(alloc)?)),
-        _ => Pick::Gone,
-    })
-}
-
-fn picks(alloc: Global, kinds: &str) -> Result<Vec<Pick>, AllocError> {
-    let mut picks = Vec::new(alloc);
-    for kind in kinds.as_bytes() {
-        picks.push(pick(alloc, *kind)?)?;
-    }
-    Ok(picks)
-}
-
 // The files before the change, and after it.
 const FILES: &[(&str, Option<&str>, Option<&str>)] = &[
     ("image", Some("old"), Some("new")),
@@ -72,13 +51,6 @@ const FILES: &[(&str, Option<&str>, Option<&str>)] = &[
     ("owed", Some("old"), None),
     ("weak", None, Some("new")),
 ];
-
-fn is_file(disk: &MemoryDisk, path: &Path, bytes: &[u8]) -> bool {
-    match disk.node(path) {
-        Some(Node::File(found)) => found.as_slice() == bytes,
-        _ => false,
-    }
-}
 
 fn holds(disk: &MemoryDisk, path: &Path, text: Option<&str>) -> bool {
     match text {

@@ -1,5 +1,5 @@
 //! Keys of their texts, their children, and how keys stand to one another.
-use crate::texts::{answers, key, same};
+use example_texts::{answers, key, same};
 use key_names::{Key, KeyError, Text};
 use std::alloc::{AllocError, Global};
 use std::test::Fail;

@@ -8,5 +8,3 @@ mod files;
 mod keys;
 #[cfg(test)]
 mod lists;
-#[cfg(test)]
-mod texts;

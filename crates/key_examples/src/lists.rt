@@ -1,19 +1,9 @@
 //! Lists of keys, read.
 use crate::keys::fault;
-use crate::texts::same;
-use key_names::{Key, Text, read_list};
+use example_texts::{listed, same};
+use key_names::{Text, read_list};
 use std::alloc::{AllocError, Global};
 use std::test::Fail;
-
-// The keys with a comma behind each.
-fn listed(alloc: Global, keys: &[Key]) -> Result<Text, AllocError> {
-    let mut text = String::new(alloc);
-    for key in keys {
-        text.push_str(key.print()?.as_str())?;
-        text.push(',')?;
-    }
-    Ok(Text::of(text))
-}
 
 // The keys that the text lists, or why it lists none.
 fn shown(alloc: Global, text: &str) -> Result<Text, AllocError> {

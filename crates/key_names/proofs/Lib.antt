@@ -1,5 +1,6 @@
 pub mod Ties
 pub mod Digits
+pub mod Ascii
 pub mod FileNames
 pub mod Printed
 pub mod Runs

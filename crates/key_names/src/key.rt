@@ -18,12 +18,14 @@ use crate::{KeyError, Text};
 use std::alloc::{AllocError, Global};
 use std::cmp::Ordering;
 use std::marker::Model;
+use std::rc::Rc;
 
 /// A key: 1 to 32 segments, each with a file name of at most 127 bytes, whose printed text has at
-/// most 1,024 bytes. Keys are ordered as lists of segments; to compare two takes no memory.
+/// most 1,024 bytes. Keys are ordered as lists of segments; to compare two takes no memory. A key and
+/// its copies share their segments.
 #[derive(Debug, Drop)]
 pub struct Key {
-    segments: Vec<Segment>,
+    segments: Rc<Vec<Segment>>,
 }
 
 impl Model for Key {
@@ -32,9 +34,9 @@ impl Model for Key {
 
     ghost Value = { List (List ℕ) };
 
-    ghost view = { λ k. k.segments.items };
+    ghost view = { λ k. k.segments.value.items };
 
-    ghost invariant = { λ k. IsTrue (is_key k.segments.items) };
+    ghost invariant = { λ k. IsTrue (is_key k.segments.value.items) };
 }
 
 fn copy_segments(alloc: Global, segments: &[Segment]) -> Result<Vec<Segment>, AllocError>
@@ -62,6 +64,24 @@ fn with_segment(
 }
 
 impl Key {
+    // The key of these segments, which keeps no room for more.
+    fn of_segments(segments: Vec<Segment>) -> Result<Key, AllocError>
+        requires { IsTrue (is_key segments.items) }
+        ensures { IfOk result (λ key. key ≡ segments.items) }
+    {
+        let mut segments = segments;
+        segments.shrink_to_fit();
+        let segments = Rc::new(*segments.allocator(), segments)?;
+        Ok(Key { segments })
+    }
+
+    fn segments(&self) -> &[Segment]
+        ensures items { result.now ≡ self.now }
+        ensures valid { IsTrue (is_key self.now) }
+    {
+        self.segments.as_slice()
+    }
+
     // The key that the text spells, or the first fault.
     fn of_text(alloc: Global, text: &[u8]) -> Result<Key, KeyError>
         ensures ok { IfOk result (SpellsKey text.now) }
@@ -71,9 +91,7 @@ impl Key {
         let spelled = spelled_by(alloc, text)?;
         match spelled.limit_fault(text) {
             Some(fault) => Err(fault),
-            None => Ok(Key {
-                segments: spelled.segments,
-            }),
+            None => Ok(Key::of_segments(spelled.segments)?),
         }
     }
 
@@ -113,8 +131,8 @@ impl Key {
         if let Some(fault) = child_fault(segments, segment) {
             return Err(fault);
         }
-        let segments = with_segment(segments, alloc, segment)?;
-        Ok(Key { segments })
+        let longer = with_segment(segments, alloc, segment)?;
+        Ok(Key::of_segments(longer)?)
     }
 
     /// The key of one segment. Refused are, in this order: an empty segment (`Empty`); one with a byte
@@ -144,7 +162,7 @@ impl Key {
         ensures exact { (kind : KeyFault) (place : ℕ) → RefusesChild self.now segment.now kind place
             → result ≡ Err (record { kind = kind; place = place }) }
     {
-        Key::extended(*self.segments.allocator(), &self.segments, segment)
+        Key::extended(*self.segments.allocator(), self.segments(), segment)
     }
 
     /// The printed text: the segments joined by dots, in quotes those that hold another byte than bare
@@ -153,7 +171,7 @@ impl Key {
         ensures value { IfOk result (λ text. text ≡ printed self.now) }
         ensures reads_back { IfOk result (λ text. SpellsKey text self.now) }
     {
-        let text = printed(*self.segments.allocator(), &self.segments)?;
+        let text = printed(*self.segments.allocator(), self.segments())?;
         Ok(Text::of(text))
     }
 
@@ -171,7 +189,7 @@ impl Key {
         ensures bytes { result.now ≡ slice_index_or self.now index [] }
         ensures valid { IsTrue (is_segment result.now) }
     {
-        self.segments[index].as_slice()
+        self.segments()[index].as_slice()
     }
 
     /// Whether the other key begins with this one's segments, as each key does with its own. It
@@ -179,7 +197,7 @@ impl Key {
     pub fn is_prefix(&self, other: &Key) -> bool
         ensures { result ≡ is_prefix self.now other.now }
     {
-        other.segments.starts_with(&self.segments)
+        other.segments().starts_with(self.segments())
     }
 
     /// Whether one of the two keys is a prefix of the other. It takes no memory.
@@ -189,11 +207,12 @@ impl Key {
         self.is_prefix(other) || other.is_prefix(self)
     }
 
-    /// A copy with the same segments. The only error is want of memory.
+    /// A copy that shares the segments: it costs one step and no memory. The only error is want of
+    /// memory, answered where as many copies as can be counted stand.
     pub fn copy(&self) -> Result<Key, AllocError>
         ensures { IfOk result (λ key. key ≡ self.now) }
     {
-        let segments = copy_segments(*self.segments.allocator(), &self.segments)?;
+        let segments = self.segments.clone()?;
         Ok(Key { segments })
     }
 }
@@ -247,6 +266,6 @@ impl Ord for Key {
     ghost matches_eq = { Prim.search (comparing, rules) };
 
     fn cmp(&self, other: &Key) -> Ordering {
-        self.segments.cmp(&other.segments)
+        self.segments().cmp(other.segments())
     }
 }

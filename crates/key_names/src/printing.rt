@@ -2,7 +2,7 @@
 ghost use Rattle.std.specs.Prelude.{◌≡◌, ◌≤◌, ◌<◌, ◌+◌, ◌*◌, ◌++◌, ◌∷◌, IfOk, OnOk, IsTrue, length, string_bytes};
 ghost use Rattle.std.specs.List.{list_all, flat_map, sum_by};
 ghost use Rattle.key_names.specs.Segment.{is_quotable, printed_segment, has_short_name};
-ghost use Rattle.key_names.specs.Key.{printed};
+ghost use Rattle.key_names.specs.Key.{fits, printed};
 
 use crate::characters::are_bare;
 use crate::segment::Segment;
@@ -12,10 +12,9 @@ fn push_bytes(text: &mut String, bytes: &[u8]) -> Result<(), AllocError>
     requires { IsTrue (list_all is_quotable bytes.now) }
     ensures { OnOk result (string_bytes text.new ≡ string_bytes text.old ++ bytes.now) }
 {
-    for b in bytes {
-        text.push(char::from(*b))?;
-    }
-    Ok(())
+    // they are ASCII, so they are text
+    let bytes = std::str::from_utf8(bytes).unwrap();
+    text.push_str(bytes)
 }
 
 fn push_segment(text: &mut String, segment: &Segment) -> Result<(), AllocError>
@@ -44,9 +43,10 @@ fn push_others(text: &mut String, segments: &[Segment]) -> Result<(), AllocError
 
 /// The printed segments, joined by dots. The only error is want of memory.
 pub fn printed(alloc: Global, segments: &[Segment]) -> Result<String, AllocError>
+    requires { IsTrue (fits segments.now) }
     ensures { IfOk result (λ text. string_bytes text ≡ printed segments.now) }
 {
-    let mut text = String::new(alloc);
+    let mut text = String::with_capacity(alloc, dotted_len(segments))?;
     let Some((first, others)) = segments.split_first() else {
         return Ok(text);
     };

@@ -2,7 +2,7 @@
 use crate::host::ready;
 use crate::image::image;
 use crate::steps::make;
-use crate::texts::same;
+use example_texts::same;
 use std::alloc::Global;
 use std::test::Fail;
 

@@ -9,6 +9,4 @@ mod scalars;
 #[cfg(test)]
 mod sets;
 #[cfg(test)]
-mod texts;
-#[cfg(test)]
 mod trees;

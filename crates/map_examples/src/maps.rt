@@ -1,5 +1,5 @@
 //! Names of transactions and of metadata, and the maps by key.
-use crate::texts::key;
+use example_texts::key;
 use json_trees::{Pending, Scalar};
 use key_names::{Key, Text};
 use settings_maps::{KeyMap, Metadata, Transactions, TxName, is_meta_name};

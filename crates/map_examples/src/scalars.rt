@@ -1,5 +1,5 @@
 //! Scalars of their JSON texts.
-use crate::texts::{answers, same};
+use example_texts::{answers, same};
 use json_trees::{Item, Items, Pending, Scalar};
 use key_names::Text;
 use std::alloc::{AllocError, Global};

@@ -1,19 +1,9 @@
 //! Rising lists of keys, as sets.
-use crate::texts::{answers, key, same};
+use example_texts::{answers, key, listed, same};
 use key_names::{Key, Text, read_list};
 use settings_maps::KeyList;
-use std::alloc::{AllocError, Global};
+use std::alloc::Global;
 use std::test::Fail;
-
-// The keys with a comma behind each.
-fn listed(alloc: Global, keys: &[Key]) -> Result<Text, AllocError> {
-    let mut text = String::new(alloc);
-    for key in keys {
-        text.push_str(key.print()?.as_str())?;
-        text.push(',')?;
-    }
-    Ok(Text::of(text))
-}
 
 // The set of the keys that a text lists, none where they do not rise.
 fn set(alloc: Global, text: &str) -> Result<KeyList, Fail> {

@@ -1,5 +1,5 @@
 //! JSON trees as pairs of keys and scalars, and back.
-use crate::texts::{answers, key};
+use example_texts::{answers, key};
 use json_trees::{Scalar, TreeError, flatten, flatten_patch, nest, nest_pending};
 use key_names::{Key, Text};
 use std::alloc::{AllocError, Global};

@@ -74,5 +74,3 @@ flat_first f x xs e first = first_left (f x) (flat_map f xs) e first
 
 pub flat_rest : {X E : Type 0} (f : X → List E) (x : X) (xs : List X) → f x ≡ [] → flat_map f (x ∷ xs) ≡ flat_map f xs
 flat_rest f x xs none = ap (λ l. l ++ flat_map f xs) none
-
--- ---- errors that are handed on

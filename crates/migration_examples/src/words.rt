@@ -1,13 +1,10 @@
 //! Migrations of their words: keys, names and texts.
+use example_texts::key;
 use json_trees::Scalar;
 use key_names::{Key, Text, read_list};
 use migrate_helpers::Migration;
 use std::alloc::{AllocError, Global};
 use std::test::Fail;
-
-fn key(alloc: Global, text: &str) -> Result<Key, Fail> {
-    Ok(Key::read(alloc, text.as_bytes())?)
-}
 
 /// The keys that the text lists.
 pub fn keys(alloc: Global, text: &str) -> Result<Vec<Key>, Fail> {

@@ -1,5 +1,5 @@
 //! The devices of the real system, as thin adapters: files below a folder, child programs, a Unix socket and its
-//! clients, and standard output.
+//! clients, standard output, and the words of a call.
 //!
 //! They are the trusted edge. Each is proved against its trait, which it meets by its count of faults, raised at each
 //! error; it tells nothing of content. That the system does what the traits say is shown by tests alone.
@@ -17,6 +17,7 @@ mod sink;
 mod spawner;
 mod unsynced;
 mod walk;
+mod words;
 mod work;
 
 pub use disk::RealDisk;
@@ -24,4 +25,5 @@ pub use door::RealDoor;
 pub use link::RealLink;
 pub use sink::RealSink;
 pub use spawner::RealSpawner;
+pub use words::words_of;
 pub use work::Lock;

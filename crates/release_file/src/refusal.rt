@@ -41,8 +41,8 @@ impl<T: Drop> From<AllocFailed<T>> for Refusal {
 pub fn refused(alloc: Global, kind: ReleaseKind, at: &str) -> Refusal
     ensures { IsAt kind at.now result }
 {
-    match String::from_str(alloc, at) {
-        Ok(at) => Refusal::Fault(kind, Text::of(at)),
+    match Text::from_str(alloc, at) {
+        Ok(at) => Refusal::Fault(kind, at),
         Err(AllocError) => Refusal::Memory,
     }
 }

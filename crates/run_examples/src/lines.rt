@@ -1,6 +1,7 @@
 //! What the tests of all commands share: the words of a line, comparisons, and files.
 use disk_memory::{MemoryDisk, Node};
-use outside::{Disk, Path};
+use example_texts::same;
+use outside::Path;
 use std::alloc::{AllocError, Global};
 use std::test::Fail;
 
@@ -15,14 +16,6 @@ pub fn words_of(alloc: Global, line: &str) -> Result<Vec<String>, AllocError> {
     Ok(words)
 }
 
-/// The text is the wanted one.
-pub fn same(shown: &str, wanted: &str, at: &str) -> Result<(), Fail> {
-    if shown == wanted {
-        return Ok(());
-    }
-    Err(Fail::new(format_args!("{shown}, not {wanted}, at {at}")))
-}
-
 /// The file at the path holds these bytes.
 pub fn holds(alloc: Global, disk: &MemoryDisk, path: &str, bytes: &str) -> Result<(), Fail> {
     match disk.node(&Path::read(alloc, path.as_bytes())?) {
@@ -32,11 +25,4 @@ pub fn holds(alloc: Global, disk: &MemoryDisk, path: &str, bytes: &str) -> Resul
         }
         _ => same("no file", bytes, path),
     }
-}
-
-/// Puts a file at the path.
-pub fn put(alloc: Global, disk: &mut MemoryDisk, path: &str, bytes: &str) -> Result<(), Fail> {
-    let path = Path::read(alloc, path.as_bytes())?;
-    disk.replace(&path, bytes.as_bytes())?;
-    Ok(())
 }

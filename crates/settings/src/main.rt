@@ -4,12 +4,10 @@
 mod usage;
 
 use crate::usage::PAGE;
-use outside_real::{RealDisk, RealDoor, RealSink, RealSpawner};
+use outside_real::{RealDisk, RealDoor, RealSink, RealSpawner, words_of};
 use settings_run::run;
-use std::env;
-use std::io::{self, ErrorKind, Write};
+use std::io::{self, Write};
 use std::process::ExitCode;
-use std::rt::Env;
 
 /// The status of a program that could not make its devices for want of memory, as that of a command.
 const OUT_OF_MEMORY: u8 = 1;
@@ -52,13 +50,4 @@ fn status_of(rt: &HostRuntime) -> io::Result<u8> {
         let _ = eprint!(rt; "{PAGE}");
     }
     Ok(status)
-}
-
-/// The words after the program's name. Words that aren't UTF-8 name no command, as no words do.
-fn words_of(rt: &(impl Env + AllocGlobal)) -> io::Result<Vec<String>> {
-    match env::args(rt) {
-        Ok(words) => Ok(words.skip(1).collect(rt.alloc())?),
-        Err(e) if e.kind() == ErrorKind::InvalidData => Ok(Vec::new(rt.alloc())),
-        Err(e) => Err(e),
-    }
 }

@@ -1,5 +1,6 @@
 //! Contents: what stands where, and what may be put there.
-use crate::texts::{answers, held, key, keys, push_scalar, same};
+use crate::texts::{answers, held, keys, push_scalar};
+use example_texts::{key, same};
 use key_names::{Key, Text};
 use settings_maps::is_meta_name;
 use settings_tree::{Content, Scalar, is_setting};

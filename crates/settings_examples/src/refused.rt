@@ -1,5 +1,6 @@
 //! Texts that are no held texts. None is told as want of memory.
-use crate::texts::{held_text, same};
+use crate::texts::held_text;
+use example_texts::same;
 use held_text::{HeldError, HeldText};
 use settings_tree::Held;
 use std::alloc::Global;

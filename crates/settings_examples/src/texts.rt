@@ -1,22 +1,10 @@
 //! Held texts of their members, and texts compared.
+use example_texts::same;
 use held_text::HeldText;
 use key_names::Key;
 use settings_tree::{Held, Scalar};
 use std::alloc::{AllocError, Global};
 use std::test::Fail;
-
-/// The key that the text is.
-pub fn key(alloc: Global, text: &str) -> Result<Key, Fail> {
-    Ok(Key::read(alloc, text.as_bytes())?)
-}
-
-/// The text is the wanted one.
-pub fn same(shown: &str, wanted: &str, at: &str) -> Result<(), Fail> {
-    if shown == wanted {
-        return Ok(());
-    }
-    Err(Fail::new(format_args!("{shown}, not {wanted}, at {at}")))
-}
 
 /// What was answered is the wanted text.
 pub fn answers(shown: Result<String, Fail>, wanted: &str, at: &str) -> Result<(), Fail> {

@@ -1,5 +1,6 @@
 //! Transactions: the entries of what a call changes, in the order live, pending, owed and weak.
-use crate::texts::{answers, held, key, push_key, push_keys, push_pair, push_scalar, same};
+use crate::texts::{answers, held, push_key, push_keys, push_pair, push_scalar};
+use example_texts::{key, same};
 use key_names::Key;
 use pending_tx::{Commit, CommitError, Dropped, commit, drop_tx, list, patch, pending};
 use settings_tree::{Change, Entry, Held, Owed, Pending, Scalar, TxName};

@@ -3,11 +3,9 @@
 #![tactic(auto)]
 
 use host_client::run_client;
-use outside_real::{RealLink, RealSink};
-use std::env;
-use std::io::{self, ErrorKind, Write};
+use outside_real::{RealLink, RealSink, words_of};
+use std::io::{self, Write};
 use std::process::ExitCode;
-use std::rt::Env;
 
 /// The status of a program that could not make its devices for want of memory, as that of a run.
 const OUT_OF_MEMORY: u8 = 1;
@@ -34,13 +32,4 @@ fn status_of(rt: &HostRuntime) -> io::Result<u8> {
     let words = words_of(rt)?;
     let mut link = RealLink::new(rt.clone()?, ".")?;
     Ok(run_client(rt.alloc(), &words, &mut link, &mut out))
-}
-
-/// The words after the program's name. Words that aren't UTF-8 ask nothing, as no words do.
-fn words_of(rt: &(impl Env + AllocGlobal)) -> io::Result<Vec<String>> {
-    match env::args(rt) {
-        Ok(words) => Ok(words.skip(1).collect(rt.alloc())?),
-        Err(e) if e.kind() == ErrorKind::InvalidData => Ok(Vec::new(rt.alloc())),
-        Err(e) => Err(e),
-    }
 }

@@ -1,12 +1,10 @@
 -- Which place a path is that of, by its first and its last name.
-use Rattle.std.proofs.Common.{arith, ◌≡◌, ◌<◌, ◌==◌, ℕ, List, [], ◌∷◌, ◌++◌, codes, Some, Result, Ok, Err, Bool, true, false, refl, sym, ap, ◌∙◌, subst}
+use Rattle.std.proofs.Common.{arith, ◌≡◌, ◌==◌, ℕ, List, [], ◌∷◌, ◌++◌, codes, Some, Result, Ok, Err, Bool, true, false, refl, sym, ap, ◌∙◌, subst}
 use Rattle.std.specs.Prelude.{IsTrue, IfOk}
 use Rattle.std.specs.List.{list_all}
 use Rattle.std.specs.Str.{IsUtf8, bytes_eq}
 use Rattle.std.proofs.lemmas.Slice.Eq.{bytes_eq-Decides}
-use Rattle.std.proofs.lemmas.Str.{IsUtf8-from_ascii}
 use Rattle.std.proofs.lemmas.Bool.{false≢true, and_parts, false_from_ne_true}
-use Rattle.std.proofs.lemmas.Bool.Decides.{nat_tests}
 use Rattle.outside.specs.Names.{Names}
 use Rattle.outside.specs.Tree.{Node, file}
 use Rattle.commit_journal.specs.Files.{Files, with_node}
@@ -26,16 +24,13 @@ use Rattle.store_files.specs.declared.place.FilePlace.{FilePlace}
 use Rattle.store_files.specs.declared.place.FilePlace.TheVariants as named
 use Rattle.store_files.proofs.Places.{one_place, meta_valid}
 use Rattle.store_files.proofs.FileNames.{segment_bytes, lacks_dot, key_segments, key_length}
-use Rattle.settings_maps.proofs.BareNames.{bare_ascii}
+use Rattle.key_names.proofs.Ascii.{bare_text}
 
 -- ---- names of metadata
 
-bare_low : (b : ℕ) → is_bare b ≡ true → b < 128
-bare_low b bare = grind (arith, nat_tests)
-
 -- bytes that are no text are no name of metadata
 pub no_text : (bytes : List ℕ) → ¬ (IsUtf8 bytes) → is_meta_name bytes ≡ false
-no_text bytes broken = false_from_ne_true (is_meta_name bytes) (λ name. broken (IsUtf8-from_ascii bytes (bare_ascii bytes ((and_parts _ (list_all is_bare bytes) name).1))))
+no_text bytes broken = false_from_ne_true (is_meta_name bytes) (λ name. broken (bare_text bytes ((and_parts _ (list_all is_bare bytes) name).1)))
 
 -- ---- the last name
 

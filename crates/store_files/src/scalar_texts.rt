@@ -48,7 +48,7 @@ fn items_of(alloc: Global, keys: &[Key]) -> Result<Vec<Item>, AllocError>
     ensures items { IfOk result (λ items. items.items ≡ key_items keys.now) }
     ensures valid { OnOk result (IsTrue (list_all is_key keys.now)) }
 {
-    let mut items = Vec::new(alloc);
+    let mut items = Vec::with_capacity(alloc, keys.len())?;
     for key in keys {
         items.push(Item::Text(key.print()?))?;
     }

@@ -33,11 +33,3 @@ pub fn disk_of(alloc: Global, files: &[(&str, &str)]) -> Result<MemoryDisk, Fail
     }
     Ok(disk)
 }
-
-/// The text is the wanted one.
-pub fn same(shown: &str, wanted: &str, at: &str) -> Result<(), Fail> {
-    if shown == wanted {
-        return Ok(());
-    }
-    Err(Fail::new(format_args!("{shown}, not {wanted}, at {at}")))
-}

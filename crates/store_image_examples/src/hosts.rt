@@ -1,7 +1,8 @@
 //! The images of small hosts: their texts, and the coverage of their files.
-use crate::disks::{MOTD, disk_of, put, same};
+use crate::disks::{MOTD, disk_of, put};
 use depend_check::{Coverage, covered};
 use disk_memory::MemoryDisk;
+use example_texts::same;
 use std::alloc::{AllocError, Global};
 use std::test::Fail;
 use store_image::{Image, read_image};

@@ -1,6 +1,7 @@
 //! Each kind of bad image with the least files that show it, and what is told of two faults.
-use crate::disks::{MOTD, disk_of, same};
+use crate::disks::{MOTD, disk_of};
 use disk_memory::MemoryDisk;
+use example_texts::same;
 use std::alloc::{AllocError, Global};
 use std::test::Fail;
 use store_image::{ImageError, read_image};

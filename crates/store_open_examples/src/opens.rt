@@ -1,7 +1,8 @@
 //! What is on the disk after a beginning and an opening.
-use crate::stores::{File, IMAGE_TEXT, OPENED, host, place, same, store};
+use crate::stores::{File, IMAGE_TEXT, OPENED, host, place, store};
 use crate::words::{begun, opened};
 use disk_memory::{MemoryDisk, Node};
+use example_texts::same;
 use std::alloc::Global;
 use std::test::Fail;
 

@@ -1,6 +1,7 @@
 //! Each refusal, and which of two is told.
-use crate::stores::{File, MODEL, host, same, store};
+use crate::stores::{File, MODEL, host, store};
 use crate::words::{begun, opened};
+use example_texts::same;
 use outside::{Disk, Path};
 use std::alloc::Global;
 use std::test::Fail;

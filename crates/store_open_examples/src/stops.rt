@@ -1,9 +1,10 @@
 //! Beginnings and openings that are stopped after each of their disk calls, with what a crash then leaves; and each
 //! call failing once.
 use crate::opens::has;
-use crate::stores::{OPENED, host, same, store};
+use crate::stores::{OPENED, host, store};
 use crate::words::{begun, opened};
-use disk_memory::{Bytes, MemoryDisk, Pick};
+use disk_memory::MemoryDisk;
+use example_texts::{picks, same};
 use std::alloc::{AllocError, Global};
 use std::test::Fail;
 
@@ -21,23 +22,6 @@ const PICKS: &[&str] = &[
     "gggggggggggg",
     "nogtnogtnogt",
 ];
-
-fn pick(alloc: Global, kind: u8) -> Result<Pick, AllocError> {
-    Ok(match kind {
-        b'o' => Pick::Old,
-        b'n' => Pick::New,
-        b't' => Pick::Torn(Bytes::of(b"torn".to_vec(alloc)?)),
-        _ => Pick::Gone,
-    })
-}
-
-fn picks(alloc: Global, kinds: &str) -> Result<Vec<Pick>, AllocError> {
-    let mut picks = Vec::new(alloc);
-    for kind in kinds.as_bytes() {
-        picks.push(pick(alloc, *kind)?)?;
-    }
-    Ok(picks)
-}
 
 // What is told where one of the calls is the last, if all of them were made.
 fn ended(whole: bool, word: &'static str) -> &'static str {

@@ -107,11 +107,3 @@ pub fn store(alloc: Global, files: &[File]) -> Result<MemoryDisk, Fail> {
     }
     Ok(disk)
 }
-
-/// The text is the wanted one.
-pub fn same(shown: &str, wanted: &str, at: &str) -> Result<(), Fail> {
-    if shown == wanted {
-        return Ok(());
-    }
-    Err(Fail::new(format_args!("{shown}, not {wanted}, at {at}")))
-}

@@ -1,6 +1,6 @@
 //! Model files whose links are refused.
 use crate::links::content;
-use crate::texts::same;
+use example_texts::same;
 use metadata_links::{Manifest, ManifestError};
 use std::alloc::{AllocError, Global};
 use std::test::Fail;

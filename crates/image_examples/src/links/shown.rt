@@ -1,7 +1,7 @@
 //! What a host's model file links.
-use crate::links::{content, joined, key};
+use crate::links::{content, joined};
 use crate::models::host::HOST;
-use crate::texts::same;
+use example_texts::{key, same};
 use key_names::{Key, Text, read_list};
 use metadata_links::{Command, Index, Manifest, Steps};
 use settings_tree::{KeyList, Owed};

@@ -1,5 +1,5 @@
 //! The first fault of a model file, and where it is.
-use crate::texts::same;
+use example_texts::same;
 use model_file::{Model, ModelError, ModelKind};
 use std::alloc::{AllocError, Global};
 use std::test::Fail;

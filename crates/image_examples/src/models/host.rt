@@ -1,5 +1,5 @@
 //! The model file of a host: what is read of it, and of its first bytes.
-use crate::texts::same;
+use example_texts::same;
 use key_names::{Key, Text};
 use model_file::{Model, ModelKind};
 use settings_tree::{Content, Os, Scalar};

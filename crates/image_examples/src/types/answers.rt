@@ -1,5 +1,5 @@
 //! Type tables of their texts, and what they answer.
-use crate::texts::same;
+use example_texts::same;
 use json_trees::Scalar;
 use key_names::{Key, Text};
 use std::alloc::{AllocError, Global};

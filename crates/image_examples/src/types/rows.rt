@@ -1,6 +1,6 @@
 //! Rows that meet, rows that are none, and the keys that rows reach.
-use crate::texts::same;
 use crate::types::answers::{agree, answers, types_of};
+use example_texts::same;
 use key_names::Key;
 use std::alloc::{AllocError, Global};
 use std::test::Fail;

@@ -1,31 +1,14 @@
 //! Runs that are stopped after each of their disk calls, with what a crash then leaves; and each call failing once.
 use crate::chains::rows::{ROWS, Row};
 use crate::chains::stores::{state, store, told};
-use crate::lines::same;
-use disk_memory::{Bytes, MemoryDisk, Pick};
-use std::alloc::{AllocError, Global};
+use disk_memory::MemoryDisk;
+use example_texts::{picks, same};
+use std::alloc::Global;
 use std::test::Fail;
 
 // What a crash leaves of the paths that are not on the disk, the first path first: what was there (`o`), what is there
 // now (`n`), torn bytes (`t`) or nothing (`g`). Of a link the last two leave what was there.
 const PICKS: &[&str] = &["oooooooo", "nnnnnnnn", "tttttttt", "gggggggg", "nogtnogt"];
-
-fn pick(alloc: Global, kind: u8) -> Result<Pick, AllocError> {
-    Ok(match kind {
-        b'o' => Pick::Old,
-        b'n' => Pick::New,
-        b't' => Pick::Torn(Bytes::of(b"torn".to_vec(alloc)?)),
-        _ => Pick::Gone,
-    })
-}
-
-fn picks(alloc: Global, kinds: &str) -> Result<Vec<Pick>, AllocError> {
-    let mut picks = Vec::new(alloc);
-    for kind in kinds.as_bytes() {
-        picks.push(pick(alloc, *kind)?)?;
-    }
-    Ok(picks)
-}
 
 // The store before the run.
 fn begun(alloc: Global, row: &Row) -> Result<MemoryDisk, Fail> {

@@ -2,8 +2,8 @@
 use crate::commands::host::{HELLO, IMAGE, RENAME, TWO, WEAK};
 use crate::commands::runs::disk_of;
 use crate::commands::stores::{Step, steps};
-use crate::lines::put;
 use disk_memory::MemoryDisk;
+use example_texts::put;
 use std::alloc::Global;
 use std::test::Fail;
 

@@ -1,6 +1,7 @@
 //! One run over devices in memory.
-use crate::lines::{put, words_of};
+use crate::lines::words_of;
 use disk_memory::{MemoryDisk, MemoryDoor, MemorySink, MemorySpawner};
+use example_texts::put;
 use outside::{Disk, Path};
 use settings_run::run;
 use std::alloc::Global;

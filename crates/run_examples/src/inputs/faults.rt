@@ -3,8 +3,8 @@ use crate::inputs::data::SERVERS;
 use crate::inputs::generators::HOSTNAME;
 use crate::inputs::host::ready;
 use crate::inputs::runs::{Says, runs, told};
-use crate::lines::same;
 use disk_memory::{Bytes, MemoryDisk, Pick};
+use example_texts::same;
 use std::alloc::{AllocError, Global};
 use std::test::Fail;
 

@@ -1,6 +1,7 @@
 //! Runs over devices in memory, and what is told of them.
-use crate::lines::{holds, same, words_of};
+use crate::lines::{holds, words_of};
 use disk_memory::{MemoryDisk, MemoryDoor, MemorySink, MemorySpawner};
+use example_texts::same;
 use outside::Answer;
 use settings_run::run;
 use std::alloc::{AllocError, Global};

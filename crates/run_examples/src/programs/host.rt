@@ -1,6 +1,7 @@
 //! A host in memory whose release asks programs.
-use crate::lines::{put, words_of};
+use crate::lines::words_of;
 use disk_memory::{MemoryDisk, MemoryDoor, MemorySink, MemorySpawner};
+use example_texts::put;
 use outside::{Answer, Disk};
 use settings_run::run;
 use std::alloc::{AllocError, Global};

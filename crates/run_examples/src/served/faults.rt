@@ -1,9 +1,10 @@
 //! Devices that fail.
-use crate::lines::{holds, same};
+use crate::lines::holds;
 use crate::served::host::{IDLE, WHOLE, before, begun, ready};
 use crate::served::runs::{Given, asked, runs, told};
-use disk_memory::{Bytes, MemoryDisk, Pick};
-use std::alloc::{AllocError, Global};
+use disk_memory::{MemoryDisk, Pick};
+use example_texts::{repeated, same};
+use std::alloc::Global;
 use std::test::Fail;
 
 const READS: &str = "GET /os\nGET /os\nGET /os";
@@ -290,21 +291,9 @@ const READS_ALONE: &[(&str, &str)] = &[
     ("check", "0 chrony covered\nmotd covered\nsysctl covered\n"),
 ];
 
-fn pick(alloc: Global, kind: &str) -> Result<Pick, AllocError> {
-    Ok(match kind {
-        "old" => Pick::Old,
-        "torn" => Pick::Torn(Bytes::of(b"xx".to_vec(alloc)?)),
-        _ => Pick::New,
-    })
-}
-
 /// What a crash leaves, where this is left of each path that isn't on the disk.
 pub fn left(alloc: Global, disk: &MemoryDisk, kind: &str) -> Result<MemoryDisk, Fail> {
-    let mut picks = Vec::new(alloc);
-    for _ in 0..40 {
-        picks.push(pick(alloc, kind)?)?;
-    }
-    Ok(disk.crash(&picks)?)
+    Ok(disk.crash(&repeated(alloc, kind, 40)?)?)
 }
 
 // The run makes so many calls, of which the one behind so many fails, and then each; whatever a crash leaves, the next run of

@@ -1,8 +1,9 @@
 //! What is done to a host, one after another, and what it comes to.
-use crate::lines::{holds, put};
+use crate::lines::holds;
 use crate::served::host::{IDLE, ready};
 use crate::served::runs::{Given, asked, runs};
 use disk_memory::MemoryDisk;
+use example_texts::put;
 use std::alloc::Global;
 use std::test::Fail;
 

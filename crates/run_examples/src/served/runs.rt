@@ -1,6 +1,7 @@
 //! Runs over devices in memory, and what is told of them.
-use crate::lines::{same, words_of};
+use crate::lines::words_of;
 use disk_memory::{Input, MemoryDisk, MemoryDoor, MemorySink, MemorySpawner};
+use example_texts::same;
 use settings_run::run;
 use std::alloc::{AllocError, Global};
 use std::test::Fail;

@@ -1,4 +1,4 @@
-use Rattle.json_trees.proofs.Segments.{IsUtf8-segment, ok_where}
+use Rattle.key_names.proofs.Ascii.{IsUtf8-segment, ok_where}
 use Rattle.json_trees.proofs.nesting.name_at.Goals as goal
 
 pub unwrap-requires : goal.unwrap-requires

@@ -1,4 +1,4 @@
-use Rattle.json_trees.proofs.Segments.{IsUtf8-segment, ok_where}
+use Rattle.key_names.proofs.Ascii.{IsUtf8-segment, ok_where}
 use Rattle.metadata_links.proofs.texts.segment_text.Goals as goal
 
 pub unwrap-text-requires : goal.unwrap-text-requires

@@ -37,10 +37,10 @@ pub returns-in_ok-put-in-Value-clause-typed : goal.returns-in_ok-put-in-Value-cl
 returns-in_ok-put-in-Value-clause-typed c =
     let types = c.args.types.now in
     let copied : c.in_ok-copy-in-Value.field-0 ≡ c.in-Value.value = search rules in
-    let taken : IsTyped types c.key.inside.segments.items c.in_ok-copy-in-Value.field-0 =
+    let taken : IsTyped types c.key.inside.segments.value.items c.in_ok-copy-in-Value.field-0 =
     subst (λ (k : Path). IsTyped types k c.in_ok-copy-in-Value.field-0) (sym c.key.view_is) (subst (IsTyped types c.in-Some.key) (sym copied) c.in_ok-check-in-Value.ensures.taken) in
     subst (AreTyped types) (sym (ap (λ (k : Contents). k.values) c.in_ok-put-in-Value.ensures.ok))
-    (typed_put types c.args.content.now.values c.key.inside.segments.items c.in_ok-copy-in-Value.field-0 c.requires.typed taken)
+    (typed_put types c.args.content.now.values c.key.inside.segments.value.items c.in_ok-copy-in-Value.field-0 c.requires.typed taken)
 
 pub returns-in-Other-clause-refused : goal.returns-in-Other-clause-refused
 returns-in-Other-clause-refused c =

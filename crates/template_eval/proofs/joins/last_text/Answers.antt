@@ -1,4 +1,4 @@
-use Rattle.json_trees.proofs.Segments.{IsUtf8-segment, ok_where}
+use Rattle.key_names.proofs.Ascii.{IsUtf8-segment, ok_where}
 use Rattle.template_eval.proofs.joins.last_text.Goals as goal
 
 pub unwrap-requires : goal.unwrap-requires
