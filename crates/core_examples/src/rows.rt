@@ -123,7 +123,7 @@ const ROWS: &[&[Step]] = &[
         ("stop 0", ""),
         ("turn", ""),
         ("crash torn", ""),
-        ("file etc/motd", "xx"),
+        ("file etc/motd", "torn"),
         ("GET /job", OWED),
         ("POST /tx/apply", "204 "),
         ("turns", ""),

@@ -94,7 +94,7 @@ fn store(alloc: Global, row: &Row, calls: u64, kind: &str) -> Result<String, All
 // The file, whose write is the call before its sync.
 fn file(row: &Row, calls: u64, kind: &str) -> &'static str {
     if kind == "torn" && calls < row.written && calls.saturating_add(2) >= row.written {
-        "xx"
+        "torn"
     } else if is_there(row.written, calls, kind) {
         "new\n"
     } else {
