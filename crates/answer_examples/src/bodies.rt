@@ -1,7 +1,7 @@
 //! Each shape of body, and each refusal.
-use crate::texts::{said, same, tx, whole};
+use crate::texts::{said, tx, whole};
 use api_http::Answer;
-use example_texts::key;
+use example_texts::{key, same};
 use json_trees::{flatten, flatten_patch};
 use key_names::{Key, Text};
 use machine_answers::{JobShown, MachineReply, job_text};
@@ -36,12 +36,14 @@ fn trees(rt: HostRuntime) -> Result<(), Fail> {
     same(
         shown.as_str(),
         r#"200 {"motd":{"configuration-files":["motd"],"restart-commands":["motd-reload"]}}"#,
+        "values",
     )?;
     let removal = r#"{"kernel":{"sysctl":{"net.ipv4.ip_forward":null}}}"#;
     let shown = pending(rt.alloc(), removal)?;
     same(
         shown.as_str(),
         r#"200 {"kernel":{"sysctl":{"net.ipv4.ip_forward":null}}}"#,
+        "a removal",
     )
 }
 
@@ -76,16 +78,21 @@ fn texts(alloc: Global) -> Result<Vec<(Text, Text)>, Fail> {
 fn lists_and_names(rt: HostRuntime) -> Result<(), Fail> {
     let alloc = rt.alloc();
     let shown = said(alloc, MachineReply::Names(names(alloc)?))?;
-    same(shown.as_str(), r#"200 ["default"]"#)?;
+    same(shown.as_str(), r#"200 ["default"]"#, "names")?;
     let shown = said(alloc, MachineReply::Lists(lists(alloc)?))?;
     same(
         shown.as_str(),
         r#"200 {"settings.ntp.time-servers":["chronyd"]}"#,
+        "lists",
     )?;
     let shown = said(alloc, MachineReply::Texts(texts(alloc)?))?;
-    same(shown.as_str(), r#"200 {"arch":"x86\"64","name":""}"#)?;
+    same(
+        shown.as_str(),
+        r#"200 {"arch":"x86\"64","name":""}"#,
+        "texts",
+    )?;
     let shown = said(alloc, MachineReply::Texts(Vec::new(alloc)))?;
-    same(shown.as_str(), "200 {}")
+    same(shown.as_str(), "200 {}", "no texts")
 }
 
 #[test]
@@ -96,10 +103,15 @@ fn refusals(rt: HostRuntime) -> Result<(), Fail> {
     same(
         shown.as_str(),
         r#"404 {"error":"key","key":"settings.none"}"#,
+        "no such key",
     )?;
     let name = Text::from_str(alloc, "none")?;
     let shown = said(alloc, MachineReply::NoName { name })?;
-    same(shown.as_str(), r#"404 {"error":"name","name":"none"}"#)
+    same(
+        shown.as_str(),
+        r#"404 {"error":"name","name":"none"}"#,
+        "no such name",
+    )
 }
 
 // The second example of a reply.
@@ -114,6 +126,7 @@ fn a_whole_reply(rt: HostRuntime) -> Result<(), Fail> {
     same(
         shown.as_str(),
         "HTTP/1.1 200 OK\r\nContent-Type: application/json\r\nContent-Length: 67\r\nConnection: close\r\n\r\n{\"motd\":\"Welcome\",\"ntp\":{\"time-servers\":[\"a.example\",\"b.example\"]}}",
+        "a whole reply",
     )
 }
 
@@ -130,6 +143,7 @@ fn causes(rt: HostRuntime) -> Result<(), Fail> {
     same(
         spawn.as_str(),
         r#"{"cause":"spawn motd","job":"failed","owed":"all"}"#,
+        "spawn",
     )?;
     let service = Text::from_str(alloc, "motd")?;
     let number = 300;
@@ -137,15 +151,18 @@ fn causes(rt: HostRuntime) -> Result<(), Fail> {
     same(
         status.as_str(),
         r#"{"cause":"status motd 300","job":"failed","owed":"all"}"#,
+        "status",
     )?;
     let disk = failed(alloc, &Cause::Disk)?;
     same(
         disk.as_str(),
         r#"{"cause":"disk","job":"failed","owed":"all"}"#,
+        "disk",
     )?;
     let memory = failed(alloc, &Cause::Memory)?;
     same(
         memory.as_str(),
         r#"{"cause":"memory","job":"failed","owed":"all"}"#,
+        "memory",
     )
 }

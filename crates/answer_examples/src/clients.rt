@@ -1,5 +1,5 @@
 //! What a machine in memory replies to clients.
-ghost use Rattle.std.specs.Prelude.{◌≡◌, IfOk, IsTrue, All, true};
+ghost use Rattle.std.specs.Prelude.{◌≡◌, IfOk, All, true};
 ghost use Rattle.key_names.specs.Key.{is_prefix};
 ghost use Rattle.model_file.specs.Model.{AreTyped};
 ghost use Rattle.opening_step.specs.Step.{AreSettings};
@@ -8,22 +8,16 @@ ghost use Rattle.settings_tree.specs.Content.{settings_key};
 ghost use Rattle.typed_settings.specs.Order.{IsTable};
 
 use crate::host::{image, ready, turns};
-use crate::texts::{said, same, tx};
-use example_texts::key;
+use crate::texts::{said, tx};
+use example_texts::{key, same};
 use json_trees::flatten_patch;
 use key_names::Key;
 use machine_answers::{JobShown, MachineReply, job_text};
 use pending_tx::CommitError;
-use plain_machine::{OpeningAnswer, PlainImage, PlainMachine};
-use settings_tree::{Pending, is_setting};
+use plain_machine::{OpeningAnswer, PlainImage, PlainMachine, are_settings};
+use settings_tree::Pending;
 use std::alloc::{AllocError, Global};
 use std::test::Fail;
-
-fn are_settings(pairs: &[(Key, Pending)]) -> bool
-    ensures { IsTrue result → All (λ e. is_prefix settings_key e.0 ≡ true) pairs.now }
-{
-    pairs.iter().all(|(key, _)| is_setting(key))
-}
 
 // The pairs of the patch that the text is, below `settings`.
 fn pairs_of(alloc: Global, text: &str) -> Result<Vec<(Key, Pending)>, Fail>
@@ -156,7 +150,7 @@ fn goes(alloc: Global, rows: &[Row]) -> Result<(), Fail> {
     let mut machine = ready(alloc, &image)?;
     for (word, rest, wanted) in rows {
         let shown = ask(alloc, &image, &mut machine, word, rest)?;
-        same(shown.as_str(), wanted)?;
+        same(shown.as_str(), wanted, word)?;
     }
     Ok(())
 }

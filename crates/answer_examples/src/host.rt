@@ -5,7 +5,8 @@ ghost use Rattle.opening_step.specs.Step.{AreSettings};
 ghost use Rattle.settings_machine.specs.Typed.{IsTypedHeld};
 ghost use Rattle.typed_settings.specs.Order.{IsTable};
 
-use key_names::{Bytes, Text};
+use example_texts::bytes;
+use key_names::Text;
 use metadata_links::Manifest;
 use model_file::Model;
 use plain_machine::{OpeningAnswer, PlainImage, PlainMachine, TurnAnswer};
@@ -30,10 +31,6 @@ template-path = "motd"
 [metadata.settings.motd]
 affected-services = ["motd"]
 "#;
-
-fn bytes(alloc: Global, text: &str) -> Result<Bytes, Fail> {
-    Ok(Bytes::of(text.as_bytes().to_vec(alloc)?))
-}
 
 // The template of the one file.
 fn templates(alloc: Global) -> Result<Templates, Fail> {

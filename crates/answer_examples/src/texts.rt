@@ -15,14 +15,6 @@ pub fn tx(alloc: Global, name: &str) -> Result<TxName, Fail> {
     }
 }
 
-/// The text is the wanted one.
-pub fn same(shown: &str, wanted: &str) -> Result<(), Fail> {
-    if shown == wanted {
-        return Ok(());
-    }
-    Err(Fail::new(format_args!("{shown}, not {wanted}")))
-}
-
 /// The bytes of the whole answer.
 pub fn whole(alloc: Global, answer: &Answer) -> Result<String, AllocError> {
     let reply = print_reply(alloc, answer)?;

@@ -1,6 +1,6 @@
 //! Which programs are asked, and what their answers give.
-use crate::read::same;
 use crate::spawned::{answer, given};
+use example_texts::same;
 use std::alloc::Global;
 use std::test::Fail;
 
@@ -53,7 +53,7 @@ fn gives(alloc: Global, key: &str, outputs: &[(u16, &str)], wanted: &str) -> Res
     }
     answers.push(None)?;
     let given = given(alloc, key, answers)?;
-    same(given.as_str(), wanted)
+    same(given.as_str(), wanted, key)
 }
 
 #[test]

@@ -1,6 +1,6 @@
 //! Outputs at the limit of their length.
-use crate::read::same;
 use crate::spawned::{answer, given};
+use example_texts::same;
 use std::alloc::{AllocError, Global};
 use std::test::Fail;
 
@@ -18,7 +18,8 @@ fn gives(alloc: Global, len: usize, wanted: &str) -> Result<(), Fail> {
     answers.push(answer(alloc, 0, b"0")?)?;
     answers.push(answer(alloc, 0, &output)?)?;
     let given = given(alloc, "settings.a", answers)?;
-    same(given.as_str(), wanted)
+    let at = format!(in alloc; "an output of {len} bytes")?;
+    same(given.as_str(), wanted, at.as_str())
 }
 
 #[test]

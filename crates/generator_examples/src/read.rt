@@ -1,4 +1,5 @@
 //! What a generators file is read to, as a text.
+use example_texts::same;
 use key_names::Text;
 use setting_generators::{Generator, Generators, GeneratorsError, GeneratorsKind};
 use std::alloc::{AllocError, Global};
@@ -65,16 +66,9 @@ fn shown(alloc: Global, text: &[u8]) -> Result<String, Fail> {
     }
 }
 
-/// The text is the wanted one.
-pub fn same(shown: &str, wanted: &str) -> Result<(), Fail> {
-    if shown == wanted {
-        return Ok(());
-    }
-    Err(Fail::new(format_args!("{shown}, not {wanted}")))
-}
-
 /// The bytes are read to what is wanted.
 pub fn reads(alloc: Global, text: &[u8], wanted: &str) -> Result<(), Fail> {
     let shown = shown(alloc, text)?;
-    same(shown.as_str(), wanted)
+    let at = String::from_utf8_lossy(alloc, text)?;
+    same(shown.as_str(), wanted, at.as_str())
 }

@@ -1,6 +1,7 @@
 //! Requests that are written as lines, and what they are to be read as.
 use crate::lines::line_of;
 use api_http::{Reading, read_request};
+use example_texts::same;
 use std::alloc::{AllocError, Global};
 use std::test::Fail;
 
@@ -17,13 +18,6 @@ pub fn head(alloc: Global, lines: &str) -> Result<Vec<u8>, AllocError> {
     }
     bytes.extend_from_slice(b"\r\n")?;
     Ok(bytes)
-}
-
-fn same(shown: &str, wanted: &str, of: &str) -> Result<(), Fail> {
-    if shown == wanted {
-        return Ok(());
-    }
-    Err(Fail::new(format_args!("{of} reads as {shown}, not {wanted}")))
 }
 
 // Where it is a whole request, it has as many bytes.

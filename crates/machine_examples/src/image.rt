@@ -4,7 +4,7 @@ ghost use Rattle.model_file.specs.Model.{AreTyped};
 ghost use Rattle.opening_step.specs.Step.{AreSettings};
 ghost use Rattle.typed_settings.specs.Order.{IsTable};
 
-use crate::texts::bytes;
+use example_texts::bytes;
 use key_names::{Bytes, Text};
 use metadata_links::Manifest;
 use model_file::Model;

@@ -1,5 +1,5 @@
 //! Steps of a machine, as texts.
-ghost use Rattle.std.specs.Prelude.{◌≡◌, IfOk, IsTrue, All, true};
+ghost use Rattle.std.specs.Prelude.{◌≡◌, IfOk, All, true};
 ghost use Rattle.key_names.specs.Key.{is_prefix};
 ghost use Rattle.settings_machine.specs.Typed.{IsTypedHeld};
 ghost use Rattle.settings_tree.specs.Content.{settings_key};
@@ -11,16 +11,10 @@ use crate::texts::{parts, tx};
 use json_trees::flatten_patch;
 use key_names::Key;
 use pending_tx::CommitError;
-use plain_machine::{PlainImage, PlainMachine, TurnAnswer};
-use settings_tree::{KeyList, Pending, is_setting};
+use plain_machine::{PlainImage, PlainMachine, TurnAnswer, are_settings};
+use settings_tree::{KeyList, Pending};
 use std::alloc::{AllocError, Global};
 use std::test::Fail;
-
-fn are_settings(pairs: &[(Key, Pending)]) -> bool
-    ensures { IsTrue result → All (λ e. is_prefix settings_key e.0 ≡ true) pairs.now }
-{
-    pairs.iter().all(|(key, _)| is_setting(key))
-}
 
 // The pairs of the patch that the text is, below `settings`.
 fn pairs_of(alloc: Global, text: &str) -> Result<Vec<(Key, Pending)>, Fail>

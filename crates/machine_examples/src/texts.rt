@@ -1,13 +1,7 @@
 //! Texts, and what is made of them.
-use key_names::Bytes;
 use settings_tree::TxName;
-use std::alloc::{AllocError, Global};
+use std::alloc::Global;
 use std::test::Fail;
-
-/// The bytes of the text.
-pub fn bytes(alloc: Global, text: &str) -> Result<Bytes, AllocError> {
-    Ok(Bytes::of(text.as_bytes().to_vec(alloc)?))
-}
 
 /// The name of a transaction.
 pub fn tx(alloc: Global, name: &str) -> Result<TxName, Fail> {

@@ -1,4 +1,5 @@
 //! What a migration makes of what is held, each way.
+use example_texts::same;
 use held_text::HeldText;
 use key_names::{Key, Text};
 use migrate_helpers::{MapError, Mapping, Migration};
@@ -83,16 +84,13 @@ fn wanted(alloc: Global, members: &str, made: &str) -> Result<String, AllocError
     }
 }
 
-fn same(shown: &str, wanted: &str) -> Result<(), Fail> {
-    if shown == wanted {
-        return Ok(());
-    }
-    Err(Fail::new(format_args!("made {shown}, not {wanted}")))
-}
-
-fn agree(shown: Result<Text, Fail>, wanted: Result<String, AllocError>) -> Result<(), Fail> {
+fn agree(
+    shown: Result<Text, Fail>,
+    wanted: Result<String, AllocError>,
+    members: &str,
+) -> Result<(), Fail> {
     let shown = shown?;
-    same(shown.as_str(), wanted?.as_str())
+    same(shown.as_str(), wanted?.as_str(), members)
 }
 
 fn goes_there(alloc: Global, migration: &Migration, row: &Row) -> Result<(), Fail> {
@@ -100,6 +98,7 @@ fn goes_there(alloc: Global, migration: &Migration, row: &Row) -> Result<(), Fai
     agree(
         forward(alloc, migration, members),
         wanted(alloc, members, there),
+        members,
     )
 }
 
@@ -108,6 +107,7 @@ fn goes_back(alloc: Global, migration: &Migration, row: &Row) -> Result<(), Fail
     agree(
         backward(alloc, migration, members),
         wanted(alloc, members, back),
+        members,
     )
 }
 

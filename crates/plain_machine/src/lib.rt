@@ -20,4 +20,5 @@ pub use image::PlainImage;
 pub use machine::PlainMachine;
 pub use opening_answer::OpeningAnswer;
 pub use ran::Ran;
+pub use transactions::are_settings;
 pub use turn_answer::TurnAnswer;

@@ -1,5 +1,5 @@
 //! The requests on transactions. What each tells is what the machine replies.
-ghost use Rattle.std.specs.Prelude.{◌≡◌, All, IfOk, OnErr, None, Err, true};
+ghost use Rattle.std.specs.Prelude.{◌≡◌, All, IfOk, IsTrue, OnErr, None, Err, true};
 ghost use Rattle.std.specs.FinMap.{get};
 ghost use Rattle.key_names.specs.Key.{is_prefix};
 ghost use Rattle.settings_tree.specs.Content.{settings_key};
@@ -18,8 +18,15 @@ use crate::machine::PlainMachine;
 use key_names::Key;
 use pending_tx::CommitError;
 use settings_machine::{Refused, drop_tx, keep_rule, pend};
-use settings_tree::{KeyList, Pending, TxName};
+use settings_tree::{KeyList, Pending, TxName, is_setting};
 use std::alloc::{AllocError, Global};
+
+/// Whether each key of the pairs begins with `settings`, as `patch` wants. It takes a step for each pair and no memory.
+pub fn are_settings(pairs: &[(Key, Pending)]) -> bool
+    ensures { IsTrue result → All (λ e. is_prefix settings_key e.0 ≡ true) pairs.now }
+{
+    pairs.iter().all(|(key, _)| is_setting(key))
+}
 
 impl PlainMachine {
     /// Makes the pairs pending in the transaction, unless the types refuse one of them: then it tells the first of these

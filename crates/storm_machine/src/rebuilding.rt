@@ -1,25 +1,17 @@
 //! The machine of a store that was moved.
-ghost use Rattle.std.specs.Prelude.{◌≡◌, IfOk, IsTrue, All, true};
-ghost use Rattle.key_names.specs.Key.{is_prefix};
+ghost use Rattle.std.specs.Prelude.{IfOk};
 ghost use Rattle.model_file.specs.Model.{AreTyped};
 ghost use Rattle.opening_step.specs.Step.{AreSettings};
-ghost use Rattle.settings_tree.specs.Content.{settings_key};
 ghost use Rattle.typed_settings.specs.Order.{IsTable};
 ghost use Rattle.storm_machine.specs.Stands.{Stands};
 
 use crate::trouble::{Trouble, differs};
 use key_names::Key;
 use pending_tx::{CommitError, list, pending};
-use plain_machine::{OpeningAnswer, PlainImage, PlainMachine};
-use settings_tree::{Content, Held, Pending, TxName, is_setting};
+use plain_machine::{OpeningAnswer, PlainImage, PlainMachine, are_settings};
+use settings_tree::{Content, Held, Pending, TxName};
 use std::alloc::{AllocError, Global};
 use version_links::Version;
-
-fn are_settings(pairs: &[(Key, Pending)]) -> bool
-    ensures { IsTrue result → All (λ e. is_prefix settings_key e.0 ≡ true) pairs.now }
-{
-    pairs.iter().all(|(key, _)| is_setting(key))
-}
 
 fn settings_key(alloc: Global) -> Result<Key, AllocError> {
     match Key::of_segment(alloc, b"settings") {

@@ -1,13 +1,10 @@
 //! Templates that are kept.
-use key_names::{Bytes, Text};
+use example_texts::bytes;
+use key_names::Text;
 use std::alloc::{AllocError, Global};
 use std::process::Abort;
 use std::test::Fail;
 use template_reader::{Node, Span, Templates, piece, read};
-
-fn bytes(alloc: Global, text: &str) -> Result<Bytes, AllocError> {
-    Ok(Bytes::of(text.as_bytes().to_vec(alloc)?))
-}
 
 // Adds the text as the source of a file that has none, and says whether it was taken.
 fn add(
