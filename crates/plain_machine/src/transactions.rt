@@ -23,7 +23,8 @@ use std::alloc::{AllocError, Global};
 
 /// Whether each key of the pairs begins with `settings`, as `patch` wants. It takes a step for each pair and no memory.
 pub fn are_settings(pairs: &[(Key, Pending)]) -> bool
-    ensures { IsTrue result → All (λ e. is_prefix settings_key e.0 ≡ true) pairs.now }
+    ensures sound { IsTrue result → All (λ e. is_prefix settings_key e.0 ≡ true) pairs.now }
+    ensures complete { All (λ e. is_prefix settings_key e.0 ≡ true) pairs.now → IsTrue result }
 {
     pairs.iter().all(|(key, _)| is_setting(key))
 }

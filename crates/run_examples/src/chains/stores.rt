@@ -1,6 +1,7 @@
 //! Small stores of a disk in memory, and runs over them.
 use crate::lines::words_of;
-use disk_memory::{Bytes, MemoryDisk, MemoryDoor, MemorySink, MemorySpawner, Node};
+use disk_memory::{MemoryDisk, MemoryDoor, MemorySink, MemorySpawner, Node};
+use example_texts::bytes;
 use outside::{Disk, Path};
 use settings_run::run;
 use std::alloc::{AllocError, Global};
@@ -17,19 +18,15 @@ const LINKS: &[Place] = &[
     ("store/v1.5.2", "v1.5.2_0000000000000000"),
 ];
 
-fn bytes_of(alloc: Global, text: &str) -> Result<Bytes, AllocError> {
-    Ok(Bytes::of(text.as_bytes().to_vec(alloc)?))
-}
-
 /// A disk with a store at 1.5.2 of these files, and others.
 pub fn store(alloc: Global, places: &[Place]) -> Result<MemoryDisk, Fail> {
     let mut nodes = Vec::new(alloc);
-    for (path, bytes) in places {
-        let file = Node::File(bytes_of(alloc, bytes)?);
+    for (path, text) in places {
+        let file = Node::File(bytes(alloc, text)?);
         nodes.push((Path::read(alloc, path.as_bytes())?, file))?;
     }
     for (path, text) in LINKS {
-        let link = Node::Link(bytes_of(alloc, text)?);
+        let link = Node::Link(bytes(alloc, text)?);
         nodes.push((Path::read(alloc, path.as_bytes())?, link))?;
     }
     Ok(MemoryDisk::of_tree(alloc, nodes)?)
