@@ -5,7 +5,8 @@ For stores of 100, 1,000 and 10,000 settings it measures ROUNDS rounds (1,000) o
 setting, its commit, and a GET of it; the opening of the store, by `get` of one setting; and `migrate`. Each is traced once by strace, over a
 copy of the store. Then the program does it again, a small program in C makes the same calls, each over a fresh copy, and both are timed:
 request by request in turn, of which the median is taken, and runs in turn, three of each, of which the least is taken. GET is also measured
-against a bare loop of accept, read, write and close, and SQLite is measured beside. Tables are printed. Wants strace and a C compiler, and
+against a bare loop of accept, read, write and close; the memory of a server that was asked for settings is measured where these are texts of
+10, 100 and 1,000 bytes; and SQLite is measured beside. Tables are printed. Wants strace and a C compiler, and
 works in a new folder below the system's folder for such files, or below BENCH_FOLDER."""
 import os
 import shutil
@@ -19,15 +20,19 @@ from peers import sqlite_rows
 from traces import built_in, list_of, traced
 
 COUNTS = (100, 1000, 10000)
+SIZES = (10, 100, 1000)
 RUNS = 3
 KINDS = ('PATCH', 'commit', 'GET')
 RELEASE = 'version = "1.0.1"\n\n[migrations]\n"(1.0.0, 1.0.1)" = ["other"]\n\n[migration.other]\nkind = "replace-string"\nsetting = "settings.word"\nold = "old"\nnew = "new"\n'
 
 
-def model_of(count):
-    """A model with so many settings, each with a default."""
-    values = '\n'.join(f'k{i} = {i}' for i in range(count))
-    return f'[types]\n"settings.load.*" = "int 0 999999"\n"settings.word" = "line"\n\n[settings]\nword = "old"\n\n[settings.load]\n{values}\n'
+def model_of(count, size):
+    """A model with so many settings, each with a default: a number, or a text of so many bytes."""
+    if size is None:
+        kind, values = 'int 0 999999', '\n'.join(f'k{i} = {i}' for i in range(count))
+    else:
+        kind, values = 'line', '\n'.join(f'k{i} = "{i:0{size}}"' for i in range(count))
+    return f'[types]\n"settings.load.*" = "{kind}"\n"settings.word" = "line"\n\n[settings]\nword = "old"\n\n[settings.load]\n{values}\n'
 
 
 def run(program, folder, *words, before=()):
@@ -40,10 +45,10 @@ def run(program, folder, *words, before=()):
     return seconds
 
 
-def seed_of(program, folder, count):
-    """A folder with a store of so many settings."""
+def seed_of(program, folder, count, size=None):
+    """A folder with a store of so many settings: numbers, or texts of so many bytes."""
     os.makedirs(f'{folder}/image/templates')
-    for name, text in (('model.toml', model_of(count)), ('release.toml', RELEASE)):
+    for name, text in (('model.toml', model_of(count, size)), ('release.toml', RELEASE)):
         with open(f'{folder}/image/{name}', 'w', encoding='utf-8') as file:
             file.write(text)
     run(program, folder, 'init', '--version', '1.0.0')
@@ -135,6 +140,15 @@ class Bench:
         row = f'{mine:.0f} | {least:.0f} | {mine / least:.2f} | {late / early:.2f} | {self.resident / 1e6:.1f} | {held_in(seed) / 1e6:.1f}'
         print(f'| GET alone, {count} settings | {row} |', flush=True)
 
+    def memory(self, size):
+        """The row of memory: the most that a server of 10,000 settings had, each a text of so many bytes."""
+        seed = f'{self.base}/texts-{size}'
+        seed_of(self.program, seed, COUNTS[-1], size)
+        serve = [self.program, 'serve', '--connections', str(self.rounds + 1)]
+        self.asked([serve, [self.bare, 'api.sock', serve[-1], '128']], seed, COUNTS[-1], 'get')
+        held = held_in(seed)
+        print(f'| {size} | {self.resident / 1e6:.1f} | {held / 1e6:.1f} | {self.resident / held:.1f} |', flush=True)
+
     def command(self, seed, name, words):
         """The row of a run of the program, against its calls."""
         trace, calls = f'{self.base}/trace', f'{self.base}/calls'
@@ -163,6 +177,9 @@ def main():
         print('\n| Request | Program, us | A bare loop, us | Ratio | Last tenth to first | Resident, MB | Store and image, MB |\n|---|---:|---:|---:|---:|---:|---:|')
         for count, seed in seeds.items():
             bench.gets(seed, count)
+        print('\n| Bytes of each setting | Resident, MB | Store and image, MB | Ratio |\n|---:|---:|---:|---:|')
+        for size in SIZES:
+            bench.memory(size)
         print('\n| Run | System calls | Program, s | The calls alone, s | Ratio |\n|---|---:|---:|---:|---:|')
         for count, seed in seeds.items():
             bench.command(seed, f'open, {count} settings', ('get', 'settings.word'))
