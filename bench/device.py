@@ -61,10 +61,11 @@ def held_in(folder):
     return sum(os.lstat(place).st_size + len(place) - len(folder) for place in places)
 
 
-def most_resident(process):
-    """The most memory that a process has had, in bytes."""
+def resident_of(process):
+    """The memory that a process has, and the most that it has had, in bytes."""
     with open(f'/proc/{process}/status', encoding='utf-8') as file:
-        return next(int(line.split()[1]) * 1024 for line in file if line.startswith('VmHWM'))
+        kept = dict(line.split(':', 1) for line in file)
+    return tuple(int(kept[name].split()[0]) * 1024 for name in ('VmRSS', 'VmHWM'))
 
 
 def ask(place):
@@ -85,7 +86,7 @@ class Bench:
         self.base = base
         self.replay, self.client, self.bare = (built_in(base, name) for name in ('replay', 'client', 'bare'))
         self.copies = 0
-        self.resident = 0
+        self.resident = self.most = 0
 
     def copy(self, seed):
         """A fresh copy of the seed, which is on the disk."""
@@ -114,7 +115,7 @@ class Bench:
             for server in servers:
                 server.kill()
             sys.exit(f'{commands}: {told.stderr}')
-        self.resident = most_resident(servers[0].pid)
+        self.resident, self.most = resident_of(servers[0].pid)
         for place, server in zip(places, servers):
             ask(place)
             server.wait(60)
@@ -137,17 +138,18 @@ class Bench:
         serve = [self.program, 'serve', '--connections', str(self.rounds + 1)]
         bare = [self.bare, 'api.sock', serve[-1], '128']
         ((mine, least, early, late),) = self.asked([serve, bare], seed, count, 'get')
-        row = f'{mine:.0f} | {least:.0f} | {mine / least:.2f} | {late / early:.2f} | {self.resident / 1e6:.1f} | {held_in(seed) / 1e6:.1f}'
+        row = f'{mine:.0f} | {least:.0f} | {mine / least:.2f} | {late / early:.2f} | {self.most / 1e6:.1f} | {held_in(seed) / 1e6:.1f}'
         print(f'| GET alone, {count} settings | {row} |', flush=True)
 
     def memory(self, size):
-        """The row of memory: the most that a server of 10,000 settings had, each a text of so many bytes."""
+        """The row of memory of a server of 10,000 settings, each a text of so many bytes: what it has, and the most that it had."""
         seed = f'{self.base}/texts-{size}'
         seed_of(self.program, seed, COUNTS[-1], size)
         serve = [self.program, 'serve', '--connections', str(self.rounds + 1)]
         self.asked([serve, [self.bare, 'api.sock', serve[-1], '128']], seed, COUNTS[-1], 'get')
         held = held_in(seed)
-        print(f'| {size} | {self.resident / 1e6:.1f} | {held / 1e6:.1f} | {self.resident / held:.1f} |', flush=True)
+        ratios = f'{self.resident / held:.1f} | {self.most / held:.1f}'
+        print(f'| {size} | {held / 1e6:.1f} | {self.resident / 1e6:.1f} | {self.most / 1e6:.1f} | {ratios} |', flush=True)
 
     def command(self, seed, name, words):
         """The row of a run of the program, against its calls."""
@@ -177,7 +179,7 @@ def main():
         print('\n| Request | Program, us | A bare loop, us | Ratio | Last tenth to first | Resident, MB | Store and image, MB |\n|---|---:|---:|---:|---:|---:|---:|')
         for count, seed in seeds.items():
             bench.gets(seed, count)
-        print('\n| Bytes of each setting | Resident, MB | Store and image, MB | Ratio |\n|---:|---:|---:|---:|')
+        print('\n| Bytes of each setting | Store and image, MB | Resident, MB | At most, MB | Ratio | Ratio at most |\n|---:|---:|---:|---:|---:|---:|')
         for size in SIZES:
             bench.memory(size)
         print('\n| Run | System calls | Program, s | The calls alone, s | Ratio |\n|---|---:|---:|---:|---:|')
