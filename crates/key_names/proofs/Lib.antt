@@ -1,5 +1,9 @@
 pub mod Ties
 pub mod Digits
+pub mod Packed
+pub mod PackedOrder
+pub mod PackedPrefixes
+pub mod Cuts
 pub mod Ascii
 pub mod FileNames
 pub mod Printed

@@ -1,19 +1,14 @@
 -- The printed text of segments, segment by segment.
-use Rattle.std.proofs.Common.{◌≡◌, ◌<◌, ◌≤◌, ◌+◌, ℕ, zero, suc, List, [], ◌∷◌, ◌++◌, true, false, if◌then◌else◌, length, length-append, get_or, refl, sym, ap, subst, arith}
+use Rattle.std.proofs.Common.{◌≡◌, ◌<◌, ◌≤◌, ◌+◌, ℕ, List, [], ◌∷◌, ◌++◌, true, false, if◌then◌else◌, length, length-append, refl, arith}
 use Rattle.std.specs.Prelude.{IsTrue}
-use Rattle.std.specs.List.{flat_map, list_all, sum_by}
-use Rattle.std.proofs.lemmas.Bool.{and_parts, leb-true}
-use Rattle.std.proofs.lemmas.List.{append-nil}
+use Rattle.std.specs.List.{list_all, sum_by}
+use Rattle.std.proofs.lemmas.Bool.{leb-true}
 use Rattle.std.proofs.lemmas.List.Sums.{sum_by-cons, sum_by_push}
 use Rattle.key_names.specs.Segment.{is_bare, quoted, file_name, has_short_name, printed_segment}
 use Rattle.key_names.specs.Key.{printed}
+use Rattle.key_names.specs.Packed.{parts}
 use Rattle.key_names.proofs.FileNames.{length-le-file_name}
-
--- the first printed segment, and a dot and the printed segment for each of the others
-pub printed-cons : (segment : List ℕ) (segments : List (List ℕ)) → printed (segment ∷ segments) ≡ printed_segment segment ++ flat_map (λ s. 46 ∷ printed_segment s) segments
-unfolding printed
-printed-cons segment [] = sym (append-nil (printed_segment segment))
-printed-cons segment (next ∷ segments) = ap (λ text. printed_segment segment ++ 46 ∷ text) (printed-cons next segments)
+use Rattle.key_names.proofs.Packed.{parted}
 
 -- no segments, no text
 pub printed-empty : (segments : List (List ℕ)) → length segments ≡ 0 → printed segments ≡ []
@@ -51,8 +46,14 @@ length-printed_segment segment = elim (list_all is_bare segment) as (λ t. lengt
 pub short_printed : (segment : List ℕ) → IsTrue (has_short_name segment) → length (printed_segment segment) ≤ 129
 short_printed segment short = omega (arith, length-printed_segment segment, length-le-file_name segment, leb-true (length (file_name segment)) 127 short)
 
--- so does each segment of a list with short file names
-pub short_at : (segments : List (List ℕ)) (i : ℕ) (segment : List ℕ) → IsTrue (list_all has_short_name segments) → i < length segments → segment ≡ get_or segments i segment → length (printed_segment segment) ≤ 129
-short_at [] i segment short within is = absurd (omega arith)
-short_at (first ∷ segments) zero segment short within is = short_printed segment (subst (λ s. IsTrue (has_short_name s)) (sym is) (and_parts _ _ short).0)
-short_at (first ∷ segments) (suc i) segment short within is = short_at segments i segment (and_parts (has_short_name first) _ short).1 (omega arith) is
+-- the first printed segment, a dot, and the others
+pub printed-parts : (segment text : List ℕ) → printed (segment ∷ parts text) ≡ printed_segment segment ++ 46 ∷ printed (parts text)
+unfolding printed
+printed-parts segment text =
+    let p = parted text in
+    rw p.is refl
+
+-- one segment is printed alone
+pub printed-one : (segment : List ℕ) → printed (segment ∷ []) ≡ printed_segment segment
+unfolding printed
+printed-one segment = refl

@@ -1,4 +1,5 @@
 pub mod Order
+pub mod Packed
 pub mod Segment
 pub mod Key
 pub mod KeyError

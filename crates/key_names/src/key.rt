@@ -4,6 +4,7 @@ ghost use Rattle.std.specs.List.{list_all};
 ghost use Rattle.std.specs.Ordering.{eq_by_cmp};
 ghost use Rattle.key_names.specs.Order.{key_cmp};
 ghost use Rattle.key_names.specs.Segment.{is_segment};
+ghost use Rattle.key_names.specs.Packed.{parts, segments_of, leads};
 ghost use Rattle.key_names.specs.Key.{fits, is_key, printed, is_prefix, overlaps};
 ghost use Rattle.key_names.specs.Spelling.{SpellsKey};
 ghost use Rattle.key_names.specs.Faults.{Refuses, RefusesChild, IsRead, IsRefused};
@@ -11,8 +12,8 @@ ghost use Rattle.key_names.specs.declared.key_error.KeyFault.{KeyFault};
 ghost use Rattle.key_names.specs.declared.key_error.KeyFault.TheVariants.{Memory};
 
 use crate::limits::child_fault;
+use crate::packed_text::{count, segment_at, with_segment};
 use crate::printing::printed;
-use crate::segment::Segment;
 use crate::spelled::spelled_by;
 use crate::{KeyError, Text};
 use std::alloc::{AllocError, Global};
@@ -25,61 +26,58 @@ use std::rc::Rc;
 /// its copies share their segments.
 #[derive(Debug, Drop)]
 pub struct Key {
-    segments: Rc<Vec<Segment>>,
+    segments: Rc<Text>,
 }
 
 impl Model for Key {
     ghost use Rattle.std.specs.Prelude.{List, ℕ, IsTrue};
     ghost use Rattle.key_names.specs.Key.{is_key};
+    ghost use Rattle.key_names.specs.Packed.{segments_of};
 
     ghost Value = { List (List ℕ) };
 
-    ghost view = { λ k. k.segments.value.items };
+    ghost view = { λ k. segments_of k.segments.value };
 
-    ghost invariant = { λ k. IsTrue (is_key k.segments.value.items) };
+    ghost invariant = { λ k. IsTrue (is_key (segments_of k.segments.value)) };
 }
 
-fn copy_segments(alloc: Global, segments: &[Segment]) -> Result<Vec<Segment>, AllocError>
-    ensures { IfOk result (λ copies. copies.items ≡ segments.now) }
+// Whether a text ends here, or a zero byte stands here.
+fn ends(rest: &[u8]) -> bool
+    ensures { result ≡ leads [] rest.now }
 {
-    let mut copies = Vec::new(alloc);
-    for segment in segments {
-        copies.push(Segment::of(alloc, segment.as_slice())?)?;
+    match rest.first() {
+        Some(b) => *b == 0,
+        None => true,
     }
-    Ok(copies)
 }
 
-// The segments and one more, where the two are a key.
-fn with_segment(
-    segments: &[Segment],
-    alloc: Global,
-    segment: &[u8],
-) -> Result<Vec<Segment>, AllocError>
-    requires { IsTrue (is_segment segment.now) }
-    ensures { IfOk result (λ longer. longer.items ≡ segments.now ++ segment.now ∷ []) }
+// Whether the other text begins with this one, up to its end or a zero byte.
+fn leads(text: &[u8], other: &[u8]) -> bool
+    ensures { result ≡ leads text.now other.now }
 {
-    let mut longer = copy_segments(alloc, segments)?;
-    longer.push(Segment::of(alloc, segment)?)?;
-    Ok(longer)
+    match other.strip_prefix(text) {
+        Some(rest) => ends(rest),
+        None => false,
+    }
 }
 
 impl Key {
-    // The key of these segments, which keeps no room for more.
-    fn of_segments(segments: Vec<Segment>) -> Result<Key, AllocError>
-        requires { IsTrue (is_key segments.items) }
-        ensures { IfOk result (λ key. key ≡ segments.items) }
+    // The key of the segments of the text.
+    fn of_packed(alloc: Global, text: Text) -> Result<Key, AllocError>
+        requires { IsTrue (is_key (segments_of text)) }
+        ensures { IfOk result (λ key. key ≡ segments_of text) }
     {
-        let mut segments = segments;
-        segments.shrink_to_fit();
-        let segments = Rc::new(*segments.allocator(), segments)?;
+        let segments = Rc::new(alloc, text)?;
         Ok(Key { segments })
     }
 
-    fn segments(&self) -> &[Segment]
-        ensures items { result.now ≡ self.now }
+    // Its segments as one text.
+    fn packed(&self) -> &str
+        ensures parts { parts result.now ≡ self.now }
+        ensures segments { segments_of result.now ≡ self.now }
         ensures valid { IsTrue (is_key self.now) }
     {
-        self.segments.as_slice()
+        self.segments.as_str()
     }
 
     // The key that the text spells, or the first fault.
@@ -91,7 +89,7 @@ impl Key {
         let spelled = spelled_by(alloc, text)?;
         match spelled.limit_fault(text) {
             Some(fault) => Err(fault),
-            None => Ok(Key::of_segments(spelled.segments)?),
+            None => Ok(Key::of_packed(alloc, spelled.segments.into_text())?),
         }
     }
 
@@ -117,22 +115,22 @@ impl Key {
         Key::of_text(alloc, text)
     }
 
-    // The key of the segments and one more, or the first fault.
-    fn extended(alloc: Global, segments: &[Segment], segment: &[u8]) -> Result<Key, KeyError>
-        requires valid { IsTrue (list_all is_segment segments.now) }
-        requires fit { IsTrue (fits segments.now) }
-        ensures ok { IfOk result (λ key. key ≡ segments.now ++ segment.now ∷ []) }
+    // The key of the segments of the text and one more, or the first fault.
+    fn extended(alloc: Global, text: &str, segment: &[u8]) -> Result<Key, KeyError>
+        requires valid { IsTrue (list_all is_segment (segments_of text.now)) }
+        requires fit { IsTrue (fits (segments_of text.now)) }
+        ensures ok { IfOk result (λ key. key ≡ segments_of text.now ++ segment.now ∷ []) }
         ensures valid { IfOk result (λ key. IsTrue (is_key key)) }
         ensures refused { IfErr result (λ e. e.kind ≢ Memory
-            → RefusesChild segments.now segment.now e.kind e.place) }
-        ensures exact { (kind : KeyFault) (place : ℕ) → RefusesChild segments.now segment.now kind place
+            → RefusesChild (segments_of text.now) segment.now e.kind e.place) }
+        ensures exact { (kind : KeyFault) (place : ℕ) → RefusesChild (segments_of text.now) segment.now kind place
             → result ≡ Err (record { kind = kind; place = place }) }
     {
-        if let Some(fault) = child_fault(segments, segment) {
+        if let Some(fault) = child_fault(text, segment) {
             return Err(fault);
         }
-        let longer = with_segment(segments, alloc, segment)?;
-        Ok(Key::of_segments(longer)?)
+        let more = with_segment(alloc, text, segment)?;
+        Ok(Key::of_packed(alloc, more)?)
     }
 
     /// The key of one segment. Refused are, in this order: an empty segment (`Empty`); one with a byte
@@ -147,7 +145,7 @@ impl Key {
         ensures exact { (kind : KeyFault) (place : ℕ) → RefusesChild [] segment.now kind place
             → result ≡ Err (record { kind = kind; place = place }) }
     {
-        Key::extended(alloc, &[], segment)
+        Key::extended(alloc, "", segment)
     }
 
     /// The key with one segment more. Refused are, in this order: an empty segment (`Empty`); one with
@@ -162,7 +160,7 @@ impl Key {
         ensures exact { (kind : KeyFault) (place : ℕ) → RefusesChild self.now segment.now kind place
             → result ≡ Err (record { kind = kind; place = place }) }
     {
-        Key::extended(*self.segments.allocator(), self.segments(), segment)
+        Key::extended(self.segments.allocator(), self.packed(), segment)
     }
 
     /// The printed text: the segments joined by dots, in quotes those that hold another byte than bare
@@ -171,25 +169,25 @@ impl Key {
         ensures value { IfOk result (λ text. text ≡ printed self.now) }
         ensures reads_back { IfOk result (λ text. SpellsKey text self.now) }
     {
-        let text = printed(*self.segments.allocator(), self.segments())?;
+        let text = printed(self.segments.allocator(), self.packed())?;
         Ok(Text::of(text))
     }
 
-    /// How many segments it has, from 1 to 32. It takes no memory.
+    /// How many segments it has, from 1 to 32. It takes a pass over them and no memory.
     pub fn len(&self) -> usize
         ensures count { result ≡ length self.now }
         ensures valid { IsTrue (is_key self.now) }
     {
-        self.segments.len()
+        count(self.packed())
     }
 
-    /// The segment at this index, counted from 0. It takes no memory.
+    /// The segment at this index, counted from 0. It costs the segments before it, and no memory.
     pub fn segment(&self, index: usize) -> &[u8]
         requires { index < length self.now }
         ensures bytes { result.now ≡ slice_index_or self.now index [] }
         ensures valid { IsTrue (is_segment result.now) }
     {
-        self.segments()[index].as_slice()
+        segment_at(self.packed(), index).as_bytes()
     }
 
     /// Whether the other key begins with this one's segments, as each key does with its own. It
@@ -197,7 +195,7 @@ impl Key {
     pub fn is_prefix(&self, other: &Key) -> bool
         ensures { result ≡ is_prefix self.now other.now }
     {
-        other.segments().starts_with(self.segments())
+        leads(self.packed().as_bytes(), other.packed().as_bytes())
     }
 
     /// Whether one of the two keys is a prefix of the other. It takes no memory.
@@ -266,6 +264,6 @@ impl Ord for Key {
     ghost matches_eq = { Prim.search (comparing, rules) };
 
     fn cmp(&self, other: &Key) -> Ordering {
-        self.segments().cmp(other.segments())
+        self.packed().cmp(other.packed())
     }
 }

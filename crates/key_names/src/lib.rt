@@ -10,8 +10,9 @@ mod key;
 mod key_error;
 mod limits;
 mod list;
+mod packed_text;
 mod printing;
-mod segment;
+mod segment_list;
 mod spelled;
 mod text;
 

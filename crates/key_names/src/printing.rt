@@ -1,58 +1,40 @@
 //! The printed text of segments.
 ghost use Rattle.std.specs.Prelude.{◌≡◌, ◌≤◌, ◌<◌, ◌+◌, ◌*◌, ◌++◌, ◌∷◌, IfOk, OnOk, IsTrue, length, string_bytes};
 ghost use Rattle.std.specs.List.{list_all, flat_map, sum_by};
-ghost use Rattle.key_names.specs.Segment.{is_quotable, printed_segment, has_short_name};
+ghost use Rattle.key_names.specs.Segment.{is_quotable, is_segment, printed_segment, has_short_name};
+ghost use Rattle.key_names.specs.Packed.{parts, segments_of};
 ghost use Rattle.key_names.specs.Key.{fits, printed};
 
 use crate::characters::are_bare;
-use crate::segment::Segment;
+use crate::packed_text::cut;
 use std::alloc::{AllocError, Global};
 
-fn push_bytes(text: &mut String, bytes: &[u8]) -> Result<(), AllocError>
-    requires { IsTrue (list_all is_quotable bytes.now) }
-    ensures { OnOk result (string_bytes text.new ≡ string_bytes text.old ++ bytes.now) }
-{
-    // they are ASCII, so they are text
-    let bytes = std::str::from_utf8(bytes).unwrap();
-    text.push_str(bytes)
-}
-
-fn push_segment(text: &mut String, segment: &Segment) -> Result<(), AllocError>
+fn push_segment(text: &mut String, segment: &str) -> Result<(), AllocError>
     ensures { OnOk result (string_bytes text.new ≡ string_bytes text.old ++ printed_segment segment.now) }
 {
-    let bytes = segment.as_slice();
-    if are_bare(bytes) {
-        push_bytes(text, bytes)
+    if are_bare(segment.as_bytes()) {
+        text.push_str(segment)
     } else {
         text.push('"')?;
-        push_bytes(text, bytes)?;
+        text.push_str(segment)?;
         text.push('"')
     }
 }
 
-fn push_others(text: &mut String, segments: &[Segment]) -> Result<(), AllocError>
-    ensures { OnOk result (string_bytes text.new
-        ≡ string_bytes text.old ++ flat_map (λ s. 46 ∷ printed_segment s) segments.now) }
+/// The printed parts of a text, joined by dots. The only error is want of memory.
+pub fn printed(alloc: Global, text: &str) -> Result<String, AllocError>
+    ensures { IfOk result (λ out. string_bytes out ≡ printed (parts text.now)) }
 {
-    for segment in segments {
-        text.push('.')?;
-        push_segment(text, segment)?;
+    // so long, where none is in quotes
+    let mut out = String::with_capacity(alloc, text.len())?;
+    let mut rest = text;
+    while let Some((front, back)) = cut(rest) {
+        push_segment(&mut out, front)?;
+        out.push('.')?;
+        rest = back;
     }
-    Ok(())
-}
-
-/// The printed segments, joined by dots. The only error is want of memory.
-pub fn printed(alloc: Global, segments: &[Segment]) -> Result<String, AllocError>
-    requires { IsTrue (fits segments.now) }
-    ensures { IfOk result (λ text. string_bytes text ≡ printed segments.now) }
-{
-    let mut text = String::with_capacity(alloc, dotted_len(segments))?;
-    let Some((first, others)) = segments.split_first() else {
-        return Ok(text);
-    };
-    push_segment(&mut text, first)?;
-    push_others(&mut text, others)?;
-    Ok(text)
+    push_segment(&mut out, rest)?;
+    Ok(out)
 }
 
 /// The length of the printed segment.
@@ -66,27 +48,50 @@ pub fn printed_segment_len(segment: &[u8]) -> usize
     }
 }
 
-/// The length of the printed segments with a dot behind each, where they are few and short enough.
-pub fn dotted_len(segments: &[Segment]) -> usize
-    requires few { length segments.now ≤ 32 }
-    requires short { IsTrue (list_all has_short_name segments.now) }
-    ensures value { result ≡ sum_by (λ s. length (printed_segment s) + 1) segments.now }
+// The length of the printed segment and a dot, where the segment is short enough.
+fn dotted_segment_len(segment: &str) -> usize
+    requires { IsTrue (has_short_name segment.now) }
+    ensures value { result ≡ length (printed_segment segment.now) + 1 }
+    ensures bound { result ≤ 130 }
+{
+    printed_segment_len(segment.as_bytes()) + 1
+}
+
+fn dotted_parts_len(text: &str) -> usize
+    requires few { length (parts text.now) ≤ 32 }
+    requires short { IsTrue (list_all has_short_name (parts text.now)) }
+    ensures value { result ≡ sum_by (λ s. length (printed_segment s) + 1) (parts text.now) }
     ensures bound { result ≤ 130 * 32 }
 {
     let mut len = 0;
-    for segment in segments {
-        len += printed_segment_len(segment.as_slice()) + 1;
+    let mut rest = text;
+    while let Some((front, back)) = cut(rest) {
+        len += dotted_segment_len(front);
+        rest = back;
     }
-    len
+    len + dotted_segment_len(rest)
+}
+
+/// The length of the printed segments of a text with a dot behind each, where they are few and short enough.
+pub fn dotted_len(text: &str) -> usize
+    requires few { length (segments_of text.now) ≤ 32 }
+    requires short { IsTrue (list_all has_short_name (segments_of text.now)) }
+    ensures value { result ≡ sum_by (λ s. length (printed_segment s) + 1) (segments_of text.now) }
+    ensures bound { result ≤ 130 * 32 }
+{
+    if text.is_empty() {
+        return 0;
+    }
+    dotted_parts_len(text)
 }
 
 /// The length of the printed text of segments that are few and short enough.
-pub fn printed_len(segments: &[Segment]) -> usize
-    requires some { 0 < length segments.now }
-    requires few { length segments.now ≤ 32 }
-    requires short { IsTrue (list_all has_short_name segments.now) }
-    ensures { result ≡ length (printed segments.now) }
+pub fn printed_len(text: &str) -> usize
+    requires some { 0 < length (segments_of text.now) }
+    requires few { length (segments_of text.now) ≤ 32 }
+    requires short { IsTrue (list_all has_short_name (segments_of text.now)) }
+    ensures { result ≡ length (printed (segments_of text.now)) }
 {
     // without the last dot
-    dotted_len(segments) - 1
+    dotted_len(text) - 1
 }

@@ -12,7 +12,7 @@ use crate::file_names::has_short_name;
 use crate::head::head_of;
 use crate::limits::{MAX_PRINTED, MAX_SEGMENTS};
 use crate::printing::printed_len;
-use crate::segment::Segment;
+use crate::segment_list::Segments;
 use crate::{KeyError, KeyFault};
 use std::alloc::{AllocError, Global};
 
@@ -20,7 +20,7 @@ use std::alloc::{AllocError, Global};
 #[derive(Drop)]
 pub struct Spelled {
     /// The segments, in the text's order.
-    pub segments: Vec<Segment>,
+    pub segments: Segments,
     /// Where the 33rd of them begins.
     pub surplus: Option<usize>,
     /// Where the first with too long a file name begins.
@@ -49,39 +49,47 @@ fn overlong_with(overlong: Option<usize>, segment: &[u8], start: usize) -> Optio
 
 impl Spelled {
     fn new(alloc: Global) -> Spelled
-        ensures segments { result.segments.items ≡ [] }
+        ensures segments { result.segments ≡ [] }
         ensures surplus { result.surplus ≡ None }
         ensures overlong { result.overlong ≡ None }
     {
         Spelled {
-            segments: Vec::new(alloc),
+            segments: Segments::new(alloc),
             surplus: None,
             overlong: None,
         }
     }
 
     // One segment more, whose spelling begins at `start`.
-    fn push(&mut self, segment: &[u8], start: usize) -> Result<(), AllocError>
+    fn with(self, segment: &[u8], start: usize) -> Result<Spelled, AllocError>
         requires { IsTrue (is_segment segment.now) }
-        ensures segments { OnOk result (self.new.segments.items ≡ self.old.segments.items ++ segment.now ∷ []) }
-        ensures surplus { OnOk result (self.new.surplus
-            ≡ (if length self.old.segments.items == 32 then Some start else self.old.surplus)) }
-        ensures overlong { OnOk result (self.new.overlong
-            ≡ (if is_some self.old.overlong || has_short_name segment.now
-            then self.old.overlong else Some start)) }
+        ensures segments { IfOk result (λ more. more.segments ≡ self.segments ++ segment.now ∷ []) }
+        ensures surplus { IfOk result (λ more. more.surplus
+            ≡ (if length self.segments == 32 then Some start else self.surplus)) }
+        ensures overlong { IfOk result (λ more. more.overlong
+            ≡ (if is_some self.overlong || has_short_name segment.now
+            then self.overlong else Some start)) }
     {
-        let copy = Segment::of(*self.segments.allocator(), segment)?;
-        self.surplus = surplus_with(self.surplus, self.segments.len(), start);
-        self.overlong = overlong_with(self.overlong, segment, start);
-        self.segments.push(copy)?;
-        Ok(())
+        let Spelled {
+            segments,
+            surplus,
+            overlong,
+        } = self;
+        let surplus = surplus_with(surplus, segments.len(), start);
+        let overlong = overlong_with(overlong, segment, start);
+        let segments = segments.with(segment)?;
+        Ok(Spelled {
+            segments,
+            surplus,
+            overlong,
+        })
     }
 
     /// The first limit that the segments break, and its place in the text that spells them.
     pub fn limit_fault(&self, text: &[u8]) -> Option<KeyError>
-        requires spelled { Spells text.now self.now.segments.items }
-        requires marked { AreMarked text.now self.now.segments.items self.now.surplus self.now.overlong }
-        ensures limit { MatchOption result (IsTrue (fits self.now.segments.items))
+        requires spelled { Spells text.now self.now.segments }
+        requires marked { AreMarked text.now self.now.segments self.now.surplus self.now.overlong }
+        ensures limit { MatchOption result (IsTrue (fits self.now.segments))
             (λ e. Refuses text.now e.kind e.place) }
         ensures place { IfSome result (λ e. e.place ≤ length text.now) }
     {
@@ -97,7 +105,7 @@ impl Spelled {
                 place,
             });
         }
-        if printed_len(&self.segments) > MAX_PRINTED {
+        if printed_len(self.segments.as_str()) > MAX_PRINTED {
             return Some(KeyError {
                 kind: KeyFault::TooLong,
                 place: text.len(),
@@ -109,8 +117,8 @@ impl Spelled {
 
 /// The segments that the text spells, or the first fault of its grammar. It takes one pass.
 pub fn spelled_by(alloc: Global, text: &[u8]) -> Result<Spelled, KeyError>
-    ensures spelled { IfOk result (λ s. Spells text.now s.segments.items) }
-    ensures marked { IfOk result (λ s. AreMarked text.now s.segments.items s.surplus s.overlong) }
+    ensures spelled { IfOk result (λ s. Spells text.now s.segments) }
+    ensures marked { IfOk result (λ s. AreMarked text.now s.segments s.surplus s.overlong) }
     ensures refused { IfErr result (λ e. e.kind ≢ Memory → GrammarFault text.now e.kind e.place) }
     ensures place { IfErr result (λ e. e.place ≤ length text.now) }
 {
@@ -127,7 +135,7 @@ pub fn spelled_by(alloc: Global, text: &[u8]) -> Result<Spelled, KeyError>
                 });
             }
         };
-        spelled.push(head.segment, start)?;
+        spelled = spelled.with(head.segment, start)?;
         start += head.len;
         if start == text.len() {
             return Ok(spelled);

@@ -44,6 +44,11 @@ impl Text {
         self.text.as_str()
     }
 
+    /// The allocator that the text keeps.
+    pub(crate) fn allocator(&self) -> Global {
+        *self.text.allocator()
+    }
+
     /// A copy with the same bytes. The only error is want of memory.
     pub fn copy(&self) -> Result<Text, AllocError>
         ensures { IfOk result (λ text. text ≡ self.now) }

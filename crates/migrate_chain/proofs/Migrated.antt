@@ -2,6 +2,7 @@
 use Rattle.std.proofs.Common.{◌≡◌, inl, inr, ◌⊎◌, ℕ, Bool, true, false, ◌&&◌, List, [], ◌∷◌, map, length, Option, Result, Ok, Err, refl, sym, ◌∙◌, ap, subst, codes, arith}
 use Rattle.std.specs.Prelude.{IsTrue, Contains, OnOk, IfErr, IsErrOf, reverse}
 use Rattle.std.specs.List.{list_all}
+use Rattle.std.proofs.lemmas.Result.{IfErr-weaker}
 use Rattle.std.proofs.lemmas.Bool.{false≢true}
 use Rattle.std.proofs.lemmas.List.{length-map, length-reverse, reverse-append}
 use Rattle.std.proofs.lemmas.List.Folds.{list_all_at, list_all-append}
@@ -214,10 +215,6 @@ start_outside old new r starts place led =
     goes_map (IsAtOrSync (IsBelow place.directory)) (IsAtOrSync (IsBelow (codes "store" ∷ []))) old new (λ change here. in_store change (IsBelow place.directory) (dir_in_store (tree_of old) place led) here)
     (touched_since (IsBelow place.directory) old new (starts.sync_first place led))
 
-if_err_map : {T E : Type 0} {P Q : E → Type 0} (r : Result T E) → ((e : E) → P e → Q e) → IfErr r P → IfErr r Q
-if_err_map (Ok v) f p = tt
-if_err_map (Err e) f p = f e p
-
 if_err_all : {T E : Type 0} {P : E → Type 0} (r : Result T E) → ((e : E) → P e) → IfErr r P
 if_err_all (Ok v) f = tt
 if_err_all (Err e) f = f e
@@ -346,13 +343,13 @@ module _ (to : Version) (transitions : List Transition) (migrations : List Named
           let found = starts.found place held 2 store in
           absurd (needed (ap (λ (r : Place). r.version) found.place_is ∙ same) found.format_is);
       not_refused = noted;
-      kept = if_err_map result (λ e kept other place held format settled store.
+      kept = IfErr-weaker result _ _ (λ e kept other place held format settled store.
           let found = starts.found place held format store in
           for_found (λ q h f. EachSince (HasStore q h f) old new) start place held format found
           (since_joined (HasStore start.place start.held start.format) old mid new
           (keeps_since (Ok start) old mid starts start.place start.held start.format settled (back_found (λ q h f. HasStore q h f (tree_of old)) start place held format found store))
           (kept other (hand old mid starts.ready)))) along.kept;
-      ended = if_err_map result (λ e end place held format store. record {
+      ended = IfErr-weaker result _ _ (λ e end place held format store. record {
         ended = inr (
           way,
           for_found (λ q h f. IsWay transitions q.version to way) start place held format (starts.found place held format store) is_way,

@@ -2,6 +2,7 @@
 use Rattle.std.proofs.Common.{◌≡◌, ◌≢◌, List, [], ◌∷◌, ◌++◌, append_assoc, refl, sym, ap, ◌∙◌, subst}
 use Rattle.std.specs.Prelude.{Result, Ok, Err}
 use Rattle.std.specs.Result.{IfErr}
+use Rattle.json_trees.proofs.Parting.{AllByRecursion-append}
 use Rattle.model_file.specs.Rows.{RowTexts}
 use Rattle.model_file.specs.Checks.{Check, Holds, kind_of, path_of, IsFirstFailing}
 use Rattle.model_file.specs.Refused.{Passes, Refuses, IsAt}
@@ -10,8 +11,7 @@ use Rattle.model_file.specs.declared.refusal.Refusal.TheVariants.{Fault, Memory}
 
 -- All of two lists hold.
 pub passes_both : (rows : RowTexts) (xs ys : List Check) → Passes rows xs → Passes rows ys → Passes rows (xs ++ ys)
-passes_both rows [] ys front back = back
-passes_both rows (x ∷ xs) ys front back = (front.0, passes_both rows xs ys front.1 back)
+passes_both rows = AllByRecursion-append (Holds rows)
 
 -- What is the first to fail in a list is so with others behind it.
 pub failing_before : (rows : RowTexts) (xs ys : List Check) (c : Check) → IsFirstFailing rows xs c → IsFirstFailing rows (xs ++ ys) c

@@ -8,7 +8,7 @@ use Rattle.typed_settings.specs.declared.row.Row.{Row}
 use Rattle.model_file.specs.Rows.{RowTexts}
 use Rattle.model_file.specs.Checks.{test, typed, value_checks, IsTaken}
 use Rattle.model_file.specs.Entries.{Path, is_fit, scalar_found}
-use Rattle.model_file.specs.Refused.{Refuses, IsAt}
+use Rattle.model_file.specs.Refused.{Passes, Refuses, IsAt}
 use Rattle.model_file.specs.declared.found.Found.{Found}
 use Rattle.model_file.specs.declared.found.Found.TheVariants as found
 use Rattle.model_file.specs.declared.model_error.ModelKind.TheVariants.{BadKey, BadValue, IllTyped}
@@ -29,6 +29,10 @@ module _ (rows : RowTexts) (name : List ℕ) (entry : Path × Found) where
       (refuses_first rows (test (is_fit entry.1) BadValue (name ∷ entry.0)) (typed (name ∷ entry.0) entry.1 ∷ []) e (λ fit. both_ways (is_fit entry.1) (ap is_fit is) fit) at)
 
   module _ (table : List Row) (of_rows : IsTableOf rows table) (value : Scalar) (key : is_key (name ∷ entry.0) ≡ true) (is : entry.1 ≡ found.Value value) where
+    -- A scalar that the types take passes.
+    pub value_passes : (k : Path) → k ≡ name ∷ entry.0 → IsTyped table k value → Passes rows (value_checks name entry)
+    value_passes k same taken = (key, (ap is_fit is, (subst (λ (f : Found). IsTaken rows (name ∷ entry.0) (scalar_found f)) (sym is) (table, of_rows, subst (λ (q : Path). IsTyped table q value) same taken), tt)))
+
     -- A scalar that the types don't take is refused.
     pub value_refuses : (e : Refusal) (k : Path) → k ≡ name ∷ entry.0 → (e ≢ Memory → IsTyped table k value → ⊥) → IsAt IllTyped (name ∷ entry.0) e → Refuses rows (value_checks name entry) e
     value_refuses e k same fails at =

@@ -1,7 +1,6 @@
 -- The first check that fails, in lists that are joined.
 use Rattle.std.proofs.Common.{◌≡◌, ◌≢◌, List, [], ◌∷◌, ◌++◌, append_assoc, refl, sym, ap, ◌∙◌, subst}
-use Rattle.std.specs.Prelude.{Result, Ok, Err}
-use Rattle.std.specs.Result.{IfErr}
+use Rattle.json_trees.proofs.Parting.{AllByRecursion-append}
 use Rattle.release_file.specs.Checks.{Check, Holds, fault_of, name_of, IsFirstFailing}
 use Rattle.release_file.specs.Refused.{Passes, Refuses, IsAt}
 use Rattle.release_file.specs.declared.refusal.Refusal.{Refusal}
@@ -9,8 +8,7 @@ use Rattle.release_file.specs.declared.refusal.Refusal.TheVariants.{Fault, Memor
 
 -- All of two lists hold.
 pub passes_both : (xs ys : List Check) → Passes xs → Passes ys → Passes (xs ++ ys)
-passes_both [] ys front back = back
-passes_both (x ∷ xs) ys front back = (front.0, passes_both xs ys front.1 back)
+passes_both = AllByRecursion-append Holds
 
 -- All of the second hold where all of both do.
 pub passes_behind : (xs ys : List Check) → Passes (xs ++ ys) → Passes ys
@@ -76,10 +74,3 @@ one_fails all c d one two = by one.before two.before one.after two.after (sym on
     by [] (y ∷ ys) after other same front back = let is : c ≡ y = cc in absurd (one.fails (subst (Holds) (sym is) back.0))
     by (x ∷ xs) [] after other same front back = let is : x ≡ d = cc in absurd (two.fails (subst (Holds) is front.0))
     by (x ∷ xs) (y ∷ ys) after other same front back = let rest : xs ++ c ∷ after ≡ ys ++ d ∷ other = cc in by xs ys after other rest front.1 back.1
-
--- ---- results of calls
-
--- What two clauses say of an error.
-pub both_err : {T : Type 0} (r : Result T Refusal) (P Q R : Refusal → Type 0) → ((e : Refusal) → P e → Q e → R e) → IfErr r P → IfErr r Q → IfErr r R
-both_err (Ok x) P Q R by p q = tt
-both_err (Err e) P Q R by p q = by e p q

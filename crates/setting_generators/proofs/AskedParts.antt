@@ -270,3 +270,11 @@ none_asked told ps none stays = rw none (record { questions = []; told = moves_m
 -- At last all were.
 pub all_asked : (live : Contents) (xs : List Generator) (whole : List Given) (i : ℕ) (a b : Option (List Question)) (o : Generated) → length xs ≤ i → map seen xs ≡ whole → Asks (wanted live (map seen (take i xs))) a b o → Asks (wanted live whole) a b o
 all_asked live xs whole i a b o done is so_far = subst (λ (l : List Given). Asks (wanted live l) a b o) (ap (map seen) (take_all i xs done) ∙ is) so_far
+
+-- What a refusal says of the count of faults, it says where it is handed on.
+pub fails_handed : {T U : Type 0} (before now : ℕ) (e : GenerateError) → FailsBy {T = T} before now (Err e) → FailsBy {T = U} before now (Err e)
+fails_handed before now e fails = record {
+  later = fails.later;
+  failed = λ key is. let same : e ≡ Failed key = cc in fails.failed key (ap Err same);
+  kept = λ other. fails.kept (λ key is. let same : e ≡ Failed key = cc in other key (ap Err same));
+}

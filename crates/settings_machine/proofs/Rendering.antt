@@ -1,6 +1,6 @@
 -- What the program renders is what the machine renders.
-use Rattle.std.proofs.Common.{◌≡◌, ℕ, if◌then◌else◌, List, [], ◌∷◌, ◌++◌, Option, Some, None, Result, Ok, Err, refl, sym, ◌∙◌, ap, subst}
-use Rattle.std.specs.Prelude.{unwrap_or, IfOk, IfErr}
+use Rattle.std.proofs.Common.{◌≡◌, ℕ, if◌then◌else◌, List, [], ◌∷◌, ◌++◌, Option, Some, None, Ok, refl, sym, ◌∙◌, ap, subst}
+use Rattle.std.specs.Prelude.{unwrap_or}
 use Rattle.std.specs.Option.{option_map}
 use Rattle.std.specs.FinMap.{get}
 use Rattle.settings_tree.specs.Content.{Contents}
@@ -39,11 +39,3 @@ nothing_is I templates holds f none live = by (get I.templates f) refl (sym none
   by : (o : Option Source) → get I.templates f ≡ o → None ≡ option_map (λ s. s.text) o → render live I.os (source_of I f).text (source_of I f).tree None ≡ Ok []
   by None at e = ap (λ (o : Option Source). render live I.os (unwrap_or o no_source).text (unwrap_or o no_source).tree None) at
   by (Some s) at e = absurd (cc e)
-
-pub if_ok_more : {X Y : Type 0} (r : Result X Y) (P Q : X → Type 0) → ((x : X) → P x → Q x) → IfOk r P → IfOk r Q
-if_ok_more (Ok x) P Q more p = more x p
-if_ok_more (Err e) P Q more p = tt
-
-pub if_err_more : {X Y : Type 0} (r : Result X Y) (P Q : Y → Type 0) → ((y : Y) → P y → Q y) → IfErr r P → IfErr r Q
-if_err_more (Ok x) P Q more p = tt
-if_err_more (Err e) P Q more p = more e p

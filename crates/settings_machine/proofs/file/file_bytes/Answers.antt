@@ -1,9 +1,10 @@
 use Rattle.std.proofs.Common.{◌≡◌, ℕ, List, Ok, sym, ◌∙◌, ap}
+use Rattle.std.proofs.lemmas.Result.{IfOk-weaker, IfErr-weaker}
 use Rattle.template_eval.specs.Rendered.{Rendered}
 use Rattle.template_reader.specs.Forest.{tree_in}
 use Rattle.template_reader.specs.Kept as kept
 use Rattle.template_reader.proofs.Sources.{source_spans}
-use Rattle.settings_machine.proofs.Rendering.{nothing_is, rendered_is, if_ok_more, if_err_more}
+use Rattle.settings_machine.proofs.Rendering.{nothing_is, rendered_is}
 use Rattle.settings_machine.proofs.file.file_bytes.Goals as goal
 
 pub returns-in_default-clause-ok : goal.returns-in_default-clause-ok
@@ -19,14 +20,14 @@ pub render-requires : goal.render-requires
 render-requires c = source_spans _ _ c.in-Some.ensures.template
 
 pub returns-clause-ok : goal.returns-clause-ok
-returns-clause-ok c = if_ok_more c.render.result _ _ (λ out is. record {
+returns-clause-ok c = IfOk-weaker c.render.result _ _ (λ out is. record {
   renders = λ I holds os. sym (rendered_is I c.args.templates.now holds c.args.os.now os c.args.file.now c.in-Some.parsed.source.now
       (tree_in c.in-Some.parsed.template.now.nodes) (ap (kept.source_of c.args.templates.now) (sym (c.as_bytes.ensures.value ∙ c.as_str.ensures))
       ∙ c.in-Some.ensures.source) c.in-Some.ensures.template c.args.live.now) ∙ is;
 }) c.render.ensures.ok
 
 pub returns-clause-err : goal.returns-clause-err
-returns-clause-err c = if_err_more c.render.result _ _ (λ e is other. record {
+returns-clause-err c = IfErr-weaker c.render.result _ _ (λ e is other. record {
   renders = λ I holds os. sym (rendered_is I c.args.templates.now holds c.args.os.now os c.args.file.now c.in-Some.parsed.source.now
       (tree_in c.in-Some.parsed.template.now.nodes) (ap (kept.source_of c.args.templates.now) (sym (c.as_bytes.ensures.value ∙ c.as_str.ensures))
       ∙ c.in-Some.ensures.source) c.in-Some.ensures.template c.args.live.now) ∙ is other;

@@ -1,14 +1,14 @@
 use Rattle.std.proofs.Common.{refl, ap}
 use Rattle.settings_tree.specs.declared.held.Held.{Held}
 use Rattle.settings_machine.specs.Step.{with_held}
-use Rattle.settings_machine.proofs.Rendering.{if_ok_more}
+use Rattle.std.proofs.lemmas.Result.{IfOk-weaker}
 use Rattle.plain_machine.specs.Worlds.{world_of}
 use Rattle.std.proofs.lemmas.Result.{on_err_weaker}
 use Rattle.plain_machine.proofs.RequestsAnswered.{asked_drop}
 use Rattle.plain_machine.proofs.machine.PlainMachine.drop_tx.Goals as goal
 
 pub returns-clause-asked : goal.returns-clause-asked
-returns-clause-asked c = if_ok_more c.drop_tx.result _ _ (λ keys a. asked_drop c.args.image.now c.args.self.now _ c.args.tx.now _ a refl) c.drop_tx.ensures.answered
+returns-clause-asked c = IfOk-weaker c.drop_tx.result _ _ (λ keys a. asked_drop c.args.image.now c.args.self.now _ c.args.tx.now _ a refl) c.drop_tx.ensures.answered
 
 pub returns-clause-unchanged : goal.returns-clause-unchanged
 returns-clause-unchanged c = on_err_weaker c.drop_tx.result (λ same. ap (λ (h : Held). with_held (world_of c.args.self.now) h) same) c.drop_tx.ensures.unchanged

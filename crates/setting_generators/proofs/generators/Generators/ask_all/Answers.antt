@@ -1,7 +1,7 @@
 use Rattle.std.proofs.Common.{◌≡◌, ◌<◌, ◌∙◌, length, arith, map, ap, rules}
 use Rattle.std.proofs.lemmas.Result.{err_from_is_err_and}
 use Rattle.setting_generators.specs.Generators.{seen}
-use Rattle.setting_generators.proofs.AskedParts.{asked_more, all_refused}
+use Rattle.setting_generators.proofs.AskedParts.{asked_more, all_refused, fails_handed}
 use Rattle.setting_generators.proofs.generators.Generators.ask_all.Goals as goal
 
 pub returns-in_err-ask_wanted-clause-asked : goal.returns-in_err-ask_wanted-clause-asked
@@ -21,3 +21,8 @@ loop-generator-preserved g c =
       ran = search rules;
       kept = search rules;
     }
+
+pub returns-in_err-ask_wanted-clause-cause : goal.returns-in_err-ask_wanted-clause-cause
+returns-in_err-ask_wanted-clause-cause g c =
+    let p = err_from_is_err_and c.from_residual.result c.from_residual.ensures.1 in
+    rw (p.1, p.2) (fails_handed _ _ _ (rw c.loop-generator.invariant.kept at c.in_err-ask_wanted.ensures.cause))
