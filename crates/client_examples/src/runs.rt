@@ -1,5 +1,6 @@
 //! Runs of the client, and what came of them.
 use disk_memory::{Input, MemoryLink, MemorySink};
+use example_texts::words_of;
 use host_client::run_client;
 use std::alloc::{AllocError, Global};
 use std::test::Fail;
@@ -14,14 +15,6 @@ pub struct Run {
     pub status: u8,
     pub link: MemoryLink,
     pub out: MemorySink,
-}
-
-fn words_of(alloc: Global, line: &str) -> Result<Vec<String>, AllocError> {
-    let mut words = Vec::new(alloc);
-    for word in line.split('|') {
-        words.push(String::from_str(alloc, word)?)?;
-    }
-    Ok(words)
 }
 
 /// The input that is these bytes, in one piece.
@@ -42,7 +35,7 @@ pub fn run_over(
     mut link: MemoryLink,
     mut out: MemorySink,
 ) -> Result<Run, AllocError> {
-    let words = words_of(alloc, line)?;
+    let words = words_of(alloc, line, '|')?;
     let status = run_client(alloc, &words, &mut link, &mut out);
     Ok(Run { status, link, out })
 }

@@ -2,6 +2,7 @@
 use api_http::Ask;
 use disk_memory::{Input, MemoryDoor};
 use door_requests::{Heard, hear, say};
+use example_texts::same;
 use outside::Door;
 use std::alloc::{AllocError, Global};
 use std::test::Fail;
@@ -44,7 +45,9 @@ fn heard(alloc: Global, input: Input) -> Result<&'static str, Fail> {
 }
 
 // The first bytes, the number of the read that fails, and what they come to.
-fn rows() -> [(usize, Option<u64>, &'static str); 7] {
+type Row = (usize, Option<u64>, &'static str);
+
+fn rows() -> [Row; 7] {
     [
         (75, None, "patch"),
         (74, None, "patch"),
@@ -56,15 +59,20 @@ fn rows() -> [(usize, Option<u64>, &'static str); 7] {
     ]
 }
 
+// A connection of these bytes, in one piece or a byte at a time.
+fn comes_to(alloc: Global, row: Row, whole: bool) -> Result<(), Fail> {
+    let (size, read_fails, word) = row;
+    let mut input = input(alloc, PATCH.get(..size).unwrap_or(&[]), whole)?;
+    input.read_fails = read_fails;
+    same(heard(alloc, input)?, word, "the connection")
+}
+
 #[test]
 fn requests_come_in_any_pieces(rt: HostRuntime) -> Result<(), Fail> {
     let alloc = rt.alloc();
-    for (size, read_fails, word) in rows() {
-        for whole in [false, true] {
-            let mut input = input(alloc, PATCH.get(..size).unwrap_or(&[]), whole)?;
-            input.read_fails = read_fails;
-            assert!(rt; heard(alloc, input)? == word);
-        }
+    for row in rows() {
+        comes_to(alloc, row, false)?;
+        comes_to(alloc, row, true)?;
     }
     let refused = input(alloc, b"GET /none HTTP/1.1\r\n\r\n", false)?;
     assert!(rt; heard(alloc, refused)? == "refused");

@@ -1,5 +1,6 @@
 //! Files of a disk in memory.
-use disk_memory::MemoryDisk;
+use crate::texts::same;
+use disk_memory::{MemoryDisk, Node};
 use outside::{Disk, Path};
 use std::alloc::Global;
 use std::test::Fail;
@@ -9,4 +10,15 @@ pub fn put(alloc: Global, disk: &mut MemoryDisk, path: &str, bytes: &str) -> Res
     let path = Path::read(alloc, path.as_bytes())?;
     disk.replace(&path, bytes.as_bytes())?;
     Ok(())
+}
+
+/// The file at the path holds these bytes. It fails where the text is no path, and where other bytes or no file stand there.
+pub fn holds(alloc: Global, disk: &MemoryDisk, path: &str, bytes: &str) -> Result<(), Fail> {
+    match disk.node(&Path::read(alloc, path.as_bytes())?) {
+        Some(Node::File(held)) => {
+            let held = String::from_utf8_lossy(alloc, held.as_slice())?;
+            same(held.as_str(), bytes, path)
+        }
+        _ => same("no file", bytes, path),
+    }
 }

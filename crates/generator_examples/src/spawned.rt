@@ -65,13 +65,11 @@ fn listed(alloc: Global, pairs: &[(Key, Scalar)]) -> Result<String, AllocError> 
     Ok(text)
 }
 
-fn push_asked(text: &mut String, asked: &[Question]) -> Result<(), AllocError> {
+fn push_asked(alloc: Global, text: &mut String, asked: &[Question]) -> Result<(), AllocError> {
     for question in asked {
         text.push('?')?;
-        for word in &question.words {
-            text.push_str(word.as_str())?;
-            text.push(' ')?;
-        }
+        text.push_str(question.words.join(alloc, " ")?.as_str())?;
+        text.push(' ')?;
     }
     Ok(())
 }
@@ -85,6 +83,6 @@ pub fn given(alloc: Global, key: &str, answers: Vec<Option<Answer>>) -> Result<S
         Ok(pairs) => listed(alloc, &pairs)?,
         Err(error) => refusal(alloc, &error)?,
     };
-    push_asked(&mut text, spawner.asked())?;
+    push_asked(alloc, &mut text, spawner.asked())?;
     Ok(text)
 }

@@ -1,11 +1,6 @@
 -- What the words of the command line ask for.
-use Rattle.std.specs.Prelude.{◌≡◌, ℕ, true, List, [], ◌∷◌, map, String, string_bytes, Option, Some, None}
-use Rattle.std.specs.declared.alloc.Global.{Global}
+use Rattle.std.specs.Prelude.{◌≡◌, ℕ, true, List, [], ◌∷◌, Option, Some, None}
 use Rattle.host_client.specs.Question.{is_question}
-
--- The bytes of each word.
-abbrev pub texts : List (String Global) → List (List ℕ)
-texts words = map (λ w. string_bytes w) words
 
 -- The words METHOD, TARGET and, where it is given, BODY.
 abbrev pub words_of : List ℕ → List ℕ → Option (List ℕ) → List (List ℕ)

@@ -4,7 +4,8 @@ ghost use Rattle.outside.specs.Told.{Moves};
 ghost use Rattle.outside.specs.Faults.{Rose, HasCauseOf};
 ghost use Rattle.host_client.specs.Exchanges.{IsSentInPart, IsAnswered, IsAnsweredBadly, IsAnsweredAtLength};
 ghost use Rattle.sink_text.specs.Said.{IsSaid};
-ghost use Rattle.host_client.specs.Words.{texts, AsksNothing};
+ghost use Rattle.outside.specs.Spawner.{texts};
+ghost use Rattle.host_client.specs.Words.{AsksNothing};
 ghost use Rattle.host_client.specs.Ended.{Asks, IsDone, IsRefused, IsBad, IsTooLong, IsCutOff, IsMisused, IsCutShort};
 
 use crate::exchange::ask;

@@ -1,7 +1,8 @@
 //! The words of the command line are read.
 ghost use Rattle.std.specs.Prelude.{◌≡◌, ◌≢◌, ℕ, List, Option, MatchOption};
 ghost use Rattle.std.specs.Option.{option_copied};
-ghost use Rattle.host_client.specs.Words.{texts, words_of, AsksFor, AsksNothing};
+ghost use Rattle.outside.specs.Spawner.{texts};
+ghost use Rattle.host_client.specs.Words.{words_of, AsksFor, AsksNothing};
 
 use crate::question::is_question;
 

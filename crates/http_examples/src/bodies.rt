@@ -1,5 +1,6 @@
 //! Bodies: trees of settings, and what is no tree.
 use crate::requests::{head, reads};
+use example_texts::nested;
 use std::alloc::{AllocError, Global};
 use std::test::Fail;
 
@@ -65,25 +66,12 @@ fn refuses_other_bodies(rt: HostRuntime) -> Result<(), Fail> {
     Ok(())
 }
 
-// So many objects, one in another.
-fn nested(alloc: Global, depth: usize) -> Result<String, AllocError> {
-    let mut body = String::new(alloc);
-    for _ in 0..depth {
-        body.push_str("{\"a\":")?;
-    }
-    body.push('1')?;
-    for _ in 0..depth {
-        body.push('}')?;
-    }
-    Ok(body)
-}
-
 // A key has 32 segments at most, and the first is `settings`.
 #[test]
 fn refuses_deep_bodies(rt: HostRuntime) -> Result<(), Fail> {
-    let deep = nested(rt.alloc(), 128)?;
+    let deep = nested(rt.alloc(), 128, "{\"a\":", "1", "}")?;
     body_reads(rt.alloc(), deep.as_str(), "body")?;
-    let deep = nested(rt.alloc(), 32)?;
+    let deep = nested(rt.alloc(), 32, "{\"a\":", "1", "}")?;
     body_reads(rt.alloc(), deep.as_str(), "body")
 }
 

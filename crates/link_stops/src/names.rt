@@ -12,6 +12,12 @@ fn reads_and_shows_versions(rt: HostRuntime) -> Result<(), Fail> {
             assert_eq!(rt; format!(in alloc; "{version}")?.as_str(), text);
         }
     }
+    Ok(())
+}
+
+#[test]
+fn refuses_what_is_no_version(rt: HostRuntime) -> Result<(), Fail> {
+    let alloc = rt.alloc();
     for text in [
         "",
         "1.5",

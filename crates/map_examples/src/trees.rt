@@ -1,5 +1,5 @@
 //! JSON trees as pairs of keys and scalars, and back.
-use example_texts::{answers, key};
+use example_texts::{answers, key, nested};
 use json_trees::{Scalar, TreeError, flatten, flatten_patch, nest, nest_pending};
 use key_names::{Key, Text};
 use std::alloc::{AllocError, Global};
@@ -60,19 +60,11 @@ fn refuses_trees(rt: HostRuntime) -> Result<(), Fail> {
 }
 
 // The text of this many objects in one another, with a value in the innermost.
-fn deep_text(alloc: Global, depth: u64) -> Result<String, AllocError> {
-    let mut text = String::new(alloc);
-    for _ in 0..depth {
-        text.push_str("{\"a\":")?;
-    }
-    text.push('1')?;
-    for _ in 0..depth {
-        text.push('}')?;
-    }
-    Ok(text)
+fn deep_text(alloc: Global, depth: usize) -> Result<String, AllocError> {
+    nested(alloc, depth, "{\"a\":", "1", "}")
 }
 
-fn is_refused_at(alloc: Global, depth: u64, wanted: &str) -> Result<(), Fail> {
+fn is_refused_at(alloc: Global, depth: usize, wanted: &str) -> Result<(), Fail> {
     let text = deep_text(alloc, depth)?;
     answers(tree(alloc, text.as_str()), wanted, wanted)
 }
@@ -80,7 +72,7 @@ fn is_refused_at(alloc: Global, depth: u64, wanted: &str) -> Result<(), Fail> {
 // A key has 32 names at most, and `serde_json` reads 127 levels. What is no JSON is that at any length.
 #[test]
 fn refuses_what_is_too_deep(rt: HostRuntime) -> Result<(), Fail> {
-    let rows: &[(u64, &str)] = &[
+    let rows: &[(usize, &str)] = &[
         (33, "BadKey"),
         (127, "BadKey"),
         (128, "NotJson"),

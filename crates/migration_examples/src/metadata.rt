@@ -3,9 +3,9 @@ use crate::rows::{Row, SAME, makes};
 use crate::words::{added_name, removed_name, replaced_name};
 use std::test::Fail;
 
-const BOTH: &str = r#""meta":[["a","m",1],["a","n",2]]"#;
+const BOTH: &str = r#"meta:[["a","m",1],["a","n",2]]"#;
 
-const OTHER: &str = r#""meta":[["a","n",2]]"#;
+const OTHER: &str = r#"meta:[["a","n",2]]"#;
 
 #[test]
 fn adds_metadata(rt: HostRuntime) -> Result<(), Fail> {
@@ -23,9 +23,9 @@ fn removes_metadata(rt: HostRuntime) -> Result<(), Fail> {
 fn replaces_metadata(rt: HostRuntime) -> Result<(), Fail> {
     let replaced = replaced_name(rt.alloc(), "a", "m", 1, 3);
     let rows: &[Row] = &[
-        (r#""meta":[["a","m",1]]"#, r#""meta":[["a","m",3]]"#, SAME),
-        (r#""meta":[["a","m",3]]"#, SAME, r#""meta":[["a","m",1]]"#),
-        (r#""meta":[["a","m",2]]"#, SAME, SAME),
+        (r#"meta:[["a","m",1]]"#, r#"meta:[["a","m",3]]"#, SAME),
+        (r#"meta:[["a","m",3]]"#, SAME, r#"meta:[["a","m",1]]"#),
+        (r#"meta:[["a","m",2]]"#, SAME, SAME),
     ];
     makes(rt.alloc(), replaced, rows)
 }

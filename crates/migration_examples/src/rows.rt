@@ -1,5 +1,5 @@
 //! What a migration makes of what is held, each way.
-use example_texts::same;
+use example_texts::{held_text, same};
 use held_text::HeldText;
 use key_names::{Key, Text};
 use migrate_helpers::{MapError, Mapping, Migration};
@@ -13,29 +13,6 @@ pub type Row = (&'static str, &'static str, &'static str);
 
 /// What is held stays.
 pub const SAME: &str = "same";
-
-// The value of the member: an empty list, where it is left out.
-fn value_of<'a>(members: &'a str, member: &str) -> &'a str {
-    match members.split_once(member) {
-        Some((_, rest)) => match rest.split_once(' ') {
-            Some((value, _)) => value,
-            None => rest,
-        },
-        None => "[]",
-    }
-}
-
-// The held text of the members, beside an image.
-fn held_text(alloc: Global, members: &str) -> Result<String, AllocError> {
-    let live = value_of(members, "\"live\":");
-    let meta = value_of(members, "\"meta\":");
-    let owed = value_of(members, "\"owed\":");
-    let pending = value_of(members, "\"pending\":");
-    let weak = value_of(members, "\"weak\":");
-    format!(in alloc;
-        "{{\"image\":\"aGVsbG8=\",\"live\":{live},\"meta\":{meta},\"owed\":{owed},\"pending\":{pending},\"weak\":{weak}}}"
-    )
-}
 
 fn held(alloc: Global, members: &str) -> Result<Held, Fail> {
     let text = held_text(alloc, members)?;

@@ -6,16 +6,16 @@ use std::test::Fail;
 
 #[test]
 fn does_nothing(rt: HostRuntime) -> Result<(), Fail> {
-    let held = r#""live":[["settings.a",1]] "owed":["settings.a"] "weak":["settings.a"]"#;
+    let held = r#"live:[["settings.a",1]] owed:["settings.a"] weak:["settings.a"]"#;
     makes(rt.alloc(), Ok(Migration::NoOp), &[(held, SAME, SAME)])
 }
 
 #[test]
 fn adds_settings(rt: HostRuntime) -> Result<(), Fail> {
     let rows: &[Row] = &[(
-        r#""live":[["settings.a",1],["settings.b",2]] "weak":["settings.b"]"#,
+        r#"live:[["settings.a",1],["settings.b",2]] weak:["settings.b"]"#,
         SAME,
-        r#""live":[["settings.a",1]]"#,
+        r#"live:[["settings.a",1]]"#,
     )];
     makes(rt.alloc(), added(keys(rt.alloc(), "settings.b")), rows)
 }
@@ -23,9 +23,9 @@ fn adds_settings(rt: HostRuntime) -> Result<(), Fail> {
 #[test]
 fn adds_prefixes(rt: HostRuntime) -> Result<(), Fail> {
     let rows: &[Row] = &[(
-        r#""live":[["settings.n.a",1],["settings.nd",2]] "owed":"all" "weak":["settings.n.a"]"#,
+        r#"live:[["settings.n.a",1],["settings.nd",2]] owed:"all" weak:["settings.n.a"]"#,
         SAME,
-        r#""live":[["settings.nd",2]] "owed":"all""#,
+        r#"live:[["settings.nd",2]] owed:"all""#,
     )];
     makes(
         rt.alloc(),
@@ -38,7 +38,7 @@ fn adds_prefixes(rt: HostRuntime) -> Result<(), Fail> {
 #[test]
 fn removes_settings(rt: HostRuntime) -> Result<(), Fail> {
     let rows: &[Row] = &[(
-        r#""live":[["settings.a",1]] "pending":[["t",[["settings.a",null]]]] "weak":["settings.a"]"#,
+        r#"live:[["settings.a",1]] pending:[["t",[["settings.a",null]]]] weak:["settings.a"]"#,
         "",
         SAME,
     )];
@@ -50,12 +50,12 @@ fn removes_settings(rt: HostRuntime) -> Result<(), Fail> {
 fn replaces_strings(rt: HostRuntime) -> Result<(), Fail> {
     let rows: &[Row] = &[
         (
-            r#""live":[["a","x"]] "pending":[["t",[["a","y"]]]]"#,
-            r#""live":[["a","y"]] "pending":[["t",[["a","y"]]]]"#,
-            r#""live":[["a","x"]] "pending":[["t",[["a","x"]]]]"#,
+            r#"live:[["a","x"]] pending:[["t",[["a","y"]]]]"#,
+            r#"live:[["a","y"]] pending:[["t",[["a","y"]]]]"#,
+            r#"live:[["a","x"]] pending:[["t",[["a","x"]]]]"#,
         ),
         (
-            r#""live":[["a",["x"]]] "pending":[["t",[["a",null]]]]"#,
+            r#"live:[["a",["x"]]] pending:[["t",[["a",null]]]]"#,
             SAME,
             SAME,
         ),
@@ -68,18 +68,18 @@ fn replaces_strings(rt: HostRuntime) -> Result<(), Fail> {
 fn renames_settings(rt: HostRuntime) -> Result<(), Fail> {
     let rows: &[Row] = &[
         (
-            r#""live":[["settings.a",1],["settings.b",2]] "weak":["settings.a"]"#,
-            r#""live":[["settings.b",1]] "weak":["settings.b"]"#,
-            r#""live":[["settings.a",2]]"#,
+            r#"live:[["settings.a",1],["settings.b",2]] weak:["settings.a"]"#,
+            r#"live:[["settings.b",1]] weak:["settings.b"]"#,
+            r#"live:[["settings.a",2]]"#,
         ),
         (
-            r#""pending":[["t",[["settings.a",1],["settings.b",null]]]]"#,
-            r#""pending":[["t",[["settings.b",1]]]]"#,
-            r#""pending":[["t",[["settings.a",null]]]]"#,
+            r#"pending:[["t",[["settings.a",1],["settings.b",null]]]]"#,
+            r#"pending:[["t",[["settings.b",1]]]]"#,
+            r#"pending:[["t",[["settings.a",null]]]]"#,
         ),
         (
-            r#""live":[["settings.w",1]] "weak":["settings.w"]"#,
-            r#""live":[["w",1]]"#,
+            r#"live:[["settings.w",1]] weak:["settings.w"]"#,
+            r#"live:[["w",1]]"#,
             SAME,
         ),
     ];
@@ -96,15 +96,15 @@ fn renames_settings(rt: HostRuntime) -> Result<(), Fail> {
 fn renames_in_order(rt: HostRuntime) -> Result<(), Fail> {
     let rows: &[Row] = &[
         (
-            r#""live":[["a",1],["c.d",3]]"#,
-            r#""live":[["c.d",1]]"#,
-            r#""live":[["a",3]]"#,
+            r#"live:[["a",1],["c.d",3]]"#,
+            r#"live:[["c.d",1]]"#,
+            r#"live:[["a",3]]"#,
         ),
-        (r#""live":[["a",1],["c",2]]"#, "conflict c", SAME),
-        (r#""pending":[["t",[["a",1],["c",2]]]]"#, "conflict c", SAME),
-        (r#""live":[["a.x",1],["c.d",2]]"#, SAME, "conflict a"),
+        (r#"live:[["a",1],["c",2]]"#, "conflict c", SAME),
+        (r#"pending:[["t",[["a",1],["c",2]]]]"#, "conflict c", SAME),
+        (r#"live:[["a.x",1],["c.d",2]]"#, SAME, "conflict a"),
         (
-            r#""pending":[["t",[["a.x",1],["c.d",2]]]]"#,
+            r#"pending:[["t",[["a.x",1],["c.d",2]]]]"#,
             SAME,
             "conflict a",
         ),
@@ -118,13 +118,13 @@ fn renames_in_order(rt: HostRuntime) -> Result<(), Fail> {
 fn removes_weak_settings(rt: HostRuntime) -> Result<(), Fail> {
     let rows: &[Row] = &[
         (
-            r#""live":[["settings.a",1],["settings.b",2]] "pending":[["t",[["settings.a",3]]]] "weak":["settings.a"]"#,
-            r#""live":[["settings.b",2]] "pending":[["t",[["settings.a",3]]]]"#,
+            r#"live:[["settings.a",1],["settings.b",2]] pending:[["t",[["settings.a",3]]]] weak:["settings.a"]"#,
+            r#"live:[["settings.b",2]] pending:[["t",[["settings.a",3]]]]"#,
             SAME,
         ),
         (
-            r#""live":[["settings.motd","Welcome"],["settings.ntp.time-servers",["a.example","b.example"]]] "weak":["settings.ntp.time-servers"]"#,
-            r#""live":[["settings.motd","Welcome"]]"#,
+            r#"live:[["settings.motd","Welcome"],["settings.ntp.time-servers",["a.example","b.example"]]] weak:["settings.ntp.time-servers"]"#,
+            r#"live:[["settings.motd","Welcome"]]"#,
             SAME,
         ),
     ];

@@ -1,5 +1,6 @@
 //! Releases that are read, and each kind of refusal.
 use crate::words::tells;
+use std::alloc::Global;
 use std::test::Fail;
 
 // A migration of each kind.
@@ -152,12 +153,18 @@ const FIRST: &[Row] = &[
     ),
 ];
 
+// Each of the texts tells what is wanted of it.
+fn tell(alloc: Global, rows: &[Row]) -> Result<(), Fail> {
+    for (text, wanted) in rows {
+        tells(alloc, text.as_bytes(), wanted)?;
+    }
+    Ok(())
+}
+
 #[test]
 fn reads_each_release(rt: HostRuntime) -> Result<(), Fail> {
     for rows in [READ, REFUSED, FIRST] {
-        for (text, wanted) in rows {
-            tells(rt.alloc(), text.as_bytes(), wanted)?;
-        }
+        tell(rt.alloc(), rows)?;
     }
     Ok(())
 }

@@ -1,5 +1,6 @@
 //! Held texts that are read, and printed as they were.
-use crate::texts::{answers, held_text};
+use crate::texts::answers;
+use example_texts::held_text;
 use held_text::HeldText;
 use settings_tree::Held;
 use std::alloc::Global;
@@ -39,7 +40,8 @@ fn prints_members_as_they_were(rt: HostRuntime) -> Result<(), Fail> {
         r#"pending:[["t",[["a",null],["b",1]]],["t-1",[["a.b",[]]]]]"#,
         r#"live:[["settings.a",1],["settings.b",2]] weak:["settings.a","settings.b"]"#,
         r#"live:[["settings",1]] weak:["settings"]"#,
-        r#"live:[["a","é\n\u0001/\\\""],["a-b",-9223372036854775808]]"#,
+        r#"live:[["a","é\n\u0001/\\\""],["a-b",[]],["\"a.b\"",-9223372036854775808]]"#,
+        r#"pending:[["A",[["x",null]]],["a",[["x",[]]]]]"#,
     ];
     for members in rows {
         prints(rt.alloc(), members)?;

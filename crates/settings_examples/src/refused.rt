@@ -1,6 +1,5 @@
 //! Texts that are no held texts. None is told as want of memory.
-use crate::texts::held_text;
-use example_texts::same;
+use example_texts::{held_text, same};
 use held_text::{HeldError, HeldText};
 use settings_tree::Held;
 use std::alloc::Global;
@@ -36,6 +35,8 @@ fn refuses_texts(rt: HostRuntime) -> Result<(), Fail> {
         r#"{"image":"aGVsbG9=","live":[],"meta":[],"owed":[],"pending":[],"weak":[]}"#,
         r#"{"image":"_-8=","live":[],"meta":[],"owed":[],"pending":[],"weak":[]}"#,
         r#"{"image":1,"live":[],"meta":[],"owed":[],"pending":[],"weak":[]}"#,
+        // A key with a space.
+        r#"{"image":"","live":[["a b",1]],"meta":[],"owed":[],"pending":[],"weak":[]}"#,
     ];
     for text in rows {
         same(verdict(rt.alloc(), text), "bad", text)?;
@@ -65,7 +66,6 @@ fn refuses_live_settings(rt: HostRuntime) -> Result<(), Fail> {
         // Keys that are none, that are spelled otherwise, that do not rise, and one above another.
         r#"live:[["",1]]"#,
         r#"live:[["a..b",1]]"#,
-        r#"live:[["a b",1]]"#,
         r#"live:[["\"a",1]]"#,
         r#"live:[["\"a\"",1]]"#,
         r#"live:[["b",1],["a",1]]"#,
@@ -74,6 +74,7 @@ fn refuses_live_settings(rt: HostRuntime) -> Result<(), Fail> {
         // Values that are none, or spelled otherwise.
         r#"live:[["a",null]]"#,
         r#"live:[["a",1.5]]"#,
+        r#"live:[["a",1.0]]"#,
         r#"live:[["a",-0]]"#,
         r#"live:[["a",[[1]]]]"#,
         r#"live:[["a",{}]]"#,

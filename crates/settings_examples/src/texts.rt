@@ -1,5 +1,5 @@
-//! Held texts of their members, and texts compared.
-use example_texts::same;
+//! What members of a held text are, and texts compared.
+use example_texts::{held_text, same};
 use held_text::HeldText;
 use key_names::Key;
 use settings_tree::{Held, Scalar};
@@ -9,30 +9,6 @@ use std::test::Fail;
 /// What was answered is the wanted text.
 pub fn answers(shown: Result<String, Fail>, wanted: &str, at: &str) -> Result<(), Fail> {
     same(shown?.as_str(), wanted, at)
-}
-
-// The value of the member: an empty list, where it is left out.
-fn value_of<'a>(members: &'a str, member: &str) -> &'a str {
-    match members.split_once(member) {
-        Some((_, rest)) => match rest.split_once(' ') {
-            Some((value, _)) => value,
-            None => rest,
-        },
-        None => "[]",
-    }
-}
-
-/// The held text of the members, which have spaces between them. A member that holds nothing may be
-/// left out, and the image text is `hello`.
-pub fn held_text(alloc: Global, members: &str) -> Result<String, AllocError> {
-    let live = value_of(members, "live:");
-    let meta = value_of(members, "meta:");
-    let owed = value_of(members, "owed:");
-    let pending = value_of(members, "pending:");
-    let weak = value_of(members, "weak:");
-    format!(in alloc;
-        "{{\"image\":\"aGVsbG8=\",\"live\":{live},\"meta\":{meta},\"owed\":{owed},\"pending\":{pending},\"weak\":{weak}}}"
-    )
 }
 
 /// What the members are.

@@ -18,7 +18,7 @@ use Rattle.typed_settings.specs.declared.row.Row.{Row}
 use Rattle.store_image.specs.Paths.{Sources, sources_in}
 use Rattle.store_image.specs.declared.image.Image as own
 use Rattle.store_image.specs.Refused.{IsRefused}
-use Rattle.store_image.proofs.OneOutcome.{makes_or_refuses}
+use Rattle.store_image.proofs.OneOutcome.{makes_unrefused}
 use Rattle.store_files.specs.Damage.{IsFaultBelow}
 use Rattle.version_links.specs.Chain.{Outcome, Resolves, found}
 use Rattle.version_links.specs.declared.version.Version.{Version}
@@ -236,7 +236,7 @@ module _ (I : Image) (good : IsGood I) (folder : Folder) (is : IsImageOfFolder I
     of_format_one means = (one_meaning (files_below directory (tree_of new)) W.held means.held W.format 1 stands_now means.means).1
 
     not_bad_image : (file kind at : List ℕ) → IsRefused (sources_in (tree_of new)) file (kind, at) → ⊥
-    not_bad_image file kind at bad = makes_or_refuses (sources_in (tree_of new)) is.model is.manifest is.templates I.text file (kind, at)
+    not_bad_image file kind at bad = makes_unrefused (sources_in (tree_of new)) is.model is.manifest is.templates I.text file (kind, at)
         (image_alike (sources_in (tree_of new)) sources alike is.model is.manifest is.templates I.text is.made) bad
 
     ill_typed : (key : List (List ℕ)) → MeansIllTyped directory key (tree_of new) → IsIllTyped I.types W.held key

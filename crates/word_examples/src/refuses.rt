@@ -30,7 +30,7 @@ fn refuses_no_words(rt: HostRuntime) {
 fn refuses_words(rt: HostRuntime) -> Result<(), Fail> {
     let lines: &[&str] = &[
         "frob",
-        "",
+        "|",
         "Init|--version|1.5.2",
         "--help",
         "help",

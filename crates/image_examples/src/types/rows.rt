@@ -63,17 +63,14 @@ fn refuses_bounds(rt: HostRuntime) -> Result<(), Fail> {
 }
 
 // A row that matches no key but one that ends with so many copies of the text.
-fn row_with(alloc: Global, end: &str, count: u64) -> Result<String, AllocError> {
-    let mut row = String::from_str(alloc, "settings.a")?;
-    for _ in 0..count {
-        row.push_str(end)?;
-    }
-    row.push_str(" text")?;
-    Ok(row)
+fn row_with(alloc: Global, end: &str, count: usize) -> Result<String, AllocError> {
+    let end = end.repeat(alloc, count)?;
+    let end = end.as_str();
+    format!(in alloc; "settings.a{end} text")
 }
 
 // So many copies are a pattern that the key at hand doesn't match, and one more are none.
-fn are_most(alloc: Global, end: &str, count: u64) -> Result<(), Fail> {
+fn are_most(alloc: Global, end: &str, count: usize) -> Result<(), Fail> {
     answers(
         alloc,
         row_with(alloc, end, count)?.as_str(),
@@ -84,11 +81,14 @@ fn are_most(alloc: Global, end: &str, count: u64) -> Result<(), Fail> {
     answers(alloc, row.as_str(), "\"\"", "bad row 0")
 }
 
-// A pattern has at most 32 segments, and a segment at most 127 bytes.
+// A pattern has at most 32 segments, of at most 127 bytes each, and at most 1,024 bytes in all.
 #[test]
 fn refuses_what_is_no_key(rt: HostRuntime) -> Result<(), Fail> {
     are_most(rt.alloc(), ".a", 30)?;
-    are_most(rt.alloc(), "a", 126)
+    are_most(rt.alloc(), "a", 126)?;
+    let long = "a".repeat(rt.alloc(), 77)?;
+    let end = format!(in rt.alloc(); ".{}", long.as_str())?;
+    are_most(rt.alloc(), end.as_str(), 13)
 }
 
 // Whether a row matches the key, or a key below it.

@@ -1,5 +1,6 @@
 //! Blocks, one within the other.
 use crate::reading::shown::{agree, shown};
+use example_texts::nested;
 use std::alloc::{AllocError, Global};
 use std::test::Fail;
 
@@ -67,26 +68,18 @@ fn reads_each_prefix(rt: HostRuntime) -> Result<(), Fail> {
 }
 
 // So many blocks, one within the other, with this tag in the innermost.
-fn nested(alloc: Global, count: usize, within: &str) -> Result<String, AllocError> {
-    let mut text = String::new(alloc);
-    for _ in 0..count {
-        text.push_str("{{#if a}}")?;
-    }
-    text.push_str(within)?;
-    for _ in 0..count {
-        text.push_str("{{/if}}")?;
-    }
-    Ok(text)
+fn blocks(alloc: Global, count: usize, within: &str) -> Result<String, AllocError> {
+    nested(alloc, count, "{{#if a}}", within, "{{/if}}")
 }
 
 #[test]
 fn keeps_the_limit(rt: HostRuntime) -> Result<(), Fail> {
     let alloc = rt.alloc();
-    let full = nested(alloc, 32, "{{a}}")?;
+    let full = blocks(alloc, 32, "{{a}}")?;
     assert!(rt; shown(alloc, full.as_bytes())?.as_str().starts_with("if a["));
-    let deep = nested(alloc, 33, "")?;
+    let deep = blocks(alloc, 33, "")?;
     assert_eq!(rt; shown(alloc, deep.as_bytes())?.as_str(), "TooDeep 288");
-    let outside = nested(alloc, 32, "{{#if this}}")?;
+    let outside = blocks(alloc, 32, "{{#if this}}")?;
     assert_eq!(rt; shown(alloc, outside.as_bytes())?.as_str(), "NotInEach 288");
     Ok(())
 }

@@ -3,8 +3,8 @@ use crate::inputs::data::SERVERS;
 use crate::inputs::generators::HOSTNAME;
 use crate::inputs::host::ready;
 use crate::inputs::runs::{Says, runs, told};
-use disk_memory::{Bytes, MemoryDisk, Pick};
-use example_texts::same;
+use disk_memory::MemoryDisk;
+use example_texts::{repeated, same};
 use std::alloc::{AllocError, Global};
 use std::test::Fail;
 
@@ -80,34 +80,26 @@ fn fails(alloc: Global, row: &Row, from: &MemoryDisk, call: u64) -> Result<(), F
     runs(alloc, &mut disk, row.get, &[], row.after)
 }
 
-#[test]
-fn each_call_fails(rt: HostRuntime) -> Result<(), Fail> {
-    let alloc = rt.alloc();
-    for row in ROWS {
-        let from = ready(alloc, row.path, row.file)?;
-        for call in 1..=row.calls {
-            fails(alloc, row, &from, call)?;
-        }
+// Each of its calls.
+fn fails_anywhere(alloc: Global, row: &Row) -> Result<(), Fail> {
+    let from = ready(alloc, row.path, row.file)?;
+    for call in 1..=row.calls {
+        fails(alloc, row, &from, call)?;
     }
     Ok(())
 }
 
-// What a crash leaves of the paths that are not on the disk: what was there, what is there now, or torn bytes.
-fn picks(alloc: Global, kind: u8) -> Result<Vec<Pick>, AllocError> {
-    let mut picks = Vec::new(alloc);
-    for _ in 0..8 {
-        picks.push(match kind {
-            b'o' => Pick::Old,
-            b'n' => Pick::New,
-            _ => Pick::Torn(Bytes::of(b"torn".to_vec(alloc)?)),
-        })?;
+#[test]
+fn each_call_fails(rt: HostRuntime) -> Result<(), Fail> {
+    for row in ROWS {
+        fails_anywhere(rt.alloc(), row)?;
     }
-    Ok(picks)
+    Ok(())
 }
 
 // The run is stopped after so many calls, and a crash follows: it leaves what is set from the journal's sync on, and from the
 // journal on where the crash leaves that.
-fn stops(alloc: Global, row: &Row, from: &MemoryDisk, calls: u64, kind: u8) -> Result<(), Fail> {
+fn stops(alloc: Global, row: &Row, from: &MemoryDisk, calls: u64, kind: &str) -> Result<(), Fail> {
     let mut disk = from.crash(&[])?;
     disk.stop_after(calls);
     let shown = told(alloc, &mut disk, row.line, row.says)?;
@@ -117,22 +109,33 @@ fn stops(alloc: Global, row: &Row, from: &MemoryDisk, calls: u64, kind: u8) -> R
         String::from_str(alloc, row.told)?
     };
     same(shown.as_str(), wanted.as_str(), row.line)?;
-    let set = calls > row.commits || calls == row.commits && kind == b'n';
+    let set = calls > row.commits || calls == row.commits && kind == "new";
     let held = if set { row.after } else { row.before };
-    let mut left = disk.crash(&picks(alloc, kind)?)?;
+    let mut left = disk.crash(&repeated(alloc, kind, 8)?)?;
     runs(alloc, &mut left, row.get, &[], held)
+}
+
+// It is stopped after each of its calls.
+fn stops_anywhere(alloc: Global, row: &Row, from: &MemoryDisk, kind: &str) -> Result<(), Fail> {
+    for calls in 0..=row.calls {
+        stops(alloc, row, from, calls, kind)?;
+    }
+    Ok(())
+}
+
+// And with each kind of crash.
+fn stops_in_each_way(alloc: Global, row: &Row) -> Result<(), Fail> {
+    let from = ready(alloc, row.path, row.file)?;
+    for kind in ["old", "new", "torn"] {
+        stops_anywhere(alloc, row, &from, kind)?;
+    }
+    Ok(())
 }
 
 #[test]
 fn each_stop_leaves_all_or_nothing(rt: HostRuntime) -> Result<(), Fail> {
-    let alloc = rt.alloc();
     for row in ROWS {
-        let from = ready(alloc, row.path, row.file)?;
-        for kind in b"ont" {
-            for calls in 0..=row.calls {
-                stops(alloc, row, &from, calls, *kind)?;
-            }
-        }
+        stops_in_each_way(rt.alloc(), row)?;
     }
     Ok(())
 }

@@ -1,5 +1,5 @@
 //! Images of hosts, and hosts that are ready.
-use crate::served::runs::{asked, runs};
+use crate::runs::{asked, runs};
 use disk_memory::MemoryDisk;
 use outside::{Disk, Path};
 use std::alloc::Global;

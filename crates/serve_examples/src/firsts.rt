@@ -1,8 +1,8 @@
 //! Hosts of which nothing was applied.
-use crate::lines::holds;
-use crate::served::host::{File, IDLE, SMALL, WHOLE, begun};
-use crate::served::rows::{Step, step};
-use crate::served::runs::{Given, asked, runs};
+use crate::host::{File, IDLE, SMALL, WHOLE, begun};
+use crate::rows::{Step, goes};
+use crate::runs::{Given, asked, runs};
+use example_texts::holds;
 use std::test::Fail;
 
 // What is done to them: the first run, an image with a fault, programs that can't be run, and a first boot.
@@ -102,10 +102,7 @@ $ motd-reload
 fn a_host_begins(rt: HostRuntime) -> Result<(), Fail> {
     let alloc = rt.alloc();
     for (files, row) in FIRST {
-        let mut disk = begun(alloc, files)?;
-        for done in *row {
-            step(alloc, &mut disk, done)?;
-        }
+        goes(alloc, &mut begun(alloc, files)?, row)?;
     }
     Ok(())
 }

@@ -1,9 +1,8 @@
 //! Devices that fail.
-use crate::lines::holds;
-use crate::served::host::{IDLE, WHOLE, before, begun, ready};
-use crate::served::runs::{Given, asked, runs, told};
+use crate::host::{IDLE, WHOLE, before, begun, ready};
+use crate::runs::{Given, asked, runs, told};
 use disk_memory::{MemoryDisk, Pick};
-use example_texts::{repeated, same};
+use example_texts::{holds, repeated, same};
 use std::alloc::Global;
 use std::test::Fail;
 
@@ -75,10 +74,16 @@ const COMMANDS: &[(&str, &str, u64)] = &[
 fn each_call_of_a_command_fails(rt: HostRuntime) -> Result<(), Fail> {
     let alloc = rt.alloc();
     for (line, wanted, calls) in COMMANDS {
-        let from = before(alloc, line)?;
-        for call in 1..=*calls {
-            command_fails(alloc, &from, call, line, wanted)?;
-        }
+        fails_anywhere(alloc, line, wanted, *calls)?;
+    }
+    Ok(())
+}
+
+// Each of its calls.
+fn fails_anywhere(alloc: Global, line: &str, wanted: &str, calls: u64) -> Result<(), Fail> {
+    let from = before(alloc, line)?;
+    for call in 1..=calls {
+        command_fails(alloc, &from, call, line, wanted)?;
     }
     Ok(())
 }
@@ -219,11 +224,18 @@ $ motd-reload
 fn calls_of_a_server_fail(rt: HostRuntime) -> Result<(), Fail> {
     let alloc = rt.alloc();
     let from = ready(alloc)?;
-    for (first, last, wanted) in FAULTS {
-        for call in *first..=*last {
-            let mut disk = failing(alloc, &from, call)?;
-            runs(alloc, &mut disk, "serve", asked(CHANGES), wanted)?;
-        }
+    for row in FAULTS {
+        calls_fail(alloc, &from, *row)?;
+    }
+    Ok(())
+}
+
+// Each of these calls.
+fn calls_fail(alloc: Global, from: &MemoryDisk, row: (u64, u64, &str)) -> Result<(), Fail> {
+    let (first, last, wanted) = row;
+    for call in first..=last {
+        let mut disk = failing(alloc, from, call)?;
+        runs(alloc, &mut disk, "serve", asked(CHANGES), wanted)?;
     }
     Ok(())
 }
@@ -324,10 +336,13 @@ fn fails(
 #[test]
 fn each_call_of_a_reading_fails(rt: HostRuntime) -> Result<(), Fail> {
     let alloc = rt.alloc();
-    for from in [begun(alloc, WHOLE)?, ready(alloc)?] {
-        for (line, wanted) in READS_ALONE {
-            each_fails(alloc, &from, line, wanted)?;
-        }
+    readings_fail(alloc, &begun(alloc, WHOLE)?)?;
+    readings_fail(alloc, &ready(alloc)?)
+}
+
+fn readings_fail(alloc: Global, from: &MemoryDisk) -> Result<(), Fail> {
+    for (line, wanted) in READS_ALONE {
+        each_fails(alloc, from, line, wanted)?;
     }
     Ok(())
 }

@@ -1,7 +1,6 @@
 //! Small stores of a disk in memory, and runs over them.
-use crate::lines::words_of;
 use disk_memory::{MemoryDisk, MemoryDoor, MemorySink, MemorySpawner, Node};
-use example_texts::bytes;
+use example_texts::{bytes, words_of};
 use outside::{Disk, Path};
 use settings_run::run;
 use std::alloc::{AllocError, Global};
@@ -18,13 +17,18 @@ const LINKS: &[Place] = &[
     ("store/v1.5.2", "v1.5.2_0000000000000000"),
 ];
 
-/// A disk with a store at 1.5.2 of these files, and others.
-pub fn store(alloc: Global, places: &[Place]) -> Result<MemoryDisk, Fail> {
+fn files(alloc: Global, places: &[Place]) -> Result<Vec<(Path, Node)>, Fail> {
     let mut nodes = Vec::new(alloc);
     for (path, text) in places {
         let file = Node::File(bytes(alloc, text)?);
         nodes.push((Path::read(alloc, path.as_bytes())?, file))?;
     }
+    Ok(nodes)
+}
+
+/// A disk with a store at 1.5.2 of these files, and others.
+pub fn store(alloc: Global, places: &[Place]) -> Result<MemoryDisk, Fail> {
+    let mut nodes = files(alloc, places)?;
     for (path, text) in LINKS {
         let link = Node::Link(bytes(alloc, text)?);
         nodes.push((Path::read(alloc, path.as_bytes())?, link))?;
@@ -34,7 +38,7 @@ pub fn store(alloc: Global, places: &[Place]) -> Result<MemoryDisk, Fail> {
 
 /// Runs the words of the line: the status comes first, and then what is printed.
 pub fn told(alloc: Global, disk: &mut MemoryDisk, line: &str) -> Result<String, AllocError> {
-    let words = words_of(alloc, line)?;
+    let words = words_of(alloc, line, ' ')?;
     let mut spawner = MemorySpawner::of_answers(alloc, Vec::new(alloc));
     let mut door = MemoryDoor::of_inputs(alloc, Vec::new(alloc));
     let mut out = MemorySink::new(alloc);

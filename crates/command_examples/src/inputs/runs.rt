@@ -1,7 +1,6 @@
 //! Runs over devices in memory, and what is told of them.
-use crate::lines::{holds, words_of};
 use disk_memory::{MemoryDisk, MemoryDoor, MemorySink, MemorySpawner};
-use example_texts::same;
+use example_texts::{holds, same, words_of};
 use outside::Answer;
 use settings_run::run;
 use std::alloc::{AllocError, Global};
@@ -29,13 +28,10 @@ fn answers(alloc: Global, all: &[Says]) -> Result<Vec<Option<Answer>>, AllocErro
 }
 
 // Adds a line for each program that was asked.
-fn add_asked(text: &mut String, spawner: &MemorySpawner) -> Result<(), AllocError> {
+fn add_asked(alloc: Global, text: &mut String, spawner: &MemorySpawner) -> Result<(), AllocError> {
     for question in spawner.asked() {
-        text.push('?')?;
-        for word in &question.words {
-            text.push(' ')?;
-            text.push_str(word.as_str())?;
-        }
+        text.push_str("? ")?;
+        text.push_str(question.words.join(alloc, " ")?.as_str())?;
         text.push('\n')?;
     }
     Ok(())
@@ -49,7 +45,7 @@ pub fn told(
     line: &str,
     all: &[Says],
 ) -> Result<String, Fail> {
-    let words = words_of(alloc, line)?;
+    let words = words_of(alloc, line, ' ')?;
     let mut spawner = MemorySpawner::of_answers(alloc, answers(alloc, all)?);
     let mut door = MemoryDoor::of_inputs(alloc, Vec::new(alloc));
     let mut out = MemorySink::new(alloc);
@@ -57,7 +53,7 @@ pub fn told(
     let printed = String::from_utf8_lossy(alloc, out.written())?;
     let printed = printed.as_str();
     let mut text = format!(in alloc; "{status} {printed}")?;
-    add_asked(&mut text, &spawner)?;
+    add_asked(alloc, &mut text, &spawner)?;
     Ok(text)
 }
 

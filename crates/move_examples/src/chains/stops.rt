@@ -40,16 +40,27 @@ fn stops(alloc: Global, row: &Row, from: &MemoryDisk, calls: u64, kinds: &str) -
     leads(alloc, row, &mut disk.crash(&picks(alloc, kinds)?)?, led)
 }
 
+// It is stopped after each of its calls.
+fn stops_anywhere(alloc: Global, row: &Row, from: &MemoryDisk, kinds: &str) -> Result<(), Fail> {
+    for calls in 0..=row.calls {
+        stops(alloc, row, from, calls, kinds)?;
+    }
+    Ok(())
+}
+
+// And with each kind of crash.
+fn stops_in_each_way(alloc: Global, row: &Row) -> Result<(), Fail> {
+    let from = begun(alloc, row)?;
+    for kinds in PICKS {
+        stops_anywhere(alloc, row, &from, kinds)?;
+    }
+    Ok(())
+}
+
 #[test]
 fn leaves_one_of_two_at_each_stop(rt: HostRuntime) -> Result<(), Fail> {
-    let alloc = rt.alloc();
     for row in ROWS {
-        let from = begun(alloc, row)?;
-        for kinds in PICKS {
-            for calls in 0..=row.calls {
-                stops(alloc, row, &from, calls, kinds)?;
-            }
-        }
+        stops_in_each_way(rt.alloc(), row)?;
     }
     Ok(())
 }
@@ -63,14 +74,19 @@ fn fails(alloc: Global, row: &Row, from: &MemoryDisk, call: u64) -> Result<(), F
     leads(alloc, row, &mut disk, call > row.leads)
 }
 
+// Each of its calls fails.
+fn fails_anywhere(alloc: Global, row: &Row) -> Result<(), Fail> {
+    let from = begun(alloc, row)?;
+    for call in 1..=row.calls {
+        fails(alloc, row, &from, call)?;
+    }
+    Ok(())
+}
+
 #[test]
 fn leaves_one_of_two_after_each_fault(rt: HostRuntime) -> Result<(), Fail> {
-    let alloc = rt.alloc();
     for row in ROWS {
-        let from = begun(alloc, row)?;
-        for call in 1..=row.calls {
-            fails(alloc, row, &from, call)?;
-        }
+        fails_anywhere(rt.alloc(), row)?;
     }
     Ok(())
 }

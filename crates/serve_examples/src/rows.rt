@@ -1,9 +1,8 @@
 //! What is done to a host, one after another, and what it comes to.
-use crate::lines::holds;
-use crate::served::host::{IDLE, ready};
-use crate::served::runs::{Given, asked, runs};
+use crate::host::{IDLE, ready};
+use crate::runs::{Given, asked, runs};
 use disk_memory::MemoryDisk;
-use example_texts::put;
+use example_texts::{holds, put};
 use std::alloc::Global;
 use std::test::Fail;
 
@@ -358,8 +357,8 @@ $ sysctl --system
     ],
 ];
 
-/// Makes the step.
-pub fn step(alloc: Global, disk: &mut MemoryDisk, step: &Step) -> Result<(), Fail> {
+// Makes the step.
+fn step(alloc: Global, disk: &mut MemoryDisk, step: &Step) -> Result<(), Fail> {
     let (line, requests, ends, wanted) = *step;
     if line.starts_with("image/") {
         return put(alloc, disk, line, wanted);
@@ -374,14 +373,18 @@ pub fn step(alloc: Global, disk: &mut MemoryDisk, step: &Step) -> Result<(), Fai
     runs(alloc, disk, line, given, wanted)
 }
 
+/// Makes one step after another.
+pub fn goes(alloc: Global, disk: &mut MemoryDisk, steps: &[Step]) -> Result<(), Fail> {
+    for done in steps {
+        step(alloc, disk, done)?;
+    }
+    Ok(())
+}
+
 #[test]
 fn a_host_is_served_and_set(rt: HostRuntime) -> Result<(), Fail> {
-    let alloc = rt.alloc();
     for row in ROWS {
-        let mut disk = ready(alloc)?;
-        for done in *row {
-            step(alloc, &mut disk, done)?;
-        }
+        goes(rt.alloc(), &mut ready(rt.alloc())?, row)?;
     }
     Ok(())
 }

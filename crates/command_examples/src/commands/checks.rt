@@ -1,7 +1,7 @@
 //! The command `check`.
 use crate::commands::runs::{disk_of, runs};
-use crate::lines::words_of;
 use disk_memory::{MemoryDoor, MemorySink, MemorySpawner};
+use example_texts::words_of;
 use settings_run::run;
 use std::test::Fail;
 
@@ -120,7 +120,7 @@ fn devices_fail_in_a_check(rt: HostRuntime) -> Result<(), Fail> {
         disk.fail_calls(vec![in alloc; call]?);
         runs(alloc, &mut disk, "check", 3, "settings: disk\n")?;
     }
-    let words = words_of(alloc, "check")?;
+    let words = words_of(alloc, "check", ' ')?;
     let mut disk = disk_of(alloc, &files)?;
     let mut out = MemorySink::fail_from(alloc, 6);
     let mut spawner = MemorySpawner::of_answers(alloc, Vec::new(alloc));

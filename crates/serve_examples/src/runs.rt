@@ -1,7 +1,6 @@
 //! Runs over devices in memory, and what is told of them.
-use crate::lines::words_of;
 use disk_memory::{Input, MemoryDisk, MemoryDoor, MemorySink, MemorySpawner};
-use example_texts::same;
+use example_texts::{same, words_of};
 use settings_run::run;
 use std::alloc::{AllocError, Global};
 use std::test::Fail;
@@ -94,7 +93,7 @@ pub fn told(
     line: &str,
     given: Given,
 ) -> Result<String, Fail> {
-    let words = words_of(alloc, line)?;
+    let words = words_of(alloc, line, ' ')?;
     let mut spawner = MemorySpawner::of_statuses(alloc, given.ends.to_vec(alloc)?);
     let mut out = MemorySink::new(alloc);
     let mut door = MemoryDoor::of_inputs(alloc, inputs(alloc, given)?);
@@ -107,18 +106,19 @@ pub fn told(
         text.push('\n')?;
     }
     add_replies(alloc, &mut text, &door)?;
-    add_programs(&mut text, &spawner)?;
+    add_programs(alloc, &mut text, &spawner)?;
     Ok(text)
 }
 
 // Adds a line for each program that was run.
-fn add_programs(text: &mut String, spawner: &MemorySpawner) -> Result<(), AllocError> {
+fn add_programs(
+    alloc: Global,
+    text: &mut String,
+    spawner: &MemorySpawner,
+) -> Result<(), AllocError> {
     for run in spawner.runs() {
-        text.push('$')?;
-        for word in &run.words {
-            text.push(' ')?;
-            text.push_str(word.as_str())?;
-        }
+        text.push_str("$ ")?;
+        text.push_str(run.words.join(alloc, " ")?.as_str())?;
         text.push('\n')?;
     }
     Ok(())

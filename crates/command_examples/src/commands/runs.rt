@@ -1,7 +1,6 @@
 //! One run over devices in memory.
-use crate::lines::words_of;
 use disk_memory::{MemoryDisk, MemoryDoor, MemorySink, MemorySpawner};
-use example_texts::put;
+use example_texts::{put, words_of};
 use outside::{Disk, Path};
 use settings_run::run;
 use std::alloc::Global;
@@ -15,7 +14,7 @@ pub fn runs(
     status: u8,
     printed: &str,
 ) -> Result<(), Fail> {
-    let words = words_of(alloc, line)?;
+    let words = words_of(alloc, line, ' ')?;
     let mut spawner = MemorySpawner::of_answers(alloc, Vec::new(alloc));
     let mut door = MemoryDoor::of_inputs(alloc, Vec::new(alloc));
     let mut out = MemorySink::new(alloc);

@@ -1,9 +1,9 @@
 //! Runs that are stopped after each of their disk calls, and what a crash then leaves.
-use crate::lines::holds;
-use crate::served::faults::{CALLS, CHANGES, begins, left};
-use crate::served::host::{IDLE, before, ready};
-use crate::served::runs::{asked, runs, told};
+use crate::faults::{CALLS, CHANGES, begins, left};
+use crate::host::{IDLE, before, ready};
+use crate::runs::{asked, runs, told};
 use disk_memory::MemoryDisk;
+use example_texts::holds;
 use std::alloc::{AllocError, Global};
 use std::test::Fail;
 
@@ -140,14 +140,19 @@ fn stops(alloc: Global, row: &Row, from: &MemoryDisk, calls: u64) -> Result<(), 
     Ok(())
 }
 
+// It is stopped after each of its calls.
+fn stops_anywhere(alloc: Global, row: &Row) -> Result<(), Fail> {
+    let from = before(alloc, row.line)?;
+    for calls in 0..=row.calls {
+        stops(alloc, row, &from, calls)?;
+    }
+    Ok(())
+}
+
 #[test]
 fn each_stop_leaves_what_was_done(rt: HostRuntime) -> Result<(), Fail> {
-    let alloc = rt.alloc();
     for row in ROWS {
-        let from = before(alloc, row.line)?;
-        for calls in 0..=row.calls {
-            stops(alloc, row, &from, calls)?;
-        }
+        stops_anywhere(rt.alloc(), row)?;
     }
     Ok(())
 }

@@ -1,7 +1,6 @@
 //! A host in memory whose release asks programs.
-use crate::lines::words_of;
 use disk_memory::{MemoryDisk, MemoryDoor, MemorySink, MemorySpawner};
-use example_texts::put;
+use example_texts::{put, words_of};
 use outside::{Answer, Disk};
 use settings_run::run;
 use std::alloc::{AllocError, Global};
@@ -44,7 +43,7 @@ pub fn runs(
     status: u8,
     printed: &str,
 ) -> Result<(), Fail> {
-    let words = words_of(alloc, line)?;
+    let words = words_of(alloc, line, ' ')?;
     let mut door = MemoryDoor::of_inputs(alloc, Vec::new(alloc));
     let mut out = MemorySink::new(alloc);
     let ended = run(alloc, &words, disk, spawner, &mut door, &mut out);

@@ -1,0 +1,57 @@
+//! Words that spell no command, and commands that want a store.
+use crate::commands::runs::{disk_of, runs};
+use std::alloc::Global;
+use std::test::Fail;
+
+// Words that spell no command, and commands that want a store, with how they end.
+const ROWS: &[(u8, &str, &[&str])] = &[
+    (
+        2,
+        "settings: usage\n",
+        &[
+            "",
+            "frob",
+            "set",
+            "set settings.motd",
+            "set settings.motd=hi",
+            "set services.motd=\"hi\"",
+            "init",
+            "init --version",
+            "init --version 1.5",
+            "serve --connections x",
+            "set motd=1",
+            "set settings.motd=1.5",
+            "set settings.motd=null",
+            "check now",
+            "load 0",
+        ],
+    ),
+    (
+        6,
+        "settings: no store\n",
+        &[
+            "serve",
+            "set settings.motd=\"hi\"",
+            "apply",
+            "generate",
+            "user-data a",
+        ],
+    ),
+];
+
+// Each of the lines ends so.
+fn end(alloc: Global, lines: &[&str], status: u8, told: &str) -> Result<(), Fail> {
+    let mut disk = disk_of(alloc, &[])?;
+    for line in lines {
+        runs(alloc, &mut disk, line, status, told)?;
+    }
+    Ok(())
+}
+
+#[test]
+fn words_are_refused(rt: HostRuntime) -> Result<(), Fail> {
+    for (status, told, lines) in ROWS {
+        end(rt.alloc(), lines, *status, told)?;
+    }
+    Ok(())
+}
