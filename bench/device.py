@@ -191,4 +191,5 @@ def main():
             print(f'| {name} | {taken:.0f} |', flush=True)
 
 
-main()
+if __name__ == '__main__':
+    main()
