@@ -1,13 +1,14 @@
 #!/usr/bin/env python3
 """device.py PROGRAM [ROUNDS]: what the program `settings` adds to the system calls that it makes, on the real disk and the real socket.
 
-For stores of 100, 1,000 and 10,000 settings it measures ROUNDS rounds (1,000) over the socket, one connection for each request: a PATCH of one
-setting, its commit, and a GET of it; the opening of the store, by `get` of one setting; and `migrate`. Each is traced once by strace, over a
+For stores of 100, 1,000 and 10,000 settings, of which all are defaults or none is, it measures ROUNDS rounds (1,000) over the socket, one
+connection for each request: a PATCH of one setting, its commit, and a GET of it; the opening of the store, by `get` of one setting; and `migrate`. Each is traced once by strace, over a
 copy of the store. Then the program does it again, a small program in C makes the same calls, each over a fresh copy, and both are timed:
 request by request in turn, of which the median is taken, and runs in turn, three of each, of which the least is taken. GET is also measured
 against a bare loop of accept, read, write and close; the memory of a server that was asked for settings is measured where these are texts of
 10, 100 and 1,000 bytes; and SQLite is measured beside. Tables are printed. Wants strace and a C compiler, and
 works in a new folder below the system's folder for such files, or below BENCH_FOLDER."""
+import json
 import os
 import shutil
 import socket
@@ -68,11 +69,11 @@ def resident_of(process):
     return tuple(int(kept[name].split()[0]) * 1024 for name in ('VmRSS', 'VmHWM'))
 
 
-def ask(place):
-    """One request that changes nothing."""
+def ask(place, line='GET /job', body=''):
+    """One request, which changes nothing if none is given."""
     with socket.socket(socket.AF_UNIX) as client:
         client.connect(place)
-        client.sendall(b'GET /job HTTP/1.1\r\n\r\n')
+        client.sendall(f'{line} HTTP/1.1\r\nContent-Length: {len(body)}\r\n\r\n{body}'.encode())
         while client.recv(65536):
             pass
 
@@ -122,7 +123,17 @@ class Bench:
         times = [float(word) for word in told.stdout.split()]
         return list(zip(*(times[at::4] for at in range(4))))
 
-    def requests(self, seed, count):
+    def set_before(self, seed, count):
+        """A copy of the seed in which each setting was set, to the value that it had, so that none is a default."""
+        folder = self.copy(seed)
+        server = self.started([self.program, 'serve', '--connections', '2'], folder)
+        ask(f'{folder}/api.sock', 'PATCH /settings?tx=bench', json.dumps({'load': {f'k{at}': at for at in range(count)}}))
+        ask(f'{folder}/api.sock', 'POST /tx/commit?tx=bench')
+        server.wait(60)
+        os.remove(f'{folder}/api.sock')
+        return folder
+
+    def requests(self, seed, count, which):
         """The rows of requests: what the program takes, and what its calls take."""
         trace, calls = f'{self.base}/trace', f'{self.base}/calls'
         serve = [self.program, 'serve', '--connections', str(len(KINDS) * self.rounds + 1)]
@@ -131,7 +142,7 @@ class Bench:
         many = list_of(trace, calls, 'A')
         for name, (mine, least, early, late) in zip(KINDS, self.asked([serve, [self.replay, calls, 'api.sock']], seed, count, 'all')):
             row = f'{many / len(KINDS) / self.rounds:.0f} | {mine:.0f} | {least:.0f} | {mine / least:.2f} | {late / early:.2f}'
-            print(f'| {name}, {count} settings | {row} |', flush=True)
+            print(f'| {name}, {count} {which} | {row} |', flush=True)
 
     def gets(self, seed, count):
         """The row of GET alone, against the bare loop."""
@@ -175,7 +186,9 @@ def main():
             seed_of(program, seed, count)
         print('| Request | System calls, all kinds | Program, us | The calls alone, us | Ratio | Last tenth to first |\n|---|---:|---:|---:|---:|---:|')
         for count, seed in seeds.items():
-            bench.requests(seed, count)
+            bench.requests(seed, count, 'defaults')
+        for count, seed in seeds.items():
+            bench.requests(bench.set_before(seed, count), count, 'set before')
         print('\n| Request | Program, us | A bare loop, us | Ratio | Last tenth to first | Resident, MB | Store and image, MB |\n|---|---:|---:|---:|---:|---:|---:|')
         for count, seed in seeds.items():
             bench.gets(seed, count)
