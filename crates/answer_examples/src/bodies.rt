@@ -1,5 +1,5 @@
 //! Each shape of body, and each refusal.
-use crate::texts::{said, tx, whole};
+use crate::texts::{said, says, tx, whole};
 use api_http::Answer;
 use example_texts::{key, same};
 use json_trees::{flatten, flatten_patch};
@@ -63,52 +63,60 @@ fn lists(alloc: Global) -> Result<Vec<(Key, Vec<Text>)>, Fail> {
     Ok(lists)
 }
 
+// A name and its text.
+fn named(alloc: Global, name: &str, text: &str) -> Result<(Text, Text), AllocError> {
+    let name = Text::from_str(alloc, name)?;
+    let text = Text::from_str(alloc, text)?;
+    Ok((name, text))
+}
+
 // The texts of two names.
-fn texts(alloc: Global) -> Result<Vec<(Text, Text)>, Fail> {
+fn texts(alloc: Global) -> Result<Vec<(Text, Text)>, AllocError> {
     let mut texts = Vec::new(alloc);
-    texts.push((
-        Text::from_str(alloc, "arch")?,
-        Text::from_str(alloc, "x86\"64")?,
-    ))?;
-    texts.push((Text::from_str(alloc, "name")?, Text::from_str(alloc, "")?))?;
+    texts.push(named(alloc, "arch", "x86\"64")?)?;
+    texts.push(named(alloc, "name", "")?)?;
     Ok(texts)
 }
 
 #[test]
 fn lists_and_names(rt: HostRuntime) -> Result<(), Fail> {
     let alloc = rt.alloc();
-    let shown = said(alloc, MachineReply::Names(names(alloc)?))?;
-    same(shown.as_str(), r#"200 ["default"]"#, "names")?;
-    let shown = said(alloc, MachineReply::Lists(lists(alloc)?))?;
-    same(
-        shown.as_str(),
+    says(
+        alloc,
+        MachineReply::Names(names(alloc)?),
+        r#"200 ["default"]"#,
+        "names",
+    )?;
+    says(
+        alloc,
+        MachineReply::Lists(lists(alloc)?),
         r#"200 {"settings.ntp.time-servers":["chronyd"]}"#,
         "lists",
     )?;
-    let shown = said(alloc, MachineReply::Texts(texts(alloc)?))?;
-    same(
-        shown.as_str(),
+    says(
+        alloc,
+        MachineReply::Texts(texts(alloc)?),
         r#"200 {"arch":"x86\"64","name":""}"#,
         "texts",
     )?;
-    let shown = said(alloc, MachineReply::Texts(Vec::new(alloc)))?;
-    same(shown.as_str(), "200 {}", "no texts")
+    let none = MachineReply::Texts(Vec::new(alloc));
+    says(alloc, none, "200 {}", "no texts")
 }
 
 #[test]
 fn refusals(rt: HostRuntime) -> Result<(), Fail> {
     let alloc = rt.alloc();
     let key = key(alloc, "settings.none")?;
-    let shown = said(alloc, MachineReply::NoKey { key })?;
-    same(
-        shown.as_str(),
+    says(
+        alloc,
+        MachineReply::NoKey { key },
         r#"404 {"error":"key","key":"settings.none"}"#,
         "no such key",
     )?;
     let name = Text::from_str(alloc, "none")?;
-    let shown = said(alloc, MachineReply::NoName { name })?;
-    same(
-        shown.as_str(),
+    says(
+        alloc,
+        MachineReply::NoName { name },
         r#"404 {"error":"name","name":"none"}"#,
         "no such name",
     )
@@ -130,38 +138,39 @@ fn a_whole_reply(rt: HostRuntime) -> Result<(), Fail> {
     )
 }
 
-// The body of a job that failed, with all owed.
-fn failed(alloc: Global, cause: &Cause) -> Result<Text, AllocError> {
-    job_text(alloc, JobShown::Failed(cause), &Owed::All)
+// The body of a job that failed for this cause, with all owed, is this.
+fn fails(alloc: Global, cause: Cause, wanted: &str, at: &str) -> Result<(), Fail> {
+    let shown = job_text(alloc, JobShown::Failed(&cause), &Owed::All)?;
+    same(shown.as_str(), wanted, at)
 }
 
 #[test]
 fn causes(rt: HostRuntime) -> Result<(), Fail> {
     let alloc = rt.alloc();
     let service = Text::from_str(alloc, "motd")?;
-    let spawn = failed(alloc, &Cause::Spawn { service })?;
-    same(
-        spawn.as_str(),
+    fails(
+        alloc,
+        Cause::Spawn { service },
         r#"{"cause":"spawn motd","job":"failed","owed":"all"}"#,
         "spawn",
     )?;
     let service = Text::from_str(alloc, "motd")?;
     let number = 300;
-    let status = failed(alloc, &Cause::Status { service, number })?;
-    same(
-        status.as_str(),
+    fails(
+        alloc,
+        Cause::Status { service, number },
         r#"{"cause":"status motd 300","job":"failed","owed":"all"}"#,
         "status",
     )?;
-    let disk = failed(alloc, &Cause::Disk)?;
-    same(
-        disk.as_str(),
+    fails(
+        alloc,
+        Cause::Disk,
         r#"{"cause":"disk","job":"failed","owed":"all"}"#,
         "disk",
     )?;
-    let memory = failed(alloc, &Cause::Memory)?;
-    same(
-        memory.as_str(),
+    fails(
+        alloc,
+        Cause::Memory,
         r#"{"cause":"memory","job":"failed","owed":"all"}"#,
         "memory",
     )

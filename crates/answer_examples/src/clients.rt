@@ -23,7 +23,8 @@ use std::test::Fail;
 fn pairs_of(alloc: Global, text: &str) -> Result<Vec<(Key, Pending)>, Fail>
     ensures { IfOk result (λ pairs. All (λ e. is_prefix settings_key e.0 ≡ true) pairs.items) }
 {
-    let pairs = flatten_patch(alloc, &key(alloc, "settings")?, text.as_bytes())?;
+    let settings = key(alloc, "settings")?;
+    let pairs = flatten_patch(alloc, &settings, text.as_bytes())?;
     if !are_settings(&pairs) {
         return Err(Fail::new("a key beside settings"));
     }
@@ -144,15 +145,39 @@ fn ask(
 // A row is a word, what stands behind it, and the answer.
 type Row = (&'static str, &'static str, &'static str);
 
-// A machine that is ready answers these rows so.
-fn goes(alloc: Global, rows: &[Row]) -> Result<(), Fail> {
-    let image = image(alloc)?;
-    let mut machine = ready(alloc, &image)?;
+// The machine answers these rows so.
+fn answers(
+    alloc: Global,
+    image: &PlainImage,
+    machine: &mut PlainMachine,
+    rows: &[Row],
+) -> Result<(), Fail>
+    requires table { IsTable image.now.types }
+    requires defaults { AreTyped image.now.types image.now.defaults.values }
+    requires settings { AreSettings image.now.defaults.values }
+    requires typed { IsTypedHeld image.now.types machine.old.held }
+{
     for (word, rest, wanted) in rows {
-        let shown = ask(alloc, &image, &mut machine, word, rest)?;
+        let shown = ask(alloc, image, machine, word, rest)?;
         same(shown.as_str(), wanted, word)?;
     }
     Ok(())
+}
+
+// A machine that is ready with the image answers these rows so.
+fn goes_with(alloc: Global, image: &PlainImage, rows: &[Row]) -> Result<(), Fail>
+    requires table { IsTable image.now.types }
+    requires defaults { AreTyped image.now.types image.now.defaults.values }
+    requires settings { AreSettings image.now.defaults.values }
+{
+    let mut machine = ready(alloc, image)?;
+    answers(alloc, image, &mut machine, rows)
+}
+
+// A machine that is ready answers these rows so.
+fn goes(alloc: Global, rows: &[Row]) -> Result<(), Fail> {
+    let image = image(alloc)?;
+    goes_with(alloc, &image, rows)
 }
 
 const REQUESTS: &[Row] = &[

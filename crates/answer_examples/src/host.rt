@@ -10,7 +10,7 @@ use key_names::Text;
 use metadata_links::Manifest;
 use model_file::Model;
 use plain_machine::{OpeningAnswer, PlainImage, PlainMachine, TurnAnswer};
-use std::alloc::Global;
+use std::alloc::{AllocError, Global};
 use std::test::Fail;
 use template_reader::Templates;
 use version_links::Version;
@@ -34,10 +34,10 @@ affected-services = ["motd"]
 
 // The template of the one file.
 fn templates(alloc: Global) -> Result<Templates, Fail> {
-    let mut templates = Templates::new(alloc);
+    let file = Text::from_str(alloc, "motd")?;
     let source = bytes(alloc, "{{settings.motd}}\n")?;
+    let mut templates = Templates::new(alloc);
     if templates.source(b"motd").is_none() {
-        let file = Text::from_str(alloc, "motd")?;
         templates.add(file, source)?;
     }
     Ok(templates)
@@ -49,6 +49,8 @@ pub fn image(alloc: Global) -> Result<PlainImage, Fail>
     ensures typed { IfOk result (λ image. AreTyped image.types image.defaults.values) }
     ensures settings { IfOk result (λ image. AreSettings image.defaults.values) }
 {
+    let text = bytes(alloc, MODEL)?;
+    let templates = templates(alloc)?;
     let model = Model::read(alloc, MODEL.as_bytes())?;
     let _ = model.types.len();
     Ok(PlainImage {
@@ -56,13 +58,26 @@ pub fn image(alloc: Global) -> Result<PlainImage, Fail>
         types: model.types,
         os: model.os,
         defaults: model.content,
-        templates: templates(alloc)?,
-        text: bytes(alloc, MODEL)?,
+        templates,
+        text,
     })
 }
 
+// Opens the store of the machine, and pays all that is owed.
+fn begin(alloc: Global, image: &PlainImage, machine: &mut PlainMachine) -> Result<(), AllocError>
+    requires table { IsTable image.now.types }
+    requires defaults { AreTyped image.now.types image.now.defaults.values }
+    requires settings { AreSettings image.now.defaults.values }
+    requires typed { IsTypedHeld image.now.types machine.old.held }
+    ensures { IsTypedHeld image.now.types machine.new.held }
+{
+    machine.open_store(alloc, image, true, OpeningAnswer::Succeeded)?;
+    machine.apply(alloc, image)?;
+    turns(alloc, image, machine)
+}
+
 /// The machine.
-pub fn ready(alloc: Global, image: &PlainImage) -> Result<PlainMachine, Fail>
+pub fn ready(alloc: Global, image: &PlainImage) -> Result<PlainMachine, AllocError>
     requires table { IsTable image.now.types }
     requires defaults { AreTyped image.now.types image.now.defaults.values }
     requires settings { AreSettings image.now.defaults.values }
@@ -74,14 +89,16 @@ pub fn ready(alloc: Global, image: &PlainImage) -> Result<PlainMachine, Fail>
         patch: 2,
     };
     let mut machine = PlainMachine::new(alloc, version);
-    machine.open_store(alloc, image, true, OpeningAnswer::Succeeded)?;
-    machine.apply(alloc, image)?;
-    turns(alloc, image, &mut machine)?;
+    begin(alloc, image, &mut machine)?;
     Ok(machine)
 }
 
 /// Five turns that go well. No job takes more.
-pub fn turns(alloc: Global, image: &PlainImage, machine: &mut PlainMachine) -> Result<(), Fail>
+pub fn turns(
+    alloc: Global,
+    image: &PlainImage,
+    machine: &mut PlainMachine,
+) -> Result<(), AllocError>
     requires { IsTypedHeld image.now.types machine.old.held }
     ensures { IsTypedHeld image.now.types machine.new.held }
 {

@@ -2,6 +2,7 @@
 ghost use Rattle.machine_answers.specs.Replies.{MayNest};
 
 use api_http::{Answer, print_reply};
+use example_texts::same;
 use machine_answers::MachineReply;
 use settings_tree::TxName;
 use std::alloc::{AllocError, Global};
@@ -39,4 +40,12 @@ pub fn said(alloc: Global, reply: MachineReply) -> Result<String, AllocError>
     let body = body(alloc, &answer)?;
     let body = body.as_str();
     format!(in alloc; "{status} {body}")
+}
+
+/// The answer says the reply so.
+pub fn says(alloc: Global, reply: MachineReply, wanted: &str, at: &str) -> Result<(), Fail>
+    requires { MayNest reply }
+{
+    let shown = said(alloc, reply)?;
+    same(shown.as_str(), wanted, at)
 }

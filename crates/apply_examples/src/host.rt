@@ -1,7 +1,6 @@
 //! A small host: three services with a file each, and four commands.
-use disk_memory::MemoryDisk;
-use example_texts::put;
-use key_names::Bytes;
+use disk_memory::{MemoryDisk, MemorySpawner};
+use example_texts::{bytes, put};
 use outside::{Disk, Path};
 use plain_machine::{PlainImage, PlainMachine};
 use std::alloc::Global;
@@ -59,19 +58,24 @@ const FILES: &[(&str, &str)] = &[
     ("etc/sysctl", "old"),
 ];
 
-/// The disk of the host, synced.
-pub fn disk_of(alloc: Global) -> Result<MemoryDisk, Fail> {
-    let mut disk = MemoryDisk::new(alloc)?;
-    for (path, bytes) in FILES {
-        put(alloc, &mut disk, path, bytes)?;
+// Puts the files on the disk, and syncs it.
+fn fill(alloc: Global, disk: &mut MemoryDisk) -> Result<(), Fail> {
+    for (path, text) in FILES {
+        put(alloc, disk, path, text)?;
     }
-    disk.sync()?;
+    Ok(disk.sync()?)
+}
+
+// The disk of the host, synced.
+fn disk_of(alloc: Global) -> Result<MemoryDisk, Fail> {
+    let mut disk = MemoryDisk::new(alloc)?;
+    fill(alloc, &mut disk)?;
     Ok(disk)
 }
 
-/// The image of the host.
-pub fn image_of(alloc: Global) -> Result<PlainImage, Fail> {
-    let image = read_image(alloc, &mut disk_of(alloc)?)?;
+// The image that stands on the disk.
+fn image_on(alloc: Global, disk: &mut MemoryDisk) -> Result<PlainImage, Fail> {
+    let image = read_image(alloc, disk)?;
     Ok(PlainImage {
         types: image.model.types,
         os: image.model.os,
@@ -82,28 +86,62 @@ pub fn image_of(alloc: Global) -> Result<PlainImage, Fail> {
     })
 }
 
+/// The image of the host.
+pub fn image_of(alloc: Global) -> Result<PlainImage, Fail> {
+    let mut disk = disk_of(alloc)?;
+    image_on(alloc, &mut disk)
+}
+
 /// The configuration files.
 pub const WRITTEN: &[&str] = &["/etc/chrony.conf", "/etc/motd", "/etc/sysctl"];
 
-// The machine with the old files, which owes all and runs no job.
-fn resting(alloc: Global, image: &PlainImage) -> Result<PlainMachine, Fail> {
+// The machine has the old file at the path.
+fn put_old(alloc: Global, machine: &mut PlainMachine, path: &str) -> Result<(), Fail> {
+    let path = Path::read(alloc, path.as_bytes())?;
+    let old = bytes(alloc, "old")?;
+    machine.etc.insert(path, old)?;
+    Ok(())
+}
+
+// The machine has the default settings and the old files, and runs a job of all that it owes.
+fn begin(alloc: Global, image: &PlainImage, machine: &mut PlainMachine) -> Result<(), Fail> {
+    machine.held.live = image.defaults.copy()?;
+    for path in WRITTEN {
+        put_old(alloc, machine, path)?;
+    }
+    Ok(machine.apply(alloc, image)?)
+}
+
+// The machine with the old files, which owes all and runs a job of it.
+fn machine_of(alloc: Global, image: &PlainImage) -> Result<PlainMachine, Fail> {
     let version = Version {
         major: 1,
         minor: 5,
         patch: 2,
     };
     let mut machine = PlainMachine::new(alloc, version);
-    machine.held.live = image.defaults.copy()?;
-    for path in WRITTEN {
-        let path = Path::read(alloc, path.as_bytes())?;
-        machine.etc.insert(path, Bytes::of(b"old".to_vec(alloc)?))?;
-    }
+    begin(alloc, image, &mut machine)?;
     Ok(machine)
 }
 
-/// The machine with the old files, which owes all and runs a job of it.
-pub fn machine_of(alloc: Global, image: &PlainImage) -> Result<PlainMachine, Fail> {
-    let mut machine = resting(alloc, image)?;
-    machine.apply(alloc, image)?;
-    Ok(machine)
+/// A disk with its programs, and the machine that is to come to the same.
+#[derive(Drop)]
+pub struct Host {
+    /// The machine.
+    pub machine: PlainMachine,
+    /// The disk.
+    pub disk: MemoryDisk,
+    /// The programs.
+    pub spawner: MemorySpawner,
+}
+
+/// The host with the old files, which owes all. The machine runs a job of it, and the programs end with these.
+pub fn host_of(alloc: Global, image: &PlainImage, statuses: &[Option<u16>]) -> Result<Host, Fail> {
+    let statuses = statuses.to_vec(alloc)?;
+    let disk = disk_of(alloc)?;
+    Ok(Host {
+        machine: machine_of(alloc, image)?,
+        disk,
+        spawner: MemorySpawner::of_statuses(alloc, statuses),
+    })
 }

@@ -2,7 +2,7 @@
 use crate::host::WRITTEN;
 use affected_apply::Turn;
 use disk_memory::{MemoryDisk, MemorySpawner, Node};
-use key_names::Text;
+use key_names::{Bytes, Text};
 use outside::Path;
 use plain_machine::PlainMachine;
 use settings_machine::Job;
@@ -27,30 +27,29 @@ pub fn machine_stands(alloc: Global, job: &Job) -> Result<String, AllocError> {
     }
 }
 
-fn push_file(
-    alloc: Global,
-    shown: &mut String,
-    disk: &MemoryDisk,
-    path: &Path,
-) -> Result<(), Fail> {
-    if let Some(Node::File(bytes)) = disk.node(path) {
+// What a file holds, if there is one, with a bar behind it.
+fn push_file(alloc: Global, shown: &mut String, held: Option<&Bytes>) -> Result<(), AllocError> {
+    if let Some(bytes) = held {
         let text = String::from_utf8_lossy(alloc, bytes.as_slice())?;
         shown.push_str(text.as_str())?;
     }
-    shown.push('|')?;
-    Ok(())
+    shown.push('|')
+}
+
+// What the file at the path holds, if one stands there.
+fn held_at<'a>(disk: &'a MemoryDisk, path: &Path) -> Option<&'a Bytes> {
+    match disk.node(path) {
+        Some(Node::File(bytes)) => Some(bytes),
+        _ => None,
+    }
 }
 
 /// What the files of chrony, motd and sysctl hold, each followed by a bar.
 pub fn files_of(alloc: Global, disk: &MemoryDisk) -> Result<String, Fail> {
     let mut shown = String::new(alloc);
     for path in WRITTEN {
-        push_file(
-            alloc,
-            &mut shown,
-            disk,
-            &Path::read(alloc, path.as_bytes())?,
-        )?;
+        let path = Path::read(alloc, path.as_bytes())?;
+        push_file(alloc, &mut shown, held_at(disk, &path))?;
     }
     Ok(shown)
 }
@@ -59,11 +58,8 @@ pub fn files_of(alloc: Global, disk: &MemoryDisk) -> Result<String, Fail> {
 pub fn machine_files(alloc: Global, machine: &PlainMachine) -> Result<String, Fail> {
     let mut shown = String::new(alloc);
     for path in WRITTEN {
-        if let Some(bytes) = machine.etc.get(&Path::read(alloc, path.as_bytes())?) {
-            let text = String::from_utf8_lossy(alloc, bytes.as_slice())?;
-            shown.push_str(text.as_str())?;
-        }
-        shown.push('|')?;
+        let path = Path::read(alloc, path.as_bytes())?;
+        push_file(alloc, &mut shown, machine.etc.get(&path))?;
     }
     Ok(shown)
 }

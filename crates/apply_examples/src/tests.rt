@@ -1,8 +1,8 @@
 //! A job of all that fails at each call of the disk and of the spawner, and is stopped after each.
 use crate::driving::drive;
-use crate::host::{disk_of, image_of, machine_of};
+use crate::host::{Host, host_of, image_of};
 use crate::shown::files_of;
-use disk_memory::{Bytes, MemoryDisk, MemorySpawner, Pick};
+use disk_memory::{Bytes, MemoryDisk, Pick};
 use example_texts::same;
 use plain_machine::PlainImage;
 use std::alloc::{AllocError, Global};
@@ -45,25 +45,30 @@ fn begins(shown: &str, wanted: &str) -> Result<(), Fail> {
     Err(Fail::new(format_args!("{shown}, not {wanted}")))
 }
 
+// The job goes on to its end, and stands so.
+fn ends(alloc: Global, image: &PlainImage, host: &mut Host, wanted: &str) -> Result<(), Fail> {
+    let shown = drive(alloc, image, host)?;
+    begins(shown.as_str(), wanted)
+}
+
 // The job makes the turns that it is to make, and the next one pays.
-fn goes(alloc: Global, image: &PlainImage, row: Row) -> Result<(), Fail> {
+fn pays(alloc: Global, image: &PlainImage, host: &mut Host, row: Row) -> Result<(), Fail> {
     let (call, statuses, wanted) = row;
-    let mut machine = machine_of(alloc, image)?;
-    let mut disk = disk_of(alloc)?;
-    fail_call(alloc, &mut disk, call)?;
-    let mut spawner = MemorySpawner::of_statuses(alloc, statuses.to_vec(alloc)?);
-    let shown = drive(alloc, image, &mut machine, &mut disk, &mut spawner)?;
-    begins(shown.as_str(), wanted)?;
-    machine.apply(alloc, image)?;
-    let shown = drive(alloc, image, &mut machine, &mut disk, &mut spawner)?;
-    begins(
-        shown.as_str(),
-        if call == 0 && statuses.is_empty() {
-            "0 idle"
-        } else {
-            "7 idle"
-        },
-    )
+    fail_call(alloc, &mut host.disk, call)?;
+    ends(alloc, image, host, wanted)?;
+    host.machine.apply(alloc, image)?;
+    let next = if call == 0 && statuses.is_empty() {
+        "0 idle"
+    } else {
+        "7 idle"
+    };
+    ends(alloc, image, host, next)
+}
+
+// So does the job of a new host, whose programs end as the row says.
+fn goes(alloc: Global, image: &PlainImage, row: Row) -> Result<(), Fail> {
+    let mut host = host_of(alloc, image, row.1)?;
+    pays(alloc, image, &mut host, row)
 }
 
 #[test]
@@ -92,10 +97,12 @@ fn picks(alloc: Global, name: &str) -> Result<Vec<Pick>, AllocError> {
     Ok(picks)
 }
 
+// The calls of the disk before the stop, what is picked of each file that was touched, and what a crash leaves.
+type Stop = (u64, &'static str, &'static str);
+
 const PAID: &str = "a b |Welcome||";
 
-// The calls of the disk before the stop, what is picked of each file that was touched, and what a crash leaves.
-const STOPS: &[(u64, &str, &str)] = &[
+const STOPS: &[Stop] = &[
     (0, "old", "old|old|old|"),
     (0, "new", "old|old|old|"),
     (0, "torn", "xx|old|old|"),
@@ -113,28 +120,34 @@ const STOPS: &[(u64, &str, &str)] = &[
     (4, "torn", PAID),
 ];
 
+// What a crash of the disk leaves of the files, where this is picked of each.
+fn crashed(alloc: Global, disk: &MemoryDisk, picked: &str) -> Result<String, Fail> {
+    let picks = picks(alloc, picked)?;
+    let crashed = disk.crash(&picks)?;
+    files_of(alloc, &crashed)
+}
+
 // A job that is stopped goes on as the machine does, and a crash leaves these files.
-fn leaves(
-    alloc: Global,
-    image: &PlainImage,
-    calls: u64,
-    picked: &str,
-    left: &str,
-) -> Result<(), Fail> {
-    let mut machine = machine_of(alloc, image)?;
-    let mut disk = disk_of(alloc)?;
-    disk.stop_after(disk.calls().saturating_add(calls));
-    let mut spawner = MemorySpawner::of_statuses(alloc, Vec::new(alloc));
-    drive(alloc, image, &mut machine, &mut disk, &mut spawner)?;
-    let crashed = disk.crash(&picks(alloc, picked)?)?;
-    same(files_of(alloc, &crashed)?.as_str(), left, picked)
+fn stops(alloc: Global, image: &PlainImage, host: &mut Host, stop: Stop) -> Result<(), Fail> {
+    let (calls, picked, left) = stop;
+    let last = host.disk.calls().saturating_add(calls);
+    host.disk.stop_after(last);
+    drive(alloc, image, host)?;
+    let files = crashed(alloc, &host.disk, picked)?;
+    same(files.as_str(), left, picked)
+}
+
+// So does the job of a new host, whose programs go well.
+fn leaves(alloc: Global, image: &PlainImage, stop: Stop) -> Result<(), Fail> {
+    let mut host = host_of(alloc, image, &[])?;
+    stops(alloc, image, &mut host, stop)
 }
 
 #[test]
 fn leaves_what_is_due(rt: HostRuntime) -> Result<(), Fail> {
     let image = image_of(rt.alloc())?;
-    for (calls, picked, left) in STOPS {
-        leaves(rt.alloc(), &image, *calls, picked, left)?;
+    for stop in STOPS {
+        leaves(rt.alloc(), &image, *stop)?;
     }
     Ok(())
 }

@@ -14,7 +14,7 @@ use Rattle.settings_machine.specs.Requests.{Request}
 use Rattle.settings_machine.specs.Step.{noting, opened}
 use Rattle.settings_machine.specs.Events.{Event}
 use Rattle.settings_machine.specs.Paid.{IsGood}
-use Rattle.machine_disk.specs.Kept.{Folder, DiskAt}
+use Rattle.machine_disk.specs.Kept.{Folder, CoreState, DiskAt}
 use Rattle.machine_disk.specs.Ran.{OpensTo}
 use Rattle.machine_disk.proofs.Runs.{opens_kept}
 use Rattle.command_outcome.specs.declared.refusal.Refusal.{Refusal}
@@ -57,7 +57,7 @@ refusal_makes qs Tells e result ran_before ran_after old new opens = record {
 -- ---- what is told at the end
 
 -- A refusal is one whatever would have been told.
-comes_err : {A B : Type 0} (I : Image) (W : World) (qs : List Request) (P : World → A → Type 0) (Q : World → B → Type 0) (e : Refusal) (asked turned : List Event)
+pub comes_err : {A B : Type 0} (I : Image) (W : World) (qs : List Request) (P : World → A → Type 0) (Q : World → B → Type 0) (e : Refusal) (asked turned : List Event)
     → Comes I W qs P (Err e) asked turned → Comes I W qs Q (Err e) asked turned
 comes_err I W qs P Q refused.Memory asked turned comes = comes
 comes_err I W qs P Q refused.Usage asked turned comes = comes
@@ -85,48 +85,42 @@ comes_err I W qs P Q (refused.MigrationStatus name number) asked turned comes = 
 comes_err I W qs P Q (refused.MigrationOutput name) asked turned comes = comes
 
 module _ {A B : Type 0} (qs : List Request) (P : World → A → Type 0) (Q : World → B → Type 0) (r : Result A Refusal) (s : Result B Refusal) (ran_before ran_after : Option (List Run))
-    (step : (I : Image) (W : World) (asked turned : List Event) → Comes I W qs P r asked turned → Comes I W qs Q s asked turned)
-    (hands : (e : OpenError) → r ≡ Err (not_opened e) → s ≡ Err (not_opened e)) where
-  follows_as : (I : Image) (folder : Folder) (W V : World) (store : Opened) (old new : History) → GoesOn I folder W V qs P store r ran_before ran_after old new
-      → GoesOn I folder W V qs Q store s ran_before ran_after old new
-  follows_as I folder W V store old new goes =
-      let f : Follows I folder (opened I W false) (opened I W false) qs P r (core_over store) ran_before ran_after goes.between new = goes.follows in
-      record {
-        between = goes.between;
-        opens = goes.opens;
-        follows = record {
-          asked = f.asked;
-          turned = f.turned;
-          comes = step I (opened I W false) f.asked f.turned f.comes;
-          now = f.now;
-          made = f.made;
-          runs = f.runs;
-        };
-      }
+    (step : (I : Image) (W : World) (asked turned : List Event) → Comes I W qs P r asked turned → Comes I W qs Q s asked turned) where
+  follows_as : (I : Image) (folder : Folder) (W V : World) (before : CoreState) (old new : History) → Follows I folder W V qs P r before ran_before ran_after old new
+      → Follows I folder W V qs Q s before ran_before ran_after old new
+  follows_as I folder W V before old new f =
+      record { asked = f.asked; turned = f.turned; comes = step I W f.asked f.turned f.comes; now = f.now; made = f.made; runs = f.runs }
+
+  -- From an open store,
+  pub goes_as : (store : Opened) (old new : History) → GoesOnFrom qs P store r ran_before ran_after old new → GoesOnFrom qs Q store s ran_before ran_after old new
+  goes_as store old new goes = record { each = λ I good holds folder W V kept. follows_as I folder W V (core_over store) old new (goes.each I good holds folder W V kept) }
 
   by_opening : (I : Image) (folder : Folder) (W V : World) (opening : Result Opened OpenError) (old new : History) → MakesBy I folder W V qs P opening r ran_before ran_after old new
       → MakesBy I folder W V qs Q opening s ran_before ran_after old new
-  by_opening I folder W V (Ok store) old new goes = follows_as I folder W V store old new goes
+  by_opening I folder W V (Ok store) old new goes =
+      let X = opened I W false in
+      record { between = goes.between; opens = goes.opens; follows = follows_as I folder X X (core_over store) goes.between new goes.follows }
   by_opening I folder W V (Err e) old new run = run
 
-  handed : (opening : Result Opened OpenError) → IfErr opening (λ e. r ≡ Err (not_opened e)) → IfErr opening (λ e. s ≡ Err (not_opened e))
-  handed (Ok store) is = tt
-  handed (Err e) is = hands e is
+  module _ (hands : (e : OpenError) → r ≡ Err (not_opened e) → s ≡ Err (not_opened e)) where
+    handed : (opening : Result Opened OpenError) → IfErr opening (λ e. r ≡ Err (not_opened e)) → IfErr opening (λ e. s ≡ Err (not_opened e))
+    handed (Ok store) is = tt
+    handed (Err e) is = hands e is
 
-  -- What is told at the end is another thing of the same.
-  pub carries_as : (told_before told_after : Option History) → CarriesOut qs P r ran_before ran_after told_before told_after
-      → CarriesOut qs Q s ran_before ran_after told_before told_after
-  carries_as told_before told_after c = record {
-    opening = c.opening;
-    hands = handed c.opening c.hands;
-    unspawned = c.unspawned;
-    makes = moves_map
-        (λ old new (m : Makes qs P c.opening r ran_before ran_after old new). record {
-          unopened = m.unopened;
-          each = λ I good folder is W V disk idle. by_opening I folder W V c.opening old new (m.each I good folder is W V disk idle);
-        })
-        c.makes;
-  }
+    -- and with the opening, what is told at the end is another thing of the same.
+    pub carries_as : (told_before told_after : Option History) → CarriesOut qs P r ran_before ran_after told_before told_after
+        → CarriesOut qs Q s ran_before ran_after told_before told_after
+    carries_as told_before told_after c = record {
+      opening = c.opening;
+      hands = handed c.opening c.hands;
+      unspawned = c.unspawned;
+      makes = moves_map
+          (λ old new (m : Makes qs P c.opening r ran_before ran_after old new). record {
+            unopened = m.unopened;
+            each = λ I good folder is W V disk idle. by_opening I folder W V c.opening old new (m.each I good folder is W V disk idle);
+          })
+          c.makes;
+    }
 
 module _ {A B : Type 0} (qs : List Request) (P : World → A → Type 0) (Q : World → B → Type 0) (ran_before ran_after : Option (List Run)) (told_before told_after : Option History) where
   -- A refusal,

@@ -1,5 +1,5 @@
 -- What follows an opening: requests, turns, and what is told at the end.
-use Rattle.std.proofs.Common.{◌≡◌, inl, inr, false, List, [], ◌++◌, Option, Some, None, Ok, Err, refl, sym, ◌∙◌, ap, subst}
+use Rattle.std.proofs.Common.{◌≡◌, inl, inr, false, List, [], ◌++◌, Option, Some, None, Result, Ok, Err, OnOk, refl, sym, ◌∙◌, ap, subst}
 use Rattle.std.proofs.lemmas.List.{append-nil}
 use Rattle.outside.specs.History.{History}
 use Rattle.outside.specs.Spawner.{Run}
@@ -26,7 +26,7 @@ use Rattle.api_core.specs.Cores.{core_state}
 use Rattle.api_core.specs.Turned.{IsTurned, Turns}
 use Rattle.api_core.specs.declared.serving.Core.{Core}
 use Rattle.core_commands.specs.Asking.{Stops, AskedBy, AsksEach}
-use Rattle.core_commands.specs.Carried.{HasStopped, HasEnded, Comes, core_over, Follows, GoesOnFrom}
+use Rattle.core_commands.specs.Carried.{HasStopped, HasEnded, Comes, HoldsAll, core_over, Follows, GoesOnFrom}
 use Rattle.core_commands.specs.Handing.{failed_for, told_reply, HandsSent, HandsCause, HandsJob, Drives}
 use Rattle.core_commands.proofs.Replied.{not_unopened, IsTold, machines, no_memory, disk, says_told, says_fault}
 use Rattle.core_commands.proofs.Fresh.{IsFresh, asked_fresh}
@@ -185,6 +185,15 @@ follows_done qs Tells store said job now ran_before ran_after old new drives cal
         runs = e.runs;
       };
 }
+
+-- Turns were made: what the core holds then, or why the job failed.
+pub follows_driven : (qs : List Request) (store : Opened) (result : Result (Unit {0}) Refusal) (job : Job) (now : Core)
+    (ran_before ran_after : Option (List Run)) (old new : History) → Drives job (core_state now).job result → OnOk result ((core_state now).faulted ≡ false)
+    → EndsFrom qs store job (core_state now) ran_before ran_after old new → GoesOnFrom qs (λ W done. HoldsAll W now) store result ran_before ran_after old new
+follows_driven qs store (Ok done) job now ran_before ran_after old new drives calm ends =
+    follows_done qs (λ W done. HoldsAll W now) store done job (core_state now) ran_before ran_after old new drives calm (λ X held job. (held, job)) ends
+follows_driven qs store (Err refusal) job now ran_before ran_after old new drives calm ends =
+    follows_failed qs (λ W done. HoldsAll W now) store refusal job (core_state now) ran_before ran_after old new drives ends
 
 -- No turn is made where no job runs.
 pub no_turns : (c : Core) (ran : Option (List Run)) (old : History) → is_running (core_state c).job ≡ false → Turns c None c ran ran old old

@@ -1,5 +1,5 @@
 -- What commands tell at their end.
-use Rattle.std.proofs.Common.{◌≡◌, List, [], ◌∷◌, All, IsTrue, Option, Ok, Err, IfOk, IfErr, sym, subst}
+use Rattle.std.proofs.Common.{◌≡◌, List, [], ◌∷◌, All, IsTrue, Option, Ok, Err, IfOk, IfErr, sym, ap, subst}
 use Rattle.std.proofs.lemmas.List.Elements.{All-map}
 use Rattle.outside.specs.History.{History}
 use Rattle.outside.specs.Spawner.{Run}
@@ -9,13 +9,13 @@ use Rattle.json_trees.specs.declared.pending.Pending.TheVariants as pending
 use Rattle.json_trees.specs.declared.scalar.Scalar.{Scalar}
 use Rattle.settings_tree.specs.Content.{settings_key}
 use Rattle.settings_tree.specs.declared.held.Held.{Held}
-use Rattle.settings_machine.specs.World.{Key, World}
+use Rattle.settings_machine.specs.World.{Key, World, Idle}
 use Rattle.settings_machine.specs.Requests.{Request}
 use Rattle.command_outcome.specs.Ends.{Outcome}
 use Rattle.command_outcome.specs.declared.refusal.Refusal.{Refusal}
 use Rattle.command_outcome.specs.declared.refusal.Refusal.TheVariants as refused
 use Rattle.core_commands.specs.Carried.{CarriesOut, puts_of}
-use Rattle.core_commands.specs.Lines.{IsTreeLine, IsSettingsLine}
+use Rattle.core_commands.specs.Lines.{IsTreeLine, IsSettingsLine, IsJobLine}
 use Rattle.core_commands.proofs.Carryings.{carries_said, carries_lost}
 
 -- The keys of what is put are those of the pairs.
@@ -36,3 +36,14 @@ settings_told qs P said held (Ok line) ran_before ran_after told_before told_aft
 settings_told qs P said held (Err e) ran_before ran_after told_before told_after same tells memory c =
     subst (λ (x : Refusal). CarriesOut qs IsSettingsLine (Err x) ran_before ran_after told_before told_after) (sym memory)
     (carries_lost qs P IsSettingsLine ran_before ran_after told_before told_after said c)
+
+-- The line of an idle job and of what is owed, or want of memory for it.
+pub job_told : {A : Type 0} (qs : List Request) (P : World → A → Type 0) (said : A) (held : Held) (outcome : Outcome) (ran_before ran_after : Option (List Run))
+    (told_before told_after : Option History) → ((W : World) → P W said → (W.held ≡ held) × (W.job ≡ Idle))
+    → IfOk outcome (λ line. (W : World) → W.held.owed ≡ held.owed → W.job ≡ Idle → IsJobLine W line) → IfErr outcome (λ refusal. refusal ≡ refused.Memory)
+    → CarriesOut qs P (Ok said) ran_before ran_after told_before told_after → CarriesOut qs IsJobLine outcome ran_before ran_after told_before told_after
+job_told qs P said held (Ok line) ran_before ran_after told_before told_after same tells memory c =
+    carries_said qs P IsJobLine ran_before ran_after told_before told_after said line (λ W p. tells W (ap (λ (h : Held). h.owed) (same W p).0) (same W p).1) c
+job_told qs P said held (Err e) ran_before ran_after told_before told_after same tells memory c =
+    subst (λ (x : Refusal). CarriesOut qs IsJobLine (Err x) ran_before ran_after told_before told_after) (sym memory)
+    (carries_lost qs P IsJobLine ran_before ran_after told_before told_after said c)

@@ -90,6 +90,11 @@ HoldsAll W c = (W.held ≡ (core_state c).held) × (W.job ≡ Idle)
 abbrev pub core_over : Opened → CoreState
 core_over store = record { place = store.place; held = store.held; job = Idle; faulted = false }
 
+-- The core stands over this store, which was just opened.
+pub record IsOver (c : Core) (store : Opened) : Type 0 where
+  pub state : core_state c ≡ core_over store
+  pub image : c.image ≡ store.image
+
 -- From W, where the store is open, requests are asked and turns made, crash included, and it comes to this.
 pub record Follows {T : Type 0} (I : Image) (folder : Folder) (W V : World) (qs : List Request) (Tells : World → T → Type 0) (result : Result T Refusal) (before : CoreState)
     (ran_before ran_after : Option (List Run)) (old new : History) : Type 0 where

@@ -1,5 +1,5 @@
 //! The command `apply`.
-ghost use Rattle.std.specs.Prelude.{◌≡◌, ◌∷◌, [], All, IfOk};
+ghost use Rattle.std.specs.Prelude.{◌≡◌, ◌∷◌, [], All, IfErr, IfOk};
 ghost use Rattle.outside.specs.Faults.{HasCauseOf};
 ghost use Rattle.settings_machine.specs.World.{World, Idle};
 ghost use Rattle.api_http.specs.Questions.{question, IsProper};
@@ -16,14 +16,15 @@ use key_names::Bytes;
 use machine_answers::{JobShown, job_text};
 use outside::{Disk, Spawner};
 use settings_tree::Owed;
-use std::alloc::{AllocError, Global};
+use std::alloc::Global;
 
 // What a client is told of an idle job and of what is owed, as a line.
-fn idle_line(alloc: Global, owed: &Owed) -> Result<Bytes, AllocError>
-    ensures { IfOk result (λ line. (W : World) → W.held.owed ≡ owed.now → W.job ≡ Idle → IsJobLine W line) }
+fn idle_line(alloc: Global, owed: &Owed) -> Result<Bytes, Refusal>
+    ensures ok { IfOk result (λ line. (W : World) → W.held.owed ≡ owed.now → W.job ≡ Idle → IsJobLine W line) }
+    ensures memory { IfErr result (λ refusal. refusal ≡ Refusal.Memory) }
 {
     let text = job_text(alloc, JobShown::Idle, owed)?;
-    line_of(alloc, &text)
+    Ok(line_of(alloc, &text)?)
 }
 
 /// Applies what is owed: opens the store, without boot; asks for the job; makes turns until no job runs; and answers what a client
@@ -42,5 +43,5 @@ pub fn apply<D: Disk, S: Spawner>(
     ensures asked { S.asked spawner.new ≡ S.asked spawner.old }
 {
     let core = carry(alloc, &[Ask::Apply], disk, spawner)?;
-    Ok(idle_line(alloc, &core.held().owed)?)
+    idle_line(alloc, &core.held().owed)
 }

@@ -1,11 +1,12 @@
 //! Requests over a store that is opened, and the job's end.
-ghost use Rattle.std.specs.Prelude.{◌≡◌, All};
+ghost use Rattle.std.specs.Prelude.{◌≡◌, All, false};
 ghost use Rattle.outside.specs.Told.{Moves};
 ghost use Rattle.outside.specs.Faults.{HasCauseOf};
 ghost use Rattle.api_http.specs.Questions.{question, IsProper};
 ghost use Rattle.store_open.specs.Opening.{IsSoundOpened};
+ghost use Rattle.api_core.specs.Cores.{core_state, IsSound};
 ghost use Rattle.core_commands.specs.Asking.{requests};
-ghost use Rattle.core_commands.specs.Carried.{CarriesOut, GoesOnFrom, HoldsAll};
+ghost use Rattle.core_commands.specs.Carried.{CarriesOut, GoesOnFrom, HoldsAll, IsOver};
 ghost use Rattle.core_commands.specs.Handing.{HasSpawnCause};
 
 use crate::asking::ask_each;
@@ -19,6 +20,29 @@ use std::alloc::Global;
 use store_open::{Opened, open_store};
 
 // Asks the requests of a core over a store that was just opened, and makes turns until no job runs.
+fn ask_and_drive<D: Disk, S: Spawner>(
+    alloc: Global,
+    core: &mut Core,
+    asks: &[Ask],
+    disk: &mut D,
+    spawner: &mut S,
+) -> Result<(), Refusal>
+    requires sound { IsSound core.old }
+    requires calm { (core_state core.old).faulted ≡ false }
+    requires proper { All (λ ask. IsProper (question ask)) asks.now }
+    ensures goes { (store : Opened) → IsOver core.old store → Moves (D.told disk.old) (D.told disk.new)
+        (GoesOnFrom (requests asks.now) (λ W done. HoldsAll W core.new) store result (S.runs spawner.old) (S.runs spawner.new)) }
+    ensures cause { HasCauseOf Refusal.Disk (D.faults disk.old) (D.faults disk.new) result }
+    ensures spawn { HasSpawnCause (S.faults spawner.old) (S.faults spawner.new) result }
+    ensures asked { S.asked spawner.new ≡ S.asked spawner.old }
+{
+    if let Err(reply) = ask_each(alloc, core, asks, disk) {
+        return Err(refused(alloc, &reply));
+    }
+    drive(alloc, core, disk, spawner)
+}
+
+// The core over a store that was just opened, behind the requests and the turns.
 fn go_on<D: Disk, S: Spawner>(
     alloc: Global,
     store: Opened,
@@ -35,10 +59,7 @@ fn go_on<D: Disk, S: Spawner>(
     ensures asked { S.asked spawner.new ≡ S.asked spawner.old }
 {
     let mut core = Core::new(store);
-    if let Err(reply) = ask_each(alloc, &mut core, asks, disk) {
-        return Err(refused(alloc, &reply));
-    }
-    drive(alloc, &mut core, disk, spawner)?;
+    ask_and_drive(alloc, &mut core, asks, disk, spawner)?;
     Ok(core)
 }
 

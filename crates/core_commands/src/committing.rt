@@ -1,12 +1,14 @@
 //! Pairs are committed to a store that was just opened.
-ghost use Rattle.std.specs.Prelude.{◌≡◌, ◌++◌, ◌∷◌, [], All, IsTrue, IfOk, IfErr, codes};
+ghost use Rattle.std.specs.Prelude.{◌≡◌, ◌++◌, ◌∷◌, [], All, IsTrue, IfOk, IfErr, codes, false};
 ghost use Rattle.outside.specs.Told.{Moves};
 ghost use Rattle.outside.specs.Faults.{HasCauseOf};
 ghost use Rattle.key_names.specs.Key.{is_prefix};
 ghost use Rattle.settings_tree.specs.Content.{settings_key};
 ghost use Rattle.api_http.specs.Questions.{question, IsProper};
 ghost use Rattle.store_open.specs.Opening.{IsSoundOpened};
+ghost use Rattle.api_core.specs.Cores.{core_state, IsSound};
 ghost use Rattle.core_commands.specs.Asking.{requests};
+ghost use Rattle.core_commands.specs.Carried.{IsOver};
 ghost use Rattle.core_commands.specs.Committing.{patch_requests, Commits, IsOfCommit, HandsLast};
 
 use crate::asking::ask_each_and_last;
@@ -66,6 +68,29 @@ fn told(alloc: Global, replied: Result<Reply, Reply>) -> Result<Bytes, Refusal>
     }
 }
 
+// Commits the pairs to the core of a store that was just opened: see `commit_pairs`.
+fn commit_by<D: Disk>(
+    alloc: Global,
+    core: &mut Core,
+    tx: TxName,
+    pairs: &[(Key, Scalar)],
+    disk: &mut D,
+) -> Result<Bytes, Refusal>
+    requires sound { IsSound core.old }
+    requires calm { (core_state core.old).faulted ≡ false }
+    requires settings { All (λ pair. IsTrue (is_prefix settings_key pair.0)) pairs.now }
+    ensures commits { (store : Opened) → IsOver core.old store → Moves (D.told disk.old) (D.told disk.new) (Commits tx pairs.now store result) }
+    ensures of_commit { IfErr result IsOfCommit }
+    ensures cause { HasCauseOf Refusal.Disk (D.faults disk.old) (D.faults disk.new) result }
+{
+    if pairs.is_empty() {
+        return no_keys(alloc);
+    }
+    let asks = patch_asks(alloc, &tx, pairs)?;
+    let replied = ask_each_and_last(alloc, core, &asks, &Ask::Commit { tx }, disk);
+    told(alloc, replied)
+}
+
 /// Commits pairs to a store that was just opened: drops the transaction, patches it with the pairs in order, and commits it. It
 /// answers the keys that the commit has set, as a list in compact JSON (RFC 8259), and a line feed; `[]` where there are no pairs, and
 /// nothing is asked then. No job is begun.
@@ -85,12 +110,6 @@ pub fn commit_pairs<D: Disk>(
     ensures of_commit { IfErr result IsOfCommit }
     ensures cause { HasCauseOf Refusal.Disk (D.faults disk.old) (D.faults disk.new) result }
 {
-    if pairs.is_empty() {
-        return no_keys(alloc);
-    }
-    let asks = patch_asks(alloc, &tx, pairs)?;
-    let commit = Ask::Commit { tx };
     let mut core = Core::new(store);
-    let replied = ask_each_and_last(alloc, &mut core, &asks, &commit, disk);
-    told(alloc, replied)
+    commit_by(alloc, &mut core, tx, pairs, disk)
 }

@@ -202,53 +202,79 @@ fn call_is_last(
     stops(alloc, host, stages, kind)
 }
 
-// Each call fails in turn.
-fn calls_fail(alloc: Global, host: &mut Host) -> Result<(), Fail>
+// Each call fails in turn, on the same disk.
+fn calls_fail(
+    alloc: Global,
+    host: &mut Host,
+    from: &MemoryDisk,
+    stages: &[Stage],
+) -> Result<(), Fail>
     requires { IsSound host.old.core }
     ensures { IsSound host.new.core }
 {
-    let from = crashed(alloc, &host.disk, "new")?;
-    let stages = stages(alloc)?;
-    for made in 0..calls_of(alloc, host, &stages)? {
-        call_fails(alloc, host, &from, &stages, made)?;
+    for made in 0..calls_of(alloc, host, stages)? {
+        call_fails(alloc, host, from, stages, made)?;
     }
     Ok(())
 }
 
-// Each call is the last one in turn.
-fn calls_are_last(alloc: Global, host: &mut Host, kind: &str) -> Result<(), Fail>
+// Each call is the last one in turn, on the same disk.
+fn calls_are_last(
+    alloc: Global,
+    host: &mut Host,
+    from: &MemoryDisk,
+    stages: &[Stage],
+    kind: &str,
+) -> Result<(), Fail>
     requires { IsSound host.old.core }
     ensures { IsSound host.new.core }
 {
-    let from = crashed(alloc, &host.disk, "new")?;
-    let stages = stages(alloc)?;
-    for made in 0..calls_of(alloc, host, &stages)? {
-        call_is_last(alloc, host, &from, &stages, made, kind)?;
+    for made in 0..calls_of(alloc, host, stages)? {
+        call_is_last(alloc, host, from, stages, made, kind)?;
     }
     Ok(())
 }
 
-// With each kind of crash, from the same disk.
-fn crashes(alloc: Global, host: &mut Host) -> Result<(), Fail>
+// With each kind of crash, on the same disk.
+fn crashes(alloc: Global, host: &mut Host, from: &MemoryDisk, stages: &[Stage]) -> Result<(), Fail>
     requires { IsSound host.old.core }
     ensures { IsSound host.new.core }
 {
-    let from = crashed(alloc, &host.disk, "new")?;
     for kind in ["old", "new", "torn"] {
-        begin(alloc, host, &from)?;
-        calls_are_last(alloc, host, kind)?;
+        begin(alloc, host, from)?;
+        calls_are_last(alloc, host, from, stages, kind)?;
     }
     Ok(())
+}
+
+// Each call of the script fails in turn, from the disk of the host.
+fn script_fails(alloc: Global, host: &mut Host) -> Result<(), Fail>
+    requires { IsSound host.old.core }
+    ensures { IsSound host.new.core }
+{
+    let stages = stages(alloc)?;
+    let from = crashed(alloc, &host.disk, "new")?;
+    calls_fail(alloc, host, &from, &stages)
+}
+
+// Each call of the script is the last one in turn, from the disk of the host.
+fn script_stops(alloc: Global, host: &mut Host) -> Result<(), Fail>
+    requires { IsSound host.old.core }
+    ensures { IsSound host.new.core }
+{
+    let stages = stages(alloc)?;
+    let from = crashed(alloc, &host.disk, "new")?;
+    crashes(alloc, host, &from, &stages)
 }
 
 #[test]
 fn each_call_fails(rt: HostRuntime) -> Result<(), Fail> {
     let mut host = ready(rt.alloc())?;
-    calls_fail(rt.alloc(), &mut host)
+    script_fails(rt.alloc(), &mut host)
 }
 
 #[test]
 fn each_stop_leaves_all_or_nothing(rt: HostRuntime) -> Result<(), Fail> {
     let mut host = ready(rt.alloc())?;
-    crashes(rt.alloc(), &mut host)
+    script_stops(rt.alloc(), &mut host)
 }

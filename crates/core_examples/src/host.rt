@@ -7,7 +7,7 @@ ghost use Rattle.typed_settings.specs.Order.{IsTable};
 
 use api_core::Core;
 use disk_memory::{MemoryDisk, MemorySpawner};
-use outside::{Disk, Path};
+use outside::Disk;
 use plain_machine::PlainImage;
 use std::alloc::Global;
 use std::test::Fail;
@@ -44,19 +44,24 @@ pub const VERSION: Version = Version {
     patch: 2,
 };
 
-/// Puts a file on the disk.
+/// Puts a file on the disk, and syncs it.
 pub fn put(alloc: Global, disk: &mut MemoryDisk, path: &str, bytes: &str) -> Result<(), Fail> {
-    disk.replace(&Path::read(alloc, path.as_bytes())?, bytes.as_bytes())?;
+    example_texts::put(alloc, disk, path, bytes)?;
     Ok(disk.sync()?)
+}
+
+// Puts the files of the image on the disk, and a new store.
+fn fill(alloc: Global, disk: &mut MemoryDisk) -> Result<(), Fail> {
+    for (path, bytes) in FILES {
+        put(alloc, disk, path, bytes)?;
+    }
+    Ok(init(alloc, disk, &VERSION)?)
 }
 
 /// A disk with the files of the image, and a new store.
 pub fn begun(alloc: Global) -> Result<MemoryDisk, Fail> {
     let mut disk = MemoryDisk::new(alloc)?;
-    for (path, bytes) in FILES {
-        put(alloc, &mut disk, path, bytes)?;
-    }
-    init(alloc, &mut disk, &VERSION)?;
+    fill(alloc, &mut disk)?;
     Ok(disk)
 }
 
@@ -84,13 +89,13 @@ pub fn open(alloc: Global, disk: MemoryDisk) -> Result<Host, Fail>
     })
 }
 
-/// The image of the host.
-pub fn image(alloc: Global) -> Result<PlainImage, Fail>
+// The image that stands on the disk.
+fn image_on(alloc: Global, disk: &mut MemoryDisk) -> Result<PlainImage, Fail>
     ensures table { IfOk result (λ image. IsTable image.types) }
     ensures typed { IfOk result (λ image. AreTyped image.types image.defaults.values) }
     ensures settings { IfOk result (λ image. AreSettings image.defaults.values) }
 {
-    let image = read_image(alloc, &mut begun(alloc)?)?;
+    let image = read_image(alloc, disk)?;
     let _ = image.model.types.len();
     Ok(PlainImage {
         types: image.model.types,
@@ -100,4 +105,14 @@ pub fn image(alloc: Global) -> Result<PlainImage, Fail>
         templates: image.templates,
         text: image.text,
     })
+}
+
+/// The image of the host.
+pub fn image(alloc: Global) -> Result<PlainImage, Fail>
+    ensures table { IfOk result (λ image. IsTable image.types) }
+    ensures typed { IfOk result (λ image. AreTyped image.types image.defaults.values) }
+    ensures settings { IfOk result (λ image. AreSettings image.defaults.values) }
+{
+    let mut disk = begun(alloc)?;
+    image_on(alloc, &mut disk)
 }

@@ -65,6 +65,19 @@ fn turns(alloc: Global, image: &PlainImage, machine: &mut PlainMachine) -> Resul
     Ok(())
 }
 
+// Opens the store of the machine, and applies all.
+fn begin(alloc: Global, image: &PlainImage, machine: &mut PlainMachine) -> Result<(), AllocError>
+    requires table { IsTable image.now.types }
+    requires defaults { AreTyped image.now.types image.now.defaults.values }
+    requires settings { AreSettings image.now.defaults.values }
+    requires typed { IsTypedHeld image.now.types machine.old.held }
+    ensures { IsTypedHeld image.now.types machine.new.held }
+{
+    machine.open_store(alloc, image, false, OpeningAnswer::Succeeded)?;
+    machine.apply(alloc, image)?;
+    turns(alloc, image, machine)
+}
+
 // The machine of the host, of which all was applied.
 fn ready_machine(alloc: Global, image: &PlainImage) -> Result<PlainMachine, AllocError>
     requires table { IsTable image.now.types }
@@ -73,9 +86,7 @@ fn ready_machine(alloc: Global, image: &PlainImage) -> Result<PlainMachine, Allo
     ensures { IfOk result (λ machine. IsTypedHeld image.now.types machine.held) }
 {
     let mut machine = PlainMachine::new(alloc, VERSION);
-    machine.open_store(alloc, image, false, OpeningAnswer::Succeeded)?;
-    machine.apply(alloc, image)?;
-    turns(alloc, image, &mut machine)?;
+    begin(alloc, image, &mut machine)?;
     Ok(machine)
 }
 
@@ -114,6 +125,22 @@ fn said(alloc: Global, reply: MachineReply) -> Result<String, AllocError>
     reply_line(alloc, &print_reply(alloc, &answer)?)
 }
 
+// What the machine replies to the request.
+fn answered(
+    alloc: Global,
+    image: &PlainImage,
+    machine: &mut PlainMachine,
+    ask: &Ask,
+) -> Result<String, Fail>
+    requires table { IsTable image.now.types }
+    requires typed { IsTypedHeld image.now.types machine.old.held }
+    requires proper { IsProper (question ask.now) }
+    ensures { IsTypedHeld image.now.types machine.new.held }
+{
+    let reply = replied(alloc, image, machine, ask)?;
+    Ok(said(alloc, reply)?)
+}
+
 // What the machine makes of the line: the reply to a request, nothing for a turn.
 fn step(
     alloc: Global,
@@ -130,8 +157,7 @@ fn step(
         return Ok(String::new(alloc));
     }
     let ask = ask_of(alloc, line)?;
-    let reply = replied(alloc, image, machine, &ask)?;
-    Ok(said(alloc, reply)?)
+    answered(alloc, image, machine, &ask)
 }
 
 // What comes of the line.
@@ -158,21 +184,34 @@ fn stage_of(
     })
 }
 
+// What comes of the lines of the script with the machine.
+fn stages_with(
+    alloc: Global,
+    image: &PlainImage,
+    machine: &mut PlainMachine,
+) -> Result<Vec<Stage>, Fail>
+    requires table { IsTable image.now.types }
+    requires typed { IsTypedHeld image.now.types machine.old.held }
+{
+    let mut stages = Vec::new(alloc);
+    for line in SCRIPT {
+        stages.push(stage_of(alloc, image, machine, line)?)?;
+    }
+    Ok(stages)
+}
+
 // What comes of the lines of the script with the image.
-fn stages_with(alloc: Global, image: &PlainImage) -> Result<Vec<Stage>, Fail>
+fn stages_of(alloc: Global, image: &PlainImage) -> Result<Vec<Stage>, Fail>
     requires table { IsTable image.now.types }
     requires defaults { AreTyped image.now.types image.now.defaults.values }
     requires settings { AreSettings image.now.defaults.values }
 {
     let mut machine = ready_machine(alloc, image)?;
-    let mut stages = Vec::new(alloc);
-    for line in SCRIPT {
-        stages.push(stage_of(alloc, image, &mut machine, line)?)?;
-    }
-    Ok(stages)
+    stages_with(alloc, image, &mut machine)
 }
 
 /// What comes of the lines of the script, one after another.
 pub fn stages(alloc: Global) -> Result<Vec<Stage>, Fail> {
-    stages_with(alloc, &image(alloc)?)
+    let image = image(alloc)?;
+    stages_of(alloc, &image)
 }

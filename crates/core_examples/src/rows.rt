@@ -173,20 +173,28 @@ fn goes(alloc: Global, host: &mut Host, row: &[Step]) -> Result<(), Fail>
 }
 
 // Each row does, from the same disk.
-fn go(alloc: Global, host: &mut Host) -> Result<(), Fail>
+fn go(alloc: Global, host: &mut Host, from: &MemoryDisk) -> Result<(), Fail>
     requires { IsSound host.old.core }
     ensures { IsSound host.new.core }
 {
-    let from = crashed(alloc, &host.disk, "new")?;
     for row in ROWS {
-        begin(alloc, host, &from)?;
+        begin(alloc, host, from)?;
         goes(alloc, host, row)?;
     }
     Ok(())
 }
 
+// Each row does, from the disk of the host.
+fn all_go(alloc: Global, host: &mut Host) -> Result<(), Fail>
+    requires { IsSound host.old.core }
+    ensures { IsSound host.new.core }
+{
+    let from = crashed(alloc, &host.disk, "new")?;
+    go(alloc, host, &from)
+}
+
 #[test]
 fn rows_come_to_this(rt: HostRuntime) -> Result<(), Fail> {
     let mut host = ready(rt.alloc())?;
-    go(rt.alloc(), &mut host)
+    all_go(rt.alloc(), &mut host)
 }

@@ -113,11 +113,11 @@ fn apply(alloc: Global, host: &mut Host) -> Result<(), Fail>
     Ok(())
 }
 
-/// A host on which all was applied.
-pub fn ready(alloc: Global) -> Result<Host, Fail>
-    ensures { IfOk result (λ host. IsSound host.core) }
+/// A host on which all was applied, in a box: who owns it lets go of one value at each exit, not of each of its parts.
+pub fn ready(alloc: Global) -> Result<Box<Host>, Fail>
+    ensures { IfOk result (λ host. IsSound host.value.core) }
 {
-    let mut host = open(alloc, begun(alloc)?)?;
+    let mut host = Box::new(alloc, open(alloc, begun(alloc)?)?)?;
     apply(alloc, &mut host)?;
     Ok(host)
 }

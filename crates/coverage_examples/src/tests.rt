@@ -18,32 +18,47 @@ fn put(content: &mut Content, key: Key, value: Scalar) -> Result<(), AllocError>
     Ok(())
 }
 
-fn put_list(content: &mut Content, key: Key, name: Text, list: Scalar) -> Result<(), AllocError> {
+// Puts the list under the name of metadata at the key.
+fn put_meta(content: &mut Content, key: Key, name: Text, list: Scalar) -> Result<(), AllocError> {
     if is_meta_name(name.as_str().as_bytes()) {
         content.put_meta(key, name, list)?;
     }
     Ok(())
 }
 
-// Puts values at keys, and lists of affected services at keys that begin with `settings`.
-fn put_pairs(alloc: Global, content: &mut Content, pairs: &[(&str, &str)]) -> Result<(), Fail> {
-    for (key, json) in pairs {
-        let value = Scalar::of_json(alloc, json.as_bytes())?;
-        let name = Text::from_str(alloc, "affected-services")?;
-        let is_setting = key.starts_with("settings");
-        let key = Key::read(alloc, key.as_bytes())?;
-        if is_setting {
-            put_list(content, key, name, value)?;
-        } else {
-            put(content, key, value)?;
-        }
+// Puts the list of affected services at the key.
+fn put_list(
+    alloc: Global,
+    content: &mut Content,
+    key: Key,
+    list: Scalar,
+) -> Result<(), AllocError> {
+    let name = Text::from_str(alloc, "affected-services")?;
+    put_meta(content, key, name, list)
+}
+
+// Puts the value at the key, or a list of affected services at a key that begins with `settings`.
+fn put_pair(alloc: Global, content: &mut Content, at: &str, json: &str) -> Result<(), Fail> {
+    let key = Key::read(alloc, at.as_bytes())?;
+    let value = Scalar::of_json(alloc, json.as_bytes())?;
+    if at.starts_with("settings") {
+        put_list(alloc, content, key, value)?;
+    } else {
+        put(content, key, value)?;
     }
     Ok(())
 }
 
-// The manifest of an image with three services and four files, and with more lists.
-fn manifest(alloc: Global, more: &[(&str, &str)]) -> Result<Manifest, Fail> {
-    let mut content = Content::new(alloc);
+// Puts each pair of a key and JSON.
+fn put_pairs(alloc: Global, content: &mut Content, pairs: &[(&str, &str)]) -> Result<(), Fail> {
+    for (key, json) in pairs {
+        put_pair(alloc, content, key, json)?;
+    }
+    Ok(())
+}
+
+// Puts three services and four files, and more lists.
+fn put_image(alloc: Global, content: &mut Content, more: &[(&str, &str)]) -> Result<(), Fail> {
     let pairs = [
         ("services.motd.configuration-files", "[\"motd\"]"),
         ("services.chronyd.configuration-files", "[\"chrony\"]"),
@@ -60,9 +75,21 @@ fn manifest(alloc: Global, more: &[(&str, &str)]) -> Result<Manifest, Fail> {
         ("settings.ntp", "[\"chronyd\"]"),
         ("settings.kernel.sysctl", "[\"sysctl\"]"),
     ];
-    put_pairs(alloc, &mut content, &pairs)?;
-    put_pairs(alloc, &mut content, more)?;
+    put_pairs(alloc, content, &pairs)?;
+    put_pairs(alloc, content, more)
+}
+
+// The manifest of an image with three services and four files, and with more lists.
+fn manifest(alloc: Global, more: &[(&str, &str)]) -> Result<Manifest, Fail> {
+    let mut content = Content::new(alloc);
+    put_image(alloc, &mut content, more)?;
     Ok(Manifest::of(alloc, &content)?)
+}
+
+// A row of types: its pattern and its word.
+fn row(alloc: Global, pattern: &str, word: &str) -> Result<(Text, Text), AllocError> {
+    let pattern = Text::from_str(alloc, pattern)?;
+    Ok((pattern, Text::from_str(alloc, word)?))
 }
 
 fn types(alloc: Global) -> Result<Types, Fail> {
@@ -73,10 +100,7 @@ fn types(alloc: Global) -> Result<Types, Fail> {
         ("settings.kernel.sysctl.*", "line"),
     ];
     for (pattern, word) in texts {
-        rows.push((
-            Text::from_str(alloc, pattern)?,
-            Text::from_str(alloc, word)?,
-        ))?;
+        rows.push(row(alloc, pattern, word)?)?;
     }
     Ok(Types::of_rows(alloc, &rows)?)
 }
@@ -103,27 +127,39 @@ fn line(alloc: Global, coverage: &Coverage) -> Result<String, AllocError> {
 const SYSCTL: &str =
     "{{#if settings.kernel.sysctl}}\n{{#each settings.kernel.sysctl}}\n{{@key}}={{this}}\n{{/each}}\n{{/if}}\n";
 
+// Adds the key.
+fn push_key(text: &mut String, key: &Key) -> Result<(), AllocError> {
+    let key = key.print()?;
+    text.push_str(key.as_str())
+}
+
 // The keys, each followed by a space.
 fn joined(alloc: Global, keys: &[Key]) -> Result<String, AllocError> {
     let mut joined = String::new(alloc);
     for key in keys {
-        joined.push_str(key.print()?.as_str())?;
+        push_key(&mut joined, key)?;
         joined.push(' ')?;
     }
     Ok(joined)
 }
 
+// The paths that the template reads.
+fn paths_of(alloc: Global, source: &str) -> Result<String, Fail> {
+    let template = read(alloc, source.as_bytes())?;
+    let paths = reads(alloc, &template)?;
+    Ok(joined(alloc, &paths)?)
+}
+
 fn check_reads(rt: &(impl Abort + AllocGlobal), source: &str, wanted: &str) -> Result<(), Fail> {
-    let template = read(rt.alloc(), source.as_bytes())?;
-    let paths = reads(rt.alloc(), &template)?;
-    assert_eq!(rt; joined(rt.alloc(), &paths)?.as_str(), wanted);
+    let joined = paths_of(rt.alloc(), source)?;
+    assert_eq!(rt; joined.as_str(), wanted);
     Ok(())
 }
 
 #[test]
 fn reads_paths(rt: HostRuntime) -> Result<(), Fail> {
     // templates, and the paths that they read
-    let rows = [
+    let rows: &[(&str, &str)] = &[
         (SYSCTL, "settings.kernel.sysctl "),
         ("text", ""),
         ("{{b}}{{a.c}}{{b}}{{a}}", "a a.c b "),
@@ -146,6 +182,19 @@ fn reads_paths(rt: HostRuntime) -> Result<(), Fail> {
     Ok(())
 }
 
+// What is said of the coverage of the file with this template.
+fn told(
+    alloc: Global,
+    manifest: &Manifest,
+    types: &Types,
+    file: &str,
+    source: &str,
+) -> Result<String, Fail> {
+    let template = read(alloc, source.as_bytes())?;
+    let coverage = covered(alloc, manifest, types, &template, file.as_bytes())?;
+    Ok(line(alloc, &coverage)?)
+}
+
 fn check_covered(
     rt: &(impl Abort + AllocGlobal),
     more: &[(&str, &str)],
@@ -153,11 +202,10 @@ fn check_covered(
     source: &str,
     wanted: &str,
 ) -> Result<(), Fail> {
-    let manifest = manifest(rt.alloc(), more)?;
     let types = types(rt.alloc())?;
-    let template = read(rt.alloc(), source.as_bytes())?;
-    let coverage = covered(rt.alloc(), &manifest, &types, &template, file.as_bytes())?;
-    assert_eq!(rt; line(rt.alloc(), &coverage)?.as_str(), wanted);
+    let manifest = manifest(rt.alloc(), more)?;
+    let told = told(rt.alloc(), &manifest, &types, file, source)?;
+    assert_eq!(rt; told.as_str(), wanted);
     Ok(())
 }
 
@@ -166,7 +214,7 @@ const SERVERS: &str = "{{#each settings.ntp.time-servers}}{{this}}{{/each}}";
 #[test]
 fn covers_files(rt: HostRuntime) -> Result<(), Fail> {
     // files and their templates, and what is answered
-    let rows = [
+    let rows: &[(&str, &str, &str)] = &[
         ("motd", "{{settings.motd}}", "covered"),
         ("chrony", SERVERS, "covered"),
         ("sysctl", SYSCTL, "covered"),

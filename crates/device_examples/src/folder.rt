@@ -1,4 +1,5 @@
 //! Folders for tests.
+use std::test::Fail;
 use std::{env, fs, io, process};
 
 /// A new folder for this test.
@@ -10,4 +11,9 @@ pub fn new_folder(rt: &HostRuntime, name: &str) -> io::Result<String> {
     let _ = fs::remove_dir_all(rt, folder.as_str());
     fs::create_dir(rt, folder.as_str())?;
     Ok(folder)
+}
+
+/// Removes the folder of a test that is done.
+pub fn remove_folder(rt: &HostRuntime, folder: &str) -> Result<(), Fail> {
+    Ok(fs::remove_dir_all(rt, folder)?)
 }

@@ -1,9 +1,8 @@
 //! The real spawner.
-use crate::folder::new_folder;
+use crate::folder::{new_folder, remove_folder};
 use outside::{Asker, Spawner};
 use outside_real::RealSpawner;
 use std::alloc::{AllocError, Global};
-use std::fs;
 use std::test::Fail;
 
 fn words_of(alloc: Global, words: &[&str]) -> Result<Vec<String>, AllocError> {
@@ -14,14 +13,23 @@ fn words_of(alloc: Global, words: &[&str]) -> Result<Vec<String>, AllocError> {
     Ok(copies)
 }
 
-// The status of a program, or None where it can't be run.
-fn status_of(rt: &HostRuntime, words: &[&str]) -> Result<Option<u16>, Fail> {
-    let words = words_of(rt.alloc(), words)?;
+// The status of a program that this spawner runs, or None where it can't be run.
+fn status_by<S: Spawner>(
+    alloc: Global,
+    spawner: &mut S,
+    words: &[&str],
+) -> Result<Option<u16>, Fail> {
+    let words = words_of(alloc, words)?;
     if words.is_empty() {
         return Err("no words")?;
     }
-    let mut spawner = RealSpawner::new(rt.clone()?, ".")?;
     Ok(spawner.run(&words).ok())
+}
+
+// The same by a real spawner.
+fn status_of(rt: &HostRuntime, words: &[&str]) -> Result<Option<u16>, Fail> {
+    let mut spawner = RealSpawner::new(rt.clone()?, ".")?;
+    status_by(rt.alloc(), &mut spawner, words)
 }
 
 #[test]
@@ -33,37 +41,41 @@ fn a_spawner_runs_programs(rt: HostRuntime) -> Result<(), Fail> {
     Ok(())
 }
 
-// What a program writes for this input, up to `most` bytes and one more.
-fn output_of(
+// What a program that this spawner asks writes for this input, up to `most` bytes and one more.
+fn output_by<S: Asker>(
+    alloc: Global,
+    spawner: &mut S,
+    words: &[&str],
+    input: &[u8],
+    most: u8,
+) -> Result<Vec<u8>, Fail> {
+    let words = words_of(alloc, words)?;
+    if words.is_empty() {
+        return Err("no words")?;
+    }
+    Ok(spawner.ask(alloc, &words, input, usize::from(most))?.output)
+}
+
+// Whether a program that a real spawner asks in this folder writes this for the input.
+fn writes(
     rt: &HostRuntime,
     root: &str,
     words: &[&str],
     input: &[u8],
     most: u8,
-) -> Result<Vec<u8>, Fail> {
-    let words = words_of(rt.alloc(), words)?;
-    if words.is_empty() {
-        return Err("no words")?;
-    }
+    wanted: &[u8],
+) -> Result<bool, Fail> {
     let mut spawner = RealSpawner::new(rt.clone()?, root)?;
-    Ok(
-        spawner
-            .ask(rt.alloc(), &words, input, usize::from(most))?
-            .output,
-    )
+    let output = output_by(rt.alloc(), &mut spawner, words, input, most)?;
+    Ok(output.as_slice() == wanted)
 }
 
 #[test]
 fn a_spawner_asks_programs(rt: HostRuntime) -> Result<(), Fail> {
     let folder = new_folder(&rt, "spawner")?;
     let root = folder.as_str();
-    assert!(rt;
-        output_of(&rt, root, &["cat"], b"one two", 99)?.as_slice() == b"one two".as_slice()
-    );
-    assert!(rt; output_of(&rt, root, &["cat"], b"one two", 2)?.as_slice() == b"one".as_slice());
-    assert!(rt;
-        output_of(&rt, root, &["seq", "1", "100000"], b"", 1)?.as_slice() == b"1\n".as_slice()
-    );
-    fs::remove_dir_all(&rt, root)?;
-    Ok(())
+    assert!(rt; writes(&rt, root, &["cat"], b"one two", 99, b"one two")?);
+    assert!(rt; writes(&rt, root, &["cat"], b"one two", 2, b"one")?);
+    assert!(rt; writes(&rt, root, &["seq", "1", "100000"], b"", 1, b"1\n")?);
+    remove_folder(&rt, root)
 }

@@ -1,5 +1,5 @@
 //! The real sink.
-use crate::folder::new_folder;
+use crate::folder::{new_folder, remove_folder};
 use outside::Sink;
 use outside_real::RealSink;
 use std::fs;
@@ -26,17 +26,26 @@ impl Write for Signalled {
     }
 }
 
+// Whether a sink over a full device fails.
+fn fails_when_full(rt: &HostRuntime) -> Result<bool, Fail> {
+    let mut full = RealSink::new(fs::create(rt, "/dev/full")?);
+    Ok(full.write(b"line\n").is_err())
+}
+
+// Whether a sink takes a line that a signal comes before.
+fn outlasts_a_signal() -> bool {
+    let mut signalled = RealSink::new(Signalled { came: false });
+    signalled.write(b"line\n") == Ok(5)
+}
+
 #[test]
 fn a_sink_writes_or_fails(rt: HostRuntime) -> Result<(), Fail> {
+    assert!(rt; fails_when_full(&rt)?);
+    assert!(rt; outlasts_a_signal());
     let folder = new_folder(&rt, "sink")?;
     let place = format!(in rt.alloc(); "{folder}/out")?;
     let mut sink = RealSink::new(fs::create(&rt, place.as_str())?);
     assert!(rt; sink.write(b"") == Ok(0) && sink.write(b"line\n") == Ok(5));
     assert!(rt; fs::read(&rt, place.as_str())?.as_slice() == b"line\n".as_slice());
-    let mut full = RealSink::new(fs::create(&rt, "/dev/full")?);
-    assert!(rt; full.write(b"line\n").is_err());
-    let mut signalled = RealSink::new(Signalled { came: false });
-    assert!(rt; signalled.write(b"line\n") == Ok(5));
-    fs::remove_dir_all(&rt, folder.as_str())?;
-    Ok(())
+    remove_folder(&rt, folder.as_str())
 }

@@ -66,9 +66,19 @@ fn puts(watched: &Watched, motd: &Path, current: &Path) -> Result<bool, Fail> {
     Ok(put(&mut disk, motd, current))
 }
 
+// Whether the disk has both, and removes the link.
+fn keeps_and_removes(
+    disk: &mut RealDisk<Watched>,
+    alloc: Global,
+    current: &Path,
+) -> Result<bool, Fail> {
+    Ok(keeps(disk, alloc, current)? && removes(disk, alloc, current)?)
+}
+
+// Whether the next disk below the folder does.
 fn kept(watched: &Watched, alloc: Global, current: &Path) -> Result<bool, Fail> {
     let mut disk = watched.disk()?;
-    Ok(keeps(&mut disk, alloc, current)? && removes(&mut disk, alloc, current)?)
+    keeps_and_removes(&mut disk, alloc, current)
 }
 
 // For the program that put them, and the next one.
@@ -82,7 +92,7 @@ fn keeps_files_and_links(watched: &Watched, alloc: Global) -> Result<bool, Fail>
 fn a_disk_keeps_files_and_links(rt: HostRuntime) -> Result<(), Fail> {
     let watched = Watched::new(&rt, "disk")?;
     assert!(rt; keeps_files_and_links(&watched, rt.alloc())?);
-    Ok(watched.end()?)
+    watched.end()
 }
 
 fn refuses(disk: &mut RealDisk<Watched>, alloc: Global, named: &Path) -> bool {
@@ -116,7 +126,7 @@ fn a_disk_refuses_what_is_no_node(rt: HostRuntime) -> Result<(), Fail> {
     let watched = Watched::new(&rt, "symlink")?;
     symlink(&rt, "/etc", watched.place("away")?.as_str())?;
     assert!(rt; refuses_others(&watched, rt.alloc())?);
-    Ok(watched.end()?)
+    watched.end()
 }
 
 // Whether a file can't stand above another one, which is then removed.
@@ -130,9 +140,14 @@ fn leaves_folders(watched: &Watched, above: &Path, deep: &Path) -> Result<bool, 
     )
 }
 
+// Whether the file is written, and then there.
+fn writes(disk: &mut RealDisk<Watched>, alloc: Global, above: &Path) -> Result<bool, Fail> {
+    Ok(disk.write(above, b"2").is_ok() && has(disk, alloc, "live/a", b"2")?)
+}
+
 fn takes_their_place(watched: &Watched, alloc: Global, above: &Path) -> Result<bool, Fail> {
     let mut disk = watched.disk()?;
-    Ok(disk.write(above, b"2").is_ok() && has(&mut disk, alloc, "live/a", b"2")?)
+    writes(&mut disk, alloc, above)
 }
 
 fn gives_way(watched: &Watched, alloc: Global) -> Result<bool, Fail> {
@@ -146,7 +161,7 @@ fn gives_way(watched: &Watched, alloc: Global) -> Result<bool, Fail> {
 fn a_file_takes_the_place_of_empty_folders(rt: HostRuntime) -> Result<(), Fail> {
     let watched = Watched::new(&rt, "place")?;
     assert!(rt; gives_way(&watched, rt.alloc())?);
-    Ok(watched.end()?)
+    watched.end()
 }
 
 fn is_locked_out(disk: &mut RealDisk<Watched>, alloc: Global, motd: &Path) -> bool {
@@ -168,17 +183,27 @@ fn opens_then(disk: &mut RealDisk<Watched>, alloc: Global) -> Result<bool, Fail>
     Ok(has(disk, alloc, "etc/motd", b"hello")? && !disk.is_locked_out())
 }
 
+// Whether the second disk is locked out, and opens then.
+fn waits_for_first(
+    watched: &Watched,
+    second: &mut RealDisk<Watched>,
+    alloc: Global,
+    motd: &Path,
+) -> Result<bool, Fail> {
+    Ok(locks_out(watched, second, alloc, motd)? && opens_then(second, alloc)?)
+}
+
 fn opens_one_at_a_time(watched: &Watched, alloc: Global) -> Result<bool, Fail> {
     let motd = path(alloc, "etc/motd")?;
     let mut second = watched.disk()?;
-    Ok(locks_out(watched, &mut second, alloc, &motd)? && opens_then(&mut second, alloc)?)
+    waits_for_first(watched, &mut second, alloc, &motd)
 }
 
 #[test]
 fn one_disk_at_a_time_is_open(rt: HostRuntime) -> Result<(), Fail> {
     let watched = Watched::new(&rt, "lock")?;
     assert!(rt; opens_one_at_a_time(&watched, rt.alloc())?);
-    Ok(watched.end()?)
+    watched.end()
 }
 
 // Whether the disk refuses each call, and not since another one is open.
@@ -199,5 +224,5 @@ fn others_may_not_enter_the_folder_of_the_lock(rt: HostRuntime) -> Result<(), Fa
     let watched = Watched::new(&rt, "work")?;
     open_work(&rt, watched.place(".work")?.as_str())?;
     assert!(rt; is_refused(&watched, rt.alloc())?);
-    Ok(watched.end()?)
+    watched.end()
 }

@@ -115,7 +115,7 @@ fn each_call_asks_what_it_should(rt: HostRuntime) -> Result<(), Fail> {
     let watched = Watched::new(&rt, "trace")?;
     assert!(rt; failures(&watched)? == 0 && has_trace(&watched, script()));
     assert!(rt; syncs_next(&watched)? && has_trace(&watched, all_that_is_there()));
-    Ok(watched.end()?)
+    watched.end()
 }
 
 // How many calls of the script fail where the k-th call to the system does.
@@ -158,35 +158,47 @@ fn fails_at(disk: &mut RealDisk<Watched>, alloc: Global, place: &str) -> Result<
     Ok(disk.read(alloc, &place).is_err() && disk.write(&place, b"new").is_err())
 }
 
-fn gives_up(watched: &Watched) -> Result<bool, Fail> {
-    let mut disk = watched.disk()?;
+// Whether the disk fails at once after such a sync.
+fn gives_up(disk: &mut RealDisk<Watched>, watched: &Watched) -> Result<bool, Fail> {
     Ok(
-        fails_to_sync(&mut disk, watched, 2)?
-            && fails_at(&mut disk, watched.alloc(), "store/a")?
+        fails_to_sync(disk, watched, 2)?
+            && fails_at(disk, watched.alloc(), "store/a")?
             && disk.sync().is_err(),
     )
+}
+
+// Whether a disk below the folder does.
+fn gives_up_below(watched: &Watched) -> Result<bool, Fail> {
+    let mut disk = watched.disk()?;
+    gives_up(&mut disk, watched)
 }
 
 #[test]
 fn a_folder_whose_sync_failed_is_not_asked_again(rt: HostRuntime) -> Result<(), Fail> {
     let watched = Watched::new(&rt, "lost")?;
-    assert!(rt; gives_up(&watched)? && has_trace(&watched, ""));
-    Ok(watched.end()?)
+    assert!(rt; gives_up_below(&watched)? && has_trace(&watched, ""));
+    watched.end()
 }
 
-fn syncs_again(watched: &Watched) -> Result<bool, Fail> {
-    let mut disk = watched.disk()?;
+// Whether the disk has its file and syncs it after such a sync.
+fn syncs_again(disk: &mut RealDisk<Watched>, watched: &Watched) -> Result<bool, Fail> {
     Ok(
-        fails_to_sync(&mut disk, watched, 3)?
-            && has(&mut disk, watched.alloc(), "store/a", b"written")?
+        fails_to_sync(disk, watched, 3)?
+            && has(disk, watched.alloc(), "store/a", b"written")?
             && disk.sync().is_ok(),
     )
+}
+
+// Whether a disk below the folder does.
+fn syncs_again_below(watched: &Watched) -> Result<bool, Fail> {
+    let mut disk = watched.disk()?;
+    syncs_again(&mut disk, watched)
 }
 
 #[test]
 fn a_file_whose_sync_failed_is_written_anew(rt: HostRuntime) -> Result<(), Fail> {
     let watched = Watched::new(&rt, "anew")?;
     let anew = "write /store/a\nsync /store/a\nsync /store/b\n";
-    assert!(rt; syncs_again(&watched)? && has_trace(&watched, anew));
-    Ok(watched.end()?)
+    assert!(rt; syncs_again_below(&watched)? && has_trace(&watched, anew));
+    watched.end()
 }

@@ -87,8 +87,8 @@ impl Watched {
     }
 
     /// Removes the folder.
-    pub fn end(&self) -> io::Result<()> {
-        fs::remove_dir_all(&self.rt, self.root.as_str())
+    pub fn end(&self) -> Result<(), Fail> {
+        Ok(fs::remove_dir_all(&self.rt, self.root.as_str())?)
     }
 
     // Writes the call down, unless it only serves the lock.

@@ -1,7 +1,8 @@
 //! Which programs are asked, and what their answers give.
 use crate::spawned::{answer, given};
 use example_texts::same;
-use std::alloc::Global;
+use outside::Answer;
+use std::alloc::{AllocError, Global};
 use std::test::Fail;
 
 // The key that is live, or none; the status and the output of each program that answers, after which the next one fails; and
@@ -46,12 +47,22 @@ const ROWS: &[(&str, &[(u16, &str)], &str)] = &[
     ),
 ];
 
-fn gives(alloc: Global, key: &str, outputs: &[(u16, &str)], wanted: &str) -> Result<(), Fail> {
-    let mut answers = Vec::new(alloc);
+// Adds the answers with these outputs, and then none.
+fn push_answers(
+    alloc: Global,
+    answers: &mut Vec<Option<Answer>>,
+    outputs: &[(u16, &str)],
+) -> Result<(), AllocError> {
     for (status, output) in outputs {
         answers.push(answer(alloc, *status, output.as_bytes())?)?;
     }
     answers.push(None)?;
+    Ok(())
+}
+
+fn gives(alloc: Global, key: &str, outputs: &[(u16, &str)], wanted: &str) -> Result<(), Fail> {
+    let mut answers = Vec::new(alloc);
+    push_answers(alloc, &mut answers, outputs)?;
     let given = given(alloc, key, answers)?;
     same(given.as_str(), wanted, key)
 }

@@ -1,6 +1,7 @@
 //! Outputs at the limit of their length.
 use crate::spawned::{answer, given};
 use example_texts::same;
+use outside::Answer;
 use std::alloc::{AllocError, Global};
 use std::test::Fail;
 
@@ -12,11 +13,16 @@ fn output(alloc: Global, len: usize) -> Result<Vec<u8>, AllocError> {
     Ok(output)
 }
 
-fn gives(alloc: Global, len: usize, wanted: &str) -> Result<(), Fail> {
+// An output of one byte, and then one of so many.
+fn answers(alloc: Global, len: usize) -> Result<Vec<Option<Answer>>, AllocError> {
     let output = output(alloc, len)?;
-    let mut answers = Vec::new(alloc);
-    answers.push(answer(alloc, 0, b"0")?)?;
-    answers.push(answer(alloc, 0, &output)?)?;
+    let first = answer(alloc, 0, b"0")?;
+    let second = answer(alloc, 0, &output)?;
+    Ok(vec![in alloc; first, second]?)
+}
+
+fn gives(alloc: Global, len: usize, wanted: &str) -> Result<(), Fail> {
+    let answers = answers(alloc, len)?;
     let given = given(alloc, "settings.a", answers)?;
     let at = format!(in alloc; "an output of {len} bytes")?;
     same(given.as_str(), wanted, at.as_str())

@@ -1,17 +1,22 @@
 //! What a generators file is read to, as a text.
 use example_texts::same;
-use key_names::Text;
+use key_names::{Key, Text};
 use setting_generators::{Generator, Generators, GeneratorsError, GeneratorsKind};
 use std::alloc::{AllocError, Global};
 use std::test::Fail;
 use typed_settings::{RowsError, Types};
 
+// A row of which any text may stand at the key.
+fn row(alloc: Global, key: &str) -> Result<(Text, Text), AllocError> {
+    let pattern = Text::from_str(alloc, key)?;
+    Ok((pattern, Text::from_str(alloc, "text")?))
+}
+
 // Types of which any value may stand at three keys.
 fn types(alloc: Global) -> Result<Types, RowsError> {
     let mut rows = Vec::new(alloc);
     for key in ["settings.a", "settings.b", "settings.c.d"] {
-        let pattern = Text::from_str(alloc, key)?;
-        rows.push((pattern, Text::from_str(alloc, "text")?))?;
+        rows.push(row(alloc, key)?)?;
     }
     Types::of_rows(alloc, &rows)
 }
@@ -38,16 +43,21 @@ fn fault(alloc: Global, error: &GeneratorsError) -> Result<String, AllocError> {
     format!(in alloc; "{word} {at}")
 }
 
+/// Adds the key.
+pub fn push_key(text: &mut String, key: &Key) -> Result<(), AllocError> {
+    let key = key.print()?;
+    text.push_str(key.as_str())
+}
+
 fn push(text: &mut String, generator: &Generator) -> Result<(), AllocError> {
-    text.push_str(generator.key.print()?.as_str())?;
+    push_key(text, &generator.key)?;
     text.push(':')?;
     for word in &generator.words {
         text.push('<')?;
         text.push_str(word.as_str())?;
         text.push('>')?;
     }
-    text.push(' ')?;
-    Ok(())
+    text.push(' ')
 }
 
 // The keys with the words of their commands, a space behind each.

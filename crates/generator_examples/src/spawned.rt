@@ -1,5 +1,5 @@
 //! What the commands of three generators give, as a text.
-use crate::read::generators;
+use crate::read::{generators, push_key};
 use disk_memory::{MemorySpawner, Question};
 use json_trees::Scalar;
 use key_names::Key;
@@ -18,14 +18,20 @@ fn three(alloc: Global) -> Result<Generators, Fail> {
     }
 }
 
+// Puts a value at the key, where it fits.
+fn put(alloc: Global, content: &mut Content, key: &str) -> Result<(), Fail> {
+    let key = Key::read(alloc, key.as_bytes())?;
+    if content.fits(&key) {
+        content.put(key, Scalar::Int(1))?;
+    }
+    Ok(())
+}
+
 // A content with a value at this key, or at none.
 fn live(alloc: Global, key: &str) -> Result<Content, Fail> {
     let mut content = Content::new(alloc);
     if !key.is_empty() {
-        let key = Key::read(alloc, key.as_bytes())?;
-        if content.fits(&key) {
-            content.put(key, Scalar::Int(1))?;
-        }
+        put(alloc, &mut content, key)?;
     }
     Ok(content)
 }
@@ -54,35 +60,72 @@ fn refusal(alloc: Global, error: &GenerateError) -> Result<String, AllocError> {
     }
 }
 
+// Adds the key, a `=` and the value.
+fn push_pair(
+    alloc: Global,
+    text: &mut String,
+    key: &Key,
+    value: &Scalar,
+) -> Result<(), AllocError> {
+    push_key(text, key)?;
+    text.push('=')?;
+    let value = value.print(alloc)?;
+    text.push_str(value.as_str())
+}
+
 fn listed(alloc: Global, pairs: &[(Key, Scalar)]) -> Result<String, AllocError> {
     let mut text = String::new(alloc);
     for (key, value) in pairs {
-        text.push_str(key.print()?.as_str())?;
-        text.push('=')?;
-        text.push_str(value.print(alloc)?.as_str())?;
+        push_pair(alloc, &mut text, key, value)?;
         text.push(' ')?;
     }
     Ok(text)
+}
+
+// Adds the words of the program that was asked.
+fn push_words(alloc: Global, text: &mut String, question: &Question) -> Result<(), AllocError> {
+    let words = question.words.join(alloc, " ")?;
+    text.push_str(words.as_str())
 }
 
 fn push_asked(alloc: Global, text: &mut String, asked: &[Question]) -> Result<(), AllocError> {
     for question in asked {
         text.push('?')?;
-        text.push_str(question.words.join(alloc, " ")?.as_str())?;
+        push_words(alloc, text, question)?;
         text.push(' ')?;
     }
     Ok(())
 }
 
-/// The pairs or the refusal, and then the words of each program that was asked, a question mark before each.
-pub fn given(alloc: Global, key: &str, answers: Vec<Option<Answer>>) -> Result<String, Fail> {
+// The pairs or the refusal of what the spawner answers.
+fn outcome(
+    alloc: Global,
+    generators: &Generators,
+    live: &Content,
+    spawner: &mut MemorySpawner,
+) -> Result<String, AllocError> {
+    match generators.ask_all(alloc, live, spawner) {
+        Ok(pairs) => listed(alloc, &pairs),
+        Err(error) => refusal(alloc, &error),
+    }
+}
+
+// The outcome with a value at this key, or at none.
+fn outcome_with(alloc: Global, key: &str, spawner: &mut MemorySpawner) -> Result<String, Fail> {
     let generators = three(alloc)?;
     let live = live(alloc, key)?;
-    let mut spawner = MemorySpawner::of_answers(alloc, answers);
-    let mut text = match generators.ask_all(alloc, &live, &mut spawner) {
-        Ok(pairs) => listed(alloc, &pairs)?,
-        Err(error) => refusal(alloc, &error)?,
-    };
+    Ok(outcome(alloc, &generators, &live, spawner)?)
+}
+
+// The outcome, and then what was asked.
+fn told_of(alloc: Global, key: &str, spawner: &mut MemorySpawner) -> Result<String, Fail> {
+    let mut text = outcome_with(alloc, key, spawner)?;
     push_asked(alloc, &mut text, spawner.asked())?;
     Ok(text)
+}
+
+/// The pairs or the refusal, and then the words of each program that was asked, a question mark before each.
+pub fn given(alloc: Global, key: &str, answers: Vec<Option<Answer>>) -> Result<String, Fail> {
+    let mut spawner = MemorySpawner::of_answers(alloc, answers);
+    told_of(alloc, key, &mut spawner)
 }

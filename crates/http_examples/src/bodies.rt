@@ -28,7 +28,7 @@ fn body_reads(alloc: Global, body: &str, wanted: &str) -> Result<(), Fail> {
 
 #[test]
 fn reads_trees(rt: HostRuntime) -> Result<(), Fail> {
-    let rows = [
+    let rows: &[(&str, &str)] = &[
         ("{}", "patch t"),
         (" {\"motd\" : \"hi\"} ", "patch t settings.motd=\"hi\""),
         (
@@ -50,7 +50,7 @@ fn reads_trees(rt: HostRuntime) -> Result<(), Fail> {
 
 #[test]
 fn refuses_other_bodies(rt: HostRuntime) -> Result<(), Fail> {
-    let rows = [
+    let rows: &[&str] = &[
         "null",
         "[]",
         "{",
@@ -94,7 +94,7 @@ fn looks_at_no_body_but_that_of_a_patch(rt: HostRuntime) -> Result<(), Fail> {
 // What the head shows is told at once, and what the body shows once all of it is there.
 #[test]
 fn waits_for_bodies_alone(rt: HostRuntime) -> Result<(), Fail> {
-    let rows = [
+    let rows: &[(&str, &str)] = &[
         (
             "PATCH /settings HTTP/1.1\nContent-Length: 1048577",
             "body-too-long",

@@ -22,7 +22,7 @@ fn fields_read(alloc: Global, count: usize, ended: bool, wanted: &str) -> Result
 
 #[test]
 fn keeps_the_lines_of_a_head(rt: HostRuntime) -> Result<(), Fail> {
-    let rows = [
+    let rows: &[(usize, bool, &str)] = &[
         (64, false, "not yet"),
         (65, false, "head"),
         (64, true, "root"),
@@ -30,14 +30,14 @@ fn keeps_the_lines_of_a_head(rt: HostRuntime) -> Result<(), Fail> {
         (70, false, "head"),
     ];
     for (count, ended, wanted) in rows {
-        fields_read(rt.alloc(), count, ended, wanted)?;
+        fields_read(rt.alloc(), *count, *ended, wanted)?;
     }
     Ok(())
 }
 
 #[test]
 fn refuses_hopeless_heads(rt: HostRuntime) -> Result<(), Fail> {
-    let rows = ["GET / HTTP/2.0\r\n", "GET / HTTP/1.1\r\na b: c\r\n"];
+    let rows: &[&str] = &["GET / HTTP/2.0\r\n", "GET / HTTP/1.1\r\na b: c\r\n"];
     for text in rows {
         reads(rt.alloc(), text.as_bytes(), 0, "head", text)?;
     }
@@ -80,7 +80,7 @@ fn takes_a_head_of_all_bytes(rt: HostRuntime) -> Result<(), Fail> {
 
 #[test]
 fn waits_for_the_end_of_a_head(rt: HostRuntime) -> Result<(), Fail> {
-    let rows = [
+    let rows: &[&str] = &[
         "",
         "\r\n",
         "GET",

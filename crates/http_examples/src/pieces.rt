@@ -1,7 +1,6 @@
 //! Requests that come in pieces.
-use crate::lines::line_of;
 use crate::requests::{head, reads};
-use api_http::{bytes_wanted, read_request};
+use api_http::{Reading, bytes_wanted, read_request};
 use std::alloc::{AllocError, Global};
 use std::test::Fail;
 
@@ -64,6 +63,12 @@ fn long_patch(alloc: Global, length: usize) -> Result<Vec<u8>, AllocError> {
     Ok(bytes)
 }
 
+// Whether there is no whole request yet.
+fn waits(alloc: Global, bytes: &[u8]) -> Result<bool, AllocError> {
+    let reading = read_request(alloc, bytes)?;
+    Ok(matches!(&reading, Reading::NotYet))
+}
+
 // How often the bytes are read, where 1,024 come at a time.
 fn times_read(alloc: Global, bytes: &[u8]) -> Result<usize, AllocError> {
     let mut times = 0usize;
@@ -71,10 +76,8 @@ fn times_read(alloc: Global, bytes: &[u8]) -> Result<usize, AllocError> {
     for piece in 1..2048usize {
         let (come, _) = bytes.split_at(bytes.len().min(piece.saturating_mul(1024)));
         if come.len() >= wanted {
-            let reading = read_request(alloc, come)?;
-            let line = line_of(alloc, &reading)?;
             times = times.saturating_add(1);
-            if line.as_str() != "not yet" {
+            if !waits(alloc, come)? {
                 return Ok(times);
             }
             wanted = bytes_wanted(come);

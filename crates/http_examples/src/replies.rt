@@ -24,10 +24,15 @@ fn same(reply: &Reply, status: u16, wanted: &[u8], lines: &str) -> Result<(), Fa
     Err(Fail::new(format_args!("not {status} {lines}")))
 }
 
+// The reply is sent as these lines.
+fn is_sent(alloc: Global, reply: &Reply, status: u16, lines: &str) -> Result<(), Fail> {
+    let wanted = sent(alloc, lines)?;
+    same(reply, status, &wanted, lines)
+}
+
 fn prints(alloc: Global, answer: &Answer, status: u16, lines: &str) -> Result<(), Fail> {
     let reply = print_reply(alloc, answer)?;
-    let wanted = sent(alloc, lines)?;
-    same(&reply, status, &wanted, lines)
+    is_sent(alloc, &reply, status, lines)
 }
 
 #[test]
@@ -54,23 +59,29 @@ fn prints_that_it_was_done(rt: HostRuntime) -> Result<(), Fail> {
     )
 }
 
-// The reply of a refusal, from its status, phrase, further line and body.
+// The lines of a refusal, from its status, phrase, further line and body.
+fn refusal_lines(
+    alloc: Global,
+    status: u16,
+    phrase: &str,
+    field: &str,
+    body: &str,
+) -> Result<String, AllocError> {
+    format!(in alloc;
+        "HTTP/1.1 {status} {phrase}\nContent-Type: application/json\nContent-Length: {}\n{field}Connection: close\n\n{body}",
+        body.len()
+    )
+}
+
+// The reply of a refusal, from its status, phrase and body.
 fn refuses(
     alloc: Global,
     refusal: Refusal,
     status: u16,
-    front: &str,
+    phrase: &str,
     body: &str,
 ) -> Result<(), Fail> {
-    let (phrase, field) = match front.split_once('\n') {
-        Some((phrase, field)) => (phrase, field),
-        None => (front, ""),
-    };
-    let end = if field.is_empty() { "" } else { "\n" };
-    let lines = format!(in alloc;
-        "HTTP/1.1 {status} {phrase}\nContent-Type: application/json\nContent-Length: {}\n{field}{end}Connection: close\n\n{body}",
-        body.len()
-    )?;
+    let lines = refusal_lines(alloc, status, phrase, "", body)?;
     prints(alloc, &Answer::Refused { refusal }, status, lines.as_str())
 }
 
@@ -128,21 +139,24 @@ fn prints_the_refusals_of_bytes(rt: HostRuntime) -> Result<(), Fail> {
     )
 }
 
+// The lines of a refusal that names the methods of the path.
+fn allowed_lines(alloc: Global, methods: &str) -> Result<String, AllocError> {
+    let field = format!(in alloc; "Allow: {methods}\n")?;
+    let phrase = "Method Not Allowed";
+    refusal_lines(alloc, 405, phrase, field.as_str(), "{\"error\":\"method\"}")
+}
+
+// The refusal of a method names the methods of the path.
 fn allows(alloc: Global, path: &str, methods: &str) -> Result<(), Fail> {
+    let lines = allowed_lines(alloc, methods)?;
     let path = Text::from_str(alloc, path)?;
-    let front = format!(in alloc; "Method Not Allowed\nAllow: {methods}")?;
-    refuses(
-        alloc,
-        Refusal::Method { path },
-        405,
-        front.as_str(),
-        "{\"error\":\"method\"}",
-    )
+    let refusal = Refusal::Method { path };
+    prints(alloc, &Answer::Refused { refusal }, 405, lines.as_str())
 }
 
 #[test]
 fn prints_the_methods_of_each_path(rt: HostRuntime) -> Result<(), Fail> {
-    let rows = [
+    let rows: &[(&str, &str)] = &[
         ("/", "GET"),
         ("/os", "GET"),
         ("/settings", "GET, PATCH"),
@@ -245,8 +259,8 @@ fn fixed_replies_are_the_printed_ones(rt: HostRuntime) -> Result<(), Fail> {
     )?;
     let lines =
         "HTTP/1.1 503 Service Unavailable\nContent-Type: application/json\nContent-Length: 18\nConnection: close\n\n{\"error\":\"memory\"}";
-    same(&Reply::memory(), 503, &sent(alloc, lines)?, lines)?;
+    is_sent(alloc, &Reply::memory(), 503, lines)?;
     let lines =
         "HTTP/1.1 500 Internal Server Error\nContent-Type: application/json\nContent-Length: 16\nConnection: close\n\n{\"error\":\"disk\"}";
-    same(&Reply::disk(), 500, &sent(alloc, lines)?, lines)
+    is_sent(alloc, &Reply::disk(), 500, lines)
 }

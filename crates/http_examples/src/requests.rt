@@ -8,15 +8,20 @@ use std::test::Fail;
 /// The lines of a head, and what it reads as.
 pub type Row = (&'static str, &'static str);
 
+// Adds the line and its end.
+fn push_line(bytes: &mut Vec<u8>, line: &str) -> Result<(), AllocError> {
+    bytes.extend_from_slice(line.as_bytes())?;
+    bytes.extend_from_slice(b"\r\n")
+}
+
 /// The head with these lines, which stand apart by line feeds: each ends with CR LF, and an empty
 /// one follows.
 pub fn head(alloc: Global, lines: &str) -> Result<Vec<u8>, AllocError> {
     let mut bytes = Vec::new(alloc);
     for line in lines.split('\n') {
-        bytes.extend_from_slice(line.as_bytes())?;
-        bytes.extend_from_slice(b"\r\n")?;
+        push_line(&mut bytes, line)?;
     }
-    bytes.extend_from_slice(b"\r\n")?;
+    push_line(&mut bytes, "")?;
     Ok(bytes)
 }
 
@@ -30,6 +35,19 @@ fn has_length(reading: &Reading, wanted: usize, of: &str) -> Result<(), Fail> {
     }
 }
 
+// The reading says what is wanted, of a request with as many bytes.
+fn says(
+    alloc: Global,
+    reading: &Reading,
+    length: usize,
+    wanted: &str,
+    of: &str,
+) -> Result<(), Fail> {
+    has_length(reading, length, of)?;
+    let line = line_of(alloc, reading)?;
+    same(line.as_str(), wanted, of)
+}
+
 /// The first bytes, as many as told, read as wanted, and with the rest behind them.
 pub fn reads(
     alloc: Global,
@@ -39,9 +57,7 @@ pub fn reads(
     of: &str,
 ) -> Result<(), Fail> {
     let reading = read_request(alloc, bytes)?;
-    let line = line_of(alloc, &reading)?;
-    has_length(&reading, length, of)?;
-    same(line.as_str(), wanted, of)
+    says(alloc, &reading, length, wanted, of)
 }
 
 fn row_reads(alloc: Global, lines: &str, wanted: &str) -> Result<(), Fail> {

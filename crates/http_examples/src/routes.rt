@@ -4,7 +4,7 @@ use std::alloc::Global;
 use std::test::Fail;
 
 // Each path, with its methods.
-const PATHS: [(&str, &str); 12] = [
+const PATHS: &[(&str, &str)] = &[
     ("/", "GET"),
     ("/os", "GET"),
     ("/settings", "GET, PATCH"),
@@ -19,7 +19,7 @@ const PATHS: [(&str, &str); 12] = [
     ("/job", "GET"),
 ];
 
-const METHODS: [&str; 8] = [
+const METHODS: &[&str] = &[
     "GET", "PATCH", "POST", "DELETE", "PUT", "HEAD", "OPTIONS", "get",
 ];
 
@@ -33,7 +33,7 @@ fn method_reads(alloc: Global, path: &str, method: &str, known: bool) -> Result<
 
 fn methods_read(alloc: Global, path: &str, methods: &str) -> Result<(), Fail> {
     for method in METHODS {
-        let known = methods.split(", ").any(|known| known == method);
+        let known = methods.split(", ").any(|known| known == *method);
         method_reads(alloc, path, method, known)?;
     }
     Ok(())
@@ -48,7 +48,7 @@ fn reads_all_paths_and_methods(rt: HostRuntime) -> Result<(), Fail> {
 }
 
 // Each route, the names that its query may have, and what it reads as without any.
-const ROUTES: [(&str, &str, &str); 14] = [
+const ROUTES: &[(&str, &str, &str)] = &[
     ("GET /", "", "root"),
     ("GET /os", "", "os"),
     ("GET /settings", "keys prefix", "settings"),
@@ -70,7 +70,7 @@ const ROUTES: [(&str, &str, &str); 14] = [
 ];
 
 // Each name, with a value of its grammar, and the names that a query of two of them stands for.
-const QUERIES: [(&str, &str, bool); 10] = [
+const QUERIES: &[(&str, &str, bool)] = &[
     ("keys", "keys=a", true),
     ("prefix", "prefix=a", true),
     ("names", "names=a", true),
@@ -108,7 +108,7 @@ fn query_reads(alloc: Global, route: &str, query: &str, wanted: &str) -> Result<
 
 fn queries_read(alloc: Global, route: &str, names: &str) -> Result<(), Fail> {
     for (name, query, sound) in QUERIES {
-        let takes = sound && names.split(' ').any(|known| known == name);
+        let takes = *sound && names.split(' ').any(|known| known == *name);
         let wanted = if takes {
             word_with(route, name)
         } else {

@@ -46,10 +46,14 @@ fn leads_to(alloc: Global, disk: &mut MemoryDisk, text: &str) -> Result<bool, Fa
 }
 
 // A fresh directory of the version with a file in it, which is on the disk.
+fn fill(disk: &mut MemoryDisk, names: &Names) -> Result<(), Fail> {
+    disk.write(&names.directory().child(b"owed")?, b"\"all\"")?;
+    Ok(disk.sync()?)
+}
+
 fn filled(alloc: Global, disk: &mut MemoryDisk, version: &Version) -> Result<Names, Fail> {
     let names = fresh_dir(alloc, disk, version)?;
-    disk.write(&names.directory().child(b"owed")?, b"\"all\"")?;
-    disk.sync()?;
+    fill(disk, &names)?;
     Ok(names)
 }
 
@@ -101,8 +105,9 @@ fn lays_the_links_of_a_version(rt: HostRuntime) -> Result<(), Fail> {
 
 // Whether the next directory for 1.5.2 is this one.
 fn is_next(alloc: Global, disk: &mut MemoryDisk, text: &str) -> Result<bool, Fail> {
+    let directory = Path::read(alloc, text.as_bytes())?;
     let names = fresh_dir(alloc, disk, &V1_5_2)?;
-    Ok(*names.directory() == Path::read(alloc, text.as_bytes())?)
+    Ok(*names.directory() == directory)
 }
 
 #[test]
@@ -123,12 +128,18 @@ fn takes_no_id_that_the_link_names(rt: HostRuntime) -> Result<(), Fail> {
     Ok(())
 }
 
-// The disk that a crash leaves of a move to 1.6.1 that is stopped after so many calls.
+// A move to 1.6.1 that is stopped after so many calls.
+fn stop_moving(alloc: Global, disk: &mut MemoryDisk, stop: u64) -> Result<(), Fail> {
+    let names = filled(alloc, disk, &V1_6_1)?;
+    disk.stop_after(disk.calls().saturating_add(stop));
+    let _ = flip(disk, &names);
+    Ok(())
+}
+
+// The disk that a crash leaves of such a move.
 fn stopped(alloc: Global, stop: u64, picks: &[Pick]) -> Result<MemoryDisk, Fail> {
     let mut disk = store(alloc)?;
-    let names = filled(alloc, &mut disk, &V1_6_1)?;
-    disk.stop_after(disk.calls().saturating_add(stop));
-    let _ = flip(&mut disk, &names);
+    stop_moving(alloc, &mut disk, stop)?;
     Ok(disk.crash(picks)?)
 }
 
@@ -160,15 +171,29 @@ fn fails_after(
     Ok(flip(disk, names).is_err())
 }
 
-// Whether such a move fails, and leads to the new directory once it is made again on the same disk.
-fn moves_again(alloc: Global, calls: u64) -> Result<bool, Fail> {
-    let mut disk = store(alloc)?;
-    let names = filled(alloc, &mut disk, &V1_6_1)?;
-    if !fails_after(alloc, &mut disk, &names, calls)? {
+// Whether such a move fails, and succeeds once it is made again.
+fn fails_then_moves(
+    alloc: Global,
+    disk: &mut MemoryDisk,
+    names: &Names,
+    calls: u64,
+) -> Result<bool, Fail> {
+    if !fails_after(alloc, disk, names, calls)? {
         return Ok(false);
     }
-    flip(&mut disk, &names)?;
-    leads_to(alloc, &mut disk, AFTER)
+    flip(disk, names)?;
+    leads_to(alloc, disk, AFTER)
+}
+
+fn moves_again_on(alloc: Global, disk: &mut MemoryDisk, calls: u64) -> Result<bool, Fail> {
+    let names = filled(alloc, disk, &V1_6_1)?;
+    fails_then_moves(alloc, disk, &names, calls)
+}
+
+// Whether a move to 1.6.1 fails, and leads to the new directory once it is made again on the same disk.
+fn moves_again(alloc: Global, calls: u64) -> Result<bool, Fail> {
+    let mut disk = store(alloc)?;
+    moves_again_on(alloc, &mut disk, calls)
 }
 
 #[test]

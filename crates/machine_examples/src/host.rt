@@ -7,7 +7,6 @@ ghost use Rattle.typed_settings.specs.Order.{IsTable};
 
 use plain_machine::{OpeningAnswer, PlainImage, PlainMachine, TurnAnswer};
 use std::alloc::{AllocError, Global};
-use std::test::Fail;
 use version_links::Version;
 
 /// Nine turns, in which each program ends with the status. No job of the rows takes more.
@@ -26,8 +25,23 @@ pub fn turns(
     Ok(())
 }
 
+// Opens the store of the machine, and pays all that is owed.
+fn begin(alloc: Global, image: &PlainImage, machine: &mut PlainMachine) -> Result<(), AllocError>
+    requires table { IsTable image.now.types }
+    requires defaults { AreTyped image.now.types image.now.defaults.values }
+    requires settings { AreSettings image.now.defaults.values }
+    requires typed { IsTypedHeld image.now.types machine.old.held }
+    ensures { IsTypedHeld image.now.types machine.new.held }
+{
+    machine.open_store(alloc, image, true, OpeningAnswer::Succeeded)?;
+    machine.apply(alloc, image)?;
+    turns(alloc, image, machine, 0)?;
+    machine.runs.clear();
+    Ok(())
+}
+
 /// A machine whose store is opened, with all paid that was owed.
-pub fn ready(alloc: Global, image: &PlainImage) -> Result<PlainMachine, Fail>
+pub fn ready(alloc: Global, image: &PlainImage) -> Result<PlainMachine, AllocError>
     requires table { IsTable image.now.types }
     requires defaults { AreTyped image.now.types image.now.defaults.values }
     requires settings { AreSettings image.now.defaults.values }
@@ -39,9 +53,6 @@ pub fn ready(alloc: Global, image: &PlainImage) -> Result<PlainMachine, Fail>
         patch: 2,
     };
     let mut machine = PlainMachine::new(alloc, version);
-    machine.open_store(alloc, image, true, OpeningAnswer::Succeeded)?;
-    machine.apply(alloc, image)?;
-    turns(alloc, image, &mut machine, 0)?;
-    machine.runs.clear();
+    begin(alloc, image, &mut machine)?;
     Ok(machine)
 }

@@ -5,7 +5,7 @@ ghost use Rattle.opening_step.specs.Step.{AreSettings};
 ghost use Rattle.typed_settings.specs.Order.{IsTable};
 
 use example_texts::bytes;
-use key_names::{Bytes, Text};
+use key_names::Text;
 use metadata_links::Manifest;
 use model_file::Model;
 use plain_machine::PlainImage;
@@ -48,7 +48,9 @@ affected-services = ["sysctl"]
 "#;
 
 // Adds the source of a file that has none.
-fn add(templates: &mut Templates, file: Text, source: Bytes) -> Result<(), Fail> {
+fn add(alloc: Global, templates: &mut Templates, file: &str, source: &str) -> Result<(), Fail> {
+    let file = Text::from_str(alloc, file)?;
+    let source = bytes(alloc, source)?;
     match templates.source(file.as_str().as_bytes()) {
         Some(_) => Err(Fail::new("added twice")),
         None => Ok(templates.add(file, source)?),
@@ -69,11 +71,7 @@ fn templates(alloc: Global) -> Result<Templates, Fail> {
     ];
     let mut templates = Templates::new(alloc);
     for (file, source) in rows {
-        add(
-            &mut templates,
-            Text::from_str(alloc, file)?,
-            bytes(alloc, source)?,
-        )?;
+        add(alloc, &mut templates, file, source)?;
     }
     Ok(templates)
 }
@@ -84,6 +82,8 @@ pub fn image(alloc: Global) -> Result<PlainImage, Fail>
     ensures typed { IfOk result (λ image. AreTyped image.types image.defaults.values) }
     ensures settings { IfOk result (λ image. AreSettings image.defaults.values) }
 {
+    let text = bytes(alloc, MODEL)?;
+    let templates = templates(alloc)?;
     let model = Model::read(alloc, MODEL.as_bytes())?;
     let _ = model.types.len();
     Ok(PlainImage {
@@ -91,7 +91,7 @@ pub fn image(alloc: Global) -> Result<PlainImage, Fail>
         types: model.types,
         os: model.os,
         defaults: model.content,
-        templates: templates(alloc)?,
-        text: bytes(alloc, MODEL)?,
+        templates,
+        text,
     })
 }

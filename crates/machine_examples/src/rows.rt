@@ -1,19 +1,48 @@
 //! Tables of steps, each on a host that is ready, and of what each step answers.
+ghost use Rattle.model_file.specs.Model.{AreTyped};
+ghost use Rattle.opening_step.specs.Step.{AreSettings};
+ghost use Rattle.settings_machine.specs.Typed.{IsTypedHeld};
+ghost use Rattle.typed_settings.specs.Order.{IsTable};
+
 use crate::host::ready;
 use crate::image::image;
 use crate::steps::make;
 use example_texts::same;
+use plain_machine::{PlainImage, PlainMachine};
 use std::alloc::Global;
 use std::test::Fail;
 
-fn goes(alloc: Global, rows: &[(&str, &str)]) -> Result<(), Fail> {
-    let image = image(alloc)?;
-    let mut machine = ready(alloc, &image)?;
+// The machine answers each step so.
+fn answers(
+    alloc: Global,
+    image: &PlainImage,
+    machine: &mut PlainMachine,
+    rows: &[(&str, &str)],
+) -> Result<(), Fail>
+    requires table { IsTable image.now.types }
+    requires typed { IsTypedHeld image.now.types machine.old.held }
+{
     for (step, wanted) in rows {
-        let made = make(alloc, &image, &mut machine, step)?;
+        let made = make(alloc, image, machine, step)?;
         same(made.as_str(), wanted, step)?;
     }
     Ok(())
+}
+
+// A machine that is ready with the image answers each step so.
+fn goes_with(alloc: Global, image: &PlainImage, rows: &[(&str, &str)]) -> Result<(), Fail>
+    requires table { IsTable image.now.types }
+    requires defaults { AreTyped image.now.types image.now.defaults.values }
+    requires settings { AreSettings image.now.defaults.values }
+{
+    let mut machine = ready(alloc, image)?;
+    answers(alloc, image, &mut machine, rows)
+}
+
+// A machine that is ready answers each step so.
+fn goes(alloc: Global, rows: &[(&str, &str)]) -> Result<(), Fail> {
+    let image = image(alloc)?;
+    goes_with(alloc, &image, rows)
 }
 
 // A patch is refused whole, and tells the first refused key; a commit of nothing is refused, one of an equal value owes

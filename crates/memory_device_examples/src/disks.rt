@@ -40,14 +40,24 @@ fn pick_of(alloc: Global, kind: u8) -> Result<Pick, AllocError> {
     })
 }
 
-// What stands at both files after a crash with this kind of pick for each.
-fn crashed(alloc: Global, disk: &MemoryDisk, a: &Path, b: &Path, kind: u8) -> Result<String, Fail> {
-    let picks = [pick_of(alloc, kind)?, pick_of(alloc, kind)?];
-    let image = disk.crash(&picks)?;
+// What stands at both files.
+fn text_of(alloc: Global, disk: &MemoryDisk, a: &Path, b: &Path) -> Result<String, Fail> {
     let mut seen = Vec::new(alloc);
-    seen.extend_from_slice(text_at(&image, a))?;
-    seen.extend_from_slice(text_at(&image, b))?;
+    seen.extend_from_slice(text_at(disk, a))?;
+    seen.extend_from_slice(text_at(disk, b))?;
     Ok(String::from_utf8(seen)?)
+}
+
+// The disk after a crash with this kind of pick for each of two files.
+fn crashed(alloc: Global, disk: &MemoryDisk, kind: u8) -> Result<MemoryDisk, Fail> {
+    let picks = [pick_of(alloc, kind)?, pick_of(alloc, kind)?];
+    Ok(disk.crash(&picks)?)
+}
+
+// What then stands at both.
+fn left(alloc: Global, disk: &MemoryDisk, a: &Path, b: &Path, kind: u8) -> Result<String, Fail> {
+    let image = crashed(alloc, disk, kind)?;
+    text_of(alloc, &image, a, b)
 }
 
 // What the kinds of picks leave, New, Old, Gone and Torn, where no call fails, and where the first does, and so on.
@@ -56,13 +66,18 @@ fn with_one_failure() -> &'static str {
 }
 
 // Makes the calls on an empty disk, and compares what a crash leaves with the words of the row; how many calls failed.
-fn compare(rt: &impl Abort, alloc: Global, mut disk: MemoryDisk, row: &str) -> Result<usize, Fail> {
+fn compare(
+    rt: &impl Abort,
+    alloc: Global,
+    disk: &mut MemoryDisk,
+    row: &str,
+) -> Result<usize, Fail> {
     let (a, b) = (path(alloc, "a")?, path(alloc, "b")?);
-    let failed = change(&mut disk, &a, &b);
+    let failed = change(disk, &a, &b);
     assert!(rt; disk.calls() == 6);
-    for (kind, left) in (0..4u8).zip(row.split(' ')) {
-        let seen = crashed(alloc, &disk, &a, &b, kind)?;
-        assert_eq!(rt; seen.as_str(), left, "{row}");
+    for (kind, wanted) in (0..4u8).zip(row.split(' ')) {
+        let seen = left(alloc, disk, &a, &b, kind)?;
+        assert_eq!(rt; seen.as_str(), wanted, "{row}");
     }
     Ok(failed)
 }
@@ -71,9 +86,10 @@ fn compare(rt: &impl Abort, alloc: Global, mut disk: MemoryDisk, row: &str) -> R
 fn a_crash_after_a_failure_leaves_what_the_picks_name(rt: HostRuntime) -> Result<(), Fail> {
     let alloc = rt.alloc();
     for (number, row) in (0..7u64).zip(with_one_failure().lines()) {
+        let calls = vec![in alloc; number]?;
         let mut disk = MemoryDisk::new(alloc)?;
-        disk.fail_calls(vec![in alloc; number]?);
-        let failed = compare(&rt, alloc, disk, row)?;
+        disk.fail_calls(calls);
+        let failed = compare(&rt, alloc, &mut disk, row)?;
         assert_eq!(rt; failed, usize::from(number > 0), "{number}");
     }
     Ok(())
@@ -98,18 +114,29 @@ fn each_fails(alloc: Global, disk: &mut MemoryDisk, at: &Path) -> bool {
         && disk.relink(at, b"text").is_err()
 }
 
+// Reads both, once the link is laid.
+fn read_both(
+    rt: &impl Abort,
+    alloc: Global,
+    disk: &mut MemoryDisk,
+    motd: &Path,
+    link: &Path,
+) -> Result<(), Fail> {
+    assert!(rt; text_at(disk, motd) == b"last".as_slice());
+    disk.relink(link, b"text")?;
+    assert!(rt; disk.read(alloc, motd)?.is_some());
+    assert!(rt; disk.read_link(alloc, motd)?.is_none());
+    assert!(rt; disk.read_link(alloc, link)?.is_some());
+    assert!(rt; disk.list(alloc, &Path::root(alloc))?.len() == 2);
+    disk.stop_after(0);
+    assert!(rt; each_fails(alloc, disk, link));
+    Ok(())
+}
+
 #[test]
 fn a_disk_reads_what_stands_there(rt: HostRuntime) -> Result<(), Fail> {
     let alloc = rt.alloc();
     let (motd, link) = (path(alloc, "etc/motd")?, path(alloc, "store/link")?);
     let mut disk = given(alloc, &motd)?;
-    assert!(rt; text_at(&disk, &motd) == b"last".as_slice());
-    disk.relink(&link, b"text")?;
-    assert!(rt; disk.read(alloc, &motd)?.is_some());
-    assert!(rt; disk.read_link(alloc, &motd)?.is_none());
-    assert!(rt; disk.read_link(alloc, &link)?.is_some());
-    assert!(rt; disk.list(alloc, &Path::root(alloc))?.len() == 2);
-    disk.stop_after(0);
-    assert!(rt; each_fails(alloc, &mut disk, &link));
-    Ok(())
+    read_both(&rt, alloc, &mut disk, &motd, &link)
 }

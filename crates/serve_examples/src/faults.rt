@@ -1,8 +1,8 @@
 //! Devices that fail.
-use crate::host::{IDLE, WHOLE, before, begun, ready};
+use crate::host::{IDLE, before, ready};
 use crate::runs::{Given, asked, runs, told};
 use disk_memory::{MemoryDisk, Pick};
-use example_texts::{holds, repeated, same};
+use example_texts::{holds, same};
 use std::alloc::Global;
 use std::test::Fail;
 
@@ -38,10 +38,11 @@ fn connections_fail(rt: HostRuntime) -> Result<(), Fail> {
     Ok(())
 }
 
-// The disk once more, whose call with this number fails.
-fn failing(alloc: Global, from: &MemoryDisk, call: u64) -> Result<MemoryDisk, Fail> {
+/// The disk once more, whose call with this number fails.
+pub fn failing(alloc: Global, from: &MemoryDisk, call: u64) -> Result<MemoryDisk, Fail> {
+    let which = vec![in alloc; call]?;
     let mut disk = from.crash(&[])?;
-    disk.fail_calls(vec![in alloc; call]?);
+    disk.fail_calls(which);
     Ok(disk)
 }
 
@@ -74,33 +75,36 @@ const COMMANDS: &[(&str, &str, u64)] = &[
 fn each_call_of_a_command_fails(rt: HostRuntime) -> Result<(), Fail> {
     let alloc = rt.alloc();
     for (line, wanted, calls) in COMMANDS {
-        fails_anywhere(alloc, line, wanted, *calls)?;
+        fails_anywhere(alloc, &before(alloc, line)?, line, wanted, *calls)?;
     }
     Ok(())
 }
 
 // Each of its calls.
-fn fails_anywhere(alloc: Global, line: &str, wanted: &str, calls: u64) -> Result<(), Fail> {
-    let from = before(alloc, line)?;
+fn fails_anywhere(
+    alloc: Global,
+    from: &MemoryDisk,
+    line: &str,
+    wanted: &str,
+    calls: u64,
+) -> Result<(), Fail> {
     for call in 1..=calls {
-        command_fails(alloc, &from, call, line, wanted)?;
+        command_fails(alloc, &mut failing(alloc, from, call)?, line, wanted)?;
     }
     Ok(())
 }
 
-// This call of the command fails: the next one ends well, and pays.
+// A call of the command fails: the next one ends well, and pays.
 fn command_fails(
     alloc: Global,
-    from: &MemoryDisk,
-    call: u64,
+    disk: &mut MemoryDisk,
     line: &str,
     wanted: &str,
 ) -> Result<(), Fail> {
-    let mut disk = failing(alloc, from, call)?;
-    begins(alloc, &mut disk, line, "", "3 settings: disk\n")?;
-    begins(alloc, &mut disk, line, "", wanted)?;
-    runs(alloc, &mut disk, "apply", asked(""), IDLE)?;
-    holds(alloc, &disk, "etc/motd", "new\n")
+    begins(alloc, disk, line, "", "3 settings: disk\n")?;
+    begins(alloc, disk, line, "", wanted)?;
+    runs(alloc, disk, "apply", asked(""), IDLE)?;
+    holds(alloc, disk, "etc/motd", "new\n")
 }
 
 /// Requests that make a text of the day pending, live and written.
@@ -234,125 +238,75 @@ fn calls_of_a_server_fail(rt: HostRuntime) -> Result<(), Fail> {
 fn calls_fail(alloc: Global, from: &MemoryDisk, row: (u64, u64, &str)) -> Result<(), Fail> {
     let (first, last, wanted) = row;
     for call in first..=last {
-        let mut disk = failing(alloc, from, call)?;
-        runs(alloc, &mut disk, "serve", asked(CHANGES), wanted)?;
+        runs(
+            alloc,
+            &mut failing(alloc, from, call)?,
+            "serve",
+            asked(CHANGES),
+            wanted,
+        )?;
     }
     Ok(())
 }
 
-// Whichever fails, the server ends well once the store is open, and the next apply pays what is set.
-#[test]
-fn each_call_of_a_server_fails(rt: HostRuntime) -> Result<(), Fail> {
-    let alloc = rt.alloc();
-    let from = ready(alloc)?;
+// The text of the day, as `get` prints it and as its file holds it, behind an apply where this call failed.
+fn paid(call: u64) -> (&'static str, &'static str) {
+    // the journals of the patch and of the commit
+    if call <= 33 || call == 39 {
+        ("0 {\"settings\":{\"motd\":\"Welcome\"}}\n", "Welcome\n")
+    } else {
+        ("0 {\"settings\":{\"motd\":\"new\"}}\n", "new\n")
+    }
+}
+
+// This call of the server fails: it ends well once the store is open, and the next apply pays what is set.
+fn server_fails(alloc: Global, disk: &mut MemoryDisk, call: u64) -> Result<(), Fail> {
+    let ends = if call <= 32 {
+        "3 settings: disk\n"
+    } else {
+        "0 \n"
+    };
+    begins(alloc, disk, "serve", CHANGES, ends)?;
+    begins(alloc, disk, "apply", "", IDLE)?;
+    let (printed, held) = paid(call);
+    runs(alloc, disk, "get settings.motd", asked(""), printed)?;
+    holds(alloc, disk, "etc/motd", held)
+}
+
+// Each of its calls.
+fn server_fails_anywhere(alloc: Global, from: &MemoryDisk) -> Result<(), Fail> {
     for call in 1..=CALLS {
-        let mut disk = failing(alloc, &from, call)?;
-        let ends = if call <= 32 {
-            "3 settings: disk\n"
-        } else {
-            "0 \n"
-        };
-        begins(alloc, &mut disk, "serve", CHANGES, ends)?;
-        begins(alloc, &mut disk, "apply", "", IDLE)?;
-        // the journals of the patch and of the commit
-        let (text, held) = if call <= 33 || call == 39 {
-            ("Welcome", "Welcome\n")
-        } else {
-            ("new", "new\n")
-        };
-        let wanted = format!(in alloc; "0 {{\"settings\":{{\"motd\":\"{text}\"}}}}\n")?;
-        runs(
-            alloc,
-            &mut disk,
-            "get settings.motd",
-            asked(""),
-            wanted.as_str(),
-        )?;
-        holds(alloc, &disk, "etc/motd", held)?;
+        server_fails(alloc, &mut failing(alloc, from, call)?, call)?;
     }
     Ok(())
+}
+
+#[test]
+fn each_call_of_a_server_fails(rt: HostRuntime) -> Result<(), Fail> {
+    server_fails_anywhere(rt.alloc(), &ready(rt.alloc())?)
+}
+
+// The transactions that a server lists.
+fn lists(alloc: Global, disk: &mut MemoryDisk, wanted: &str) -> Result<(), Fail> {
+    runs(alloc, disk, "serve", asked("GET /tx/list"), wanted)
+}
+
+// The patch is refused, and a crash leaves it or not.
+fn patch_is_whole(alloc: Global, disk: &mut MemoryDisk) -> Result<(), Fail> {
+    let patch = "PATCH /settings {\"motd\":\"new\"}";
+    let refused = "0 \n500 {\"error\":\"disk\"}\n";
+    runs(alloc, disk, "serve", asked(patch), refused)?;
+    lists(alloc, &mut disk.crash(&[Pick::Old])?, "0 \n200 []\n")?;
+    lists(
+        alloc,
+        &mut disk.crash(&[Pick::New])?,
+        "0 \n200 [\"default\"]\n",
+    )
 }
 
 // The sync behind the journal of a patch fails: the journal may be on the disk or not.
 #[test]
 fn a_patch_is_there_whole_or_not(rt: HostRuntime) -> Result<(), Fail> {
-    let alloc = rt.alloc();
-    let mut disk = failing(alloc, &ready(alloc)?, 34)?;
-    let patch = "PATCH /settings {\"motd\":\"new\"}";
-    let refused = "0 \n500 {\"error\":\"disk\"}\n";
-    runs(alloc, &mut disk, "serve", asked(patch), refused)?;
-    let mut old = disk.crash(&[Pick::Old])?;
-    runs(
-        alloc,
-        &mut old,
-        "serve",
-        asked("GET /tx/list"),
-        "0 \n200 []\n",
-    )?;
-    let mut new = disk.crash(&[Pick::New])?;
-    let there = "0 \n200 [\"default\"]\n";
-    runs(alloc, &mut new, "serve", asked("GET /tx/list"), there)
-}
-
-// Commands that ask for nothing, and what is printed.
-const READS_ALONE: &[(&str, &str)] = &[
-    (
-        "get",
-        "0 {\"settings\":{\"motd\":\"Welcome\",\"ntp\":{\"time-servers\":[\"a.example\",\"b.example\"]}}}\n",
-    ),
-    ("check", "0 chrony covered\nmotd covered\nsysctl covered\n"),
-];
-
-/// What a crash leaves, where this is left of each path that isn't on the disk.
-pub fn left(alloc: Global, disk: &MemoryDisk, kind: &str) -> Result<MemoryDisk, Fail> {
-    Ok(disk.crash(&repeated(alloc, kind, 40)?)?)
-}
-
-// The run makes so many calls, of which the one behind so many fails, and then each; whatever a crash leaves, the next run of
-// the words prints what it is to print, and `apply` pays.
-fn fails(
-    alloc: Global,
-    from: &MemoryDisk,
-    line: &str,
-    wanted: &str,
-    calls: u64,
-) -> Result<(), Fail> {
-    let mut disk = failing(alloc, from, calls.saturating_add(1))?;
-    runs(alloc, &mut disk, line, asked(""), "3 settings: disk\n")?;
-    runs(alloc, &mut disk, line, asked(""), wanted)?;
-    let mut disk = from.crash(&[])?;
-    disk.stop_after(calls);
-    runs(alloc, &mut disk, line, asked(""), "3 settings: disk\n")?;
-    for kind in ["old", "new", "torn"] {
-        let mut disk = left(alloc, &disk, kind)?;
-        runs(alloc, &mut disk, line, asked(""), wanted)?;
-        begins(alloc, &mut disk, "apply", "", IDLE)?;
-        holds(alloc, &disk, "etc/motd", "Welcome\n")?;
-    }
-    Ok(())
-}
-
-// Over a host that was never opened, and one that is ready.
-#[test]
-fn each_call_of_a_reading_fails(rt: HostRuntime) -> Result<(), Fail> {
-    let alloc = rt.alloc();
-    readings_fail(alloc, &begun(alloc, WHOLE)?)?;
-    readings_fail(alloc, &ready(alloc)?)
-}
-
-fn readings_fail(alloc: Global, from: &MemoryDisk) -> Result<(), Fail> {
-    for (line, wanted) in READS_ALONE {
-        each_fails(alloc, from, line, wanted)?;
-    }
-    Ok(())
-}
-
-// Each call of the run fails.
-fn each_fails(alloc: Global, from: &MemoryDisk, line: &str, wanted: &str) -> Result<(), Fail> {
-    let mut disk = from.crash(&[])?;
-    runs(alloc, &mut disk, line, asked(""), wanted)?;
-    for calls in 0..disk.calls() {
-        fails(alloc, from, line, wanted, calls)?;
-    }
-    Ok(())
+    let mut disk = failing(rt.alloc(), &ready(rt.alloc())?, 34)?;
+    patch_is_whole(rt.alloc(), &mut disk)
 }

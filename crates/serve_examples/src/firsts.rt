@@ -2,7 +2,9 @@
 use crate::host::{File, IDLE, SMALL, WHOLE, begun};
 use crate::rows::{Step, goes};
 use crate::runs::{Given, asked, runs};
+use disk_memory::MemoryDisk;
 use example_texts::holds;
+use std::alloc::Global;
 use std::test::Fail;
 
 // What is done to them: the first run, an image with a fault, programs that can't be run, and a first boot.
@@ -117,16 +119,20 @@ $ sysctl --system
 const CHRONY: &str =
     "pool a.example iburst\npool b.example iburst\ndriftfile /var/lib/chrony/drift\n";
 
-#[test]
-fn a_boot_comes_before_connections(rt: HostRuntime) -> Result<(), Fail> {
-    let alloc = rt.alloc();
-    let mut disk = begun(alloc, WHOLE)?;
+// The boot runs the programs and writes the files.
+fn boots(alloc: Global, disk: &mut MemoryDisk) -> Result<(), Fail> {
     let given = Given {
         accept: 1,
         ..asked("GET /job")
     };
-    runs(alloc, &mut disk, "serve --boot", given, BOOTED)?;
-    holds(alloc, &disk, "etc/motd", "Welcome\n")?;
-    holds(alloc, &disk, "etc/chrony.conf", CHRONY)?;
-    holds(alloc, &disk, "etc/sysctl", "")
+    runs(alloc, disk, "serve --boot", given, BOOTED)?;
+    holds(alloc, disk, "etc/motd", "Welcome\n")?;
+    holds(alloc, disk, "etc/chrony.conf", CHRONY)?;
+    holds(alloc, disk, "etc/sysctl", "")
+}
+
+#[test]
+fn a_boot_comes_before_connections(rt: HostRuntime) -> Result<(), Fail> {
+    let mut disk = begun(rt.alloc(), WHOLE)?;
+    boots(rt.alloc(), &mut disk)
 }

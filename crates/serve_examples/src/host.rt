@@ -1,7 +1,8 @@
 //! Images of hosts, and hosts that are ready.
 use crate::runs::{asked, runs};
 use disk_memory::MemoryDisk;
-use outside::{Disk, Path};
+use example_texts::{put, repeated};
+use outside::Disk;
 use std::alloc::Global;
 use std::test::Fail;
 
@@ -90,20 +91,19 @@ driftfile /var/lib/chrony/drift
     ),
 ];
 
+// Puts these files, and begins a store at version 1.5.2.
+fn begin(alloc: Global, disk: &mut MemoryDisk, files: &[File]) -> Result<(), Fail> {
+    for (path, bytes) in files {
+        put(alloc, disk, path, bytes)?;
+    }
+    disk.sync()?;
+    runs(alloc, disk, "init --version 1.5.2", asked(""), "0 1.5.2\n")
+}
+
 /// A host of these files at version 1.5.2, of which nothing was applied.
 pub fn begun(alloc: Global, files: &[File]) -> Result<MemoryDisk, Fail> {
     let mut disk = MemoryDisk::new(alloc)?;
-    for (path, bytes) in files {
-        disk.replace(&Path::read(alloc, path.as_bytes())?, bytes.as_bytes())?;
-    }
-    disk.sync()?;
-    runs(
-        alloc,
-        &mut disk,
-        "init --version 1.5.2",
-        asked(""),
-        "0 1.5.2\n",
-    )?;
+    begin(alloc, &mut disk, files)?;
     Ok(disk)
 }
 
@@ -130,6 +130,14 @@ pub fn before(alloc: Global, line: &str) -> Result<MemoryDisk, Fail> {
     } else {
         ready(alloc)
     }
+}
+
+/// What may be left of each path that isn't on the disk.
+pub const KINDS: &[&str] = &["old", "new", "torn"];
+
+/// What a crash leaves, where this is left of each path that isn't on the disk.
+pub fn left(alloc: Global, disk: &MemoryDisk, kind: &str) -> Result<MemoryDisk, Fail> {
+    Ok(disk.crash(&repeated(alloc, kind, 40)?)?)
 }
 
 const APPLIED: &str = r#"0 {"job":"idle","owed":[]}

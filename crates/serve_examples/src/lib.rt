@@ -9,6 +9,8 @@ mod firsts;
 #[cfg(test)]
 mod host;
 #[cfg(test)]
+mod readings;
+#[cfg(test)]
 mod rows;
 #[cfg(test)]
 mod runs;

@@ -46,18 +46,24 @@ pub fn asked(requests: &'static str) -> Given {
     }
 }
 
+// The connection with this number, from 0, and the request of this text.
+fn input(alloc: Global, given: Given, number: usize, text: &str) -> Result<Input, AllocError> {
+    let sent = request(alloc, text)?.into_bytes();
+    let read_fails = given.broken == Some(number);
+    let write_fails = given.unwritten == Some(number);
+    Ok(Input {
+        pieces: vec![in alloc; sent]?,
+        read_fails: read_fails.then_some(1),
+        write_fails: write_fails.then_some(1),
+    })
+}
+
 // The connections.
 fn inputs(alloc: Global, given: Given) -> Result<Vec<Input>, AllocError> {
     let mut inputs = Vec::new(alloc);
     for text in given.requests.lines() {
-        let sent = request(alloc, text)?.into_bytes();
-        let read_fails = given.broken == Some(inputs.len());
-        let write_fails = given.unwritten == Some(inputs.len());
-        inputs.push(Input {
-            pieces: vec![in alloc; sent]?,
-            read_fails: read_fails.then_some(1),
-            write_fails: write_fails.then_some(1),
-        })?;
+        let number = inputs.len();
+        inputs.push(input(alloc, given, number, text)?)?;
     }
     Ok(inputs)
 }
@@ -85,31 +91,6 @@ fn add_replies(alloc: Global, text: &mut String, door: &MemoryDoor) -> Result<()
     Ok(())
 }
 
-/// What the run of the words comes to: a line of its status and of what is printed, one for each reply, and one for each
-/// program that was run.
-pub fn told(
-    alloc: Global,
-    disk: &mut MemoryDisk,
-    line: &str,
-    given: Given,
-) -> Result<String, Fail> {
-    let words = words_of(alloc, line, ' ')?;
-    let mut spawner = MemorySpawner::of_statuses(alloc, given.ends.to_vec(alloc)?);
-    let mut out = MemorySink::new(alloc);
-    let mut door = MemoryDoor::of_inputs(alloc, inputs(alloc, given)?);
-    door.fail_accept(given.accept);
-    let status = run(alloc, &words, disk, &mut spawner, &mut door, &mut out);
-    let printed = String::from_utf8_lossy(alloc, out.written())?;
-    let printed = printed.as_str();
-    let mut text = format!(in alloc; "{status} {printed}")?;
-    if printed.is_empty() {
-        text.push('\n')?;
-    }
-    add_replies(alloc, &mut text, &door)?;
-    add_programs(alloc, &mut text, &spawner)?;
-    Ok(text)
-}
-
 // Adds a line for each program that was run.
 fn add_programs(
     alloc: Global,
@@ -122,6 +103,49 @@ fn add_programs(
         text.push('\n')?;
     }
     Ok(())
+}
+
+// A line of the status and of what is printed.
+fn printed(alloc: Global, status: u8, out: &MemorySink) -> Result<String, AllocError> {
+    let text = String::from_utf8_lossy(alloc, out.written())?;
+    let text = text.as_str();
+    if text.is_empty() {
+        return format!(in alloc; "{status} \n");
+    }
+    format!(in alloc; "{status} {text}")
+}
+
+// The status and what is printed, and the lines of the replies and of the programs.
+fn shown(
+    alloc: Global,
+    status: u8,
+    out: &MemorySink,
+    door: &MemoryDoor,
+    spawner: &MemorySpawner,
+) -> Result<String, AllocError> {
+    let mut text = printed(alloc, status, out)?;
+    add_replies(alloc, &mut text, door)?;
+    add_programs(alloc, &mut text, spawner)?;
+    Ok(text)
+}
+
+/// What the run of the words comes to: a line of its status and of what is printed, one for each reply, and one for each
+/// program that was run.
+pub fn told(
+    alloc: Global,
+    disk: &mut MemoryDisk,
+    line: &str,
+    given: Given,
+) -> Result<String, AllocError> {
+    let words = words_of(alloc, line, ' ')?;
+    let ends = given.ends.to_vec(alloc)?;
+    let inputs = inputs(alloc, given)?;
+    let mut spawner = MemorySpawner::of_statuses(alloc, ends);
+    let mut out = MemorySink::new(alloc);
+    let mut door = MemoryDoor::of_inputs(alloc, inputs);
+    door.fail_accept(given.accept);
+    let status = run(alloc, &words, disk, &mut spawner, &mut door, &mut out);
+    shown(alloc, status, &out, &door, &spawner)
 }
 
 /// Runs the words, with what comes to them, and compares what that comes to.

@@ -1,6 +1,6 @@
 //! Runs that are stopped after each of their disk calls, and what a crash then leaves.
-use crate::faults::{CALLS, CHANGES, begins, left};
-use crate::host::{IDLE, before, ready};
+use crate::faults::{CALLS, CHANGES, begins};
+use crate::host::{IDLE, KINDS, before, left, ready};
 use crate::runs::{asked, runs, told};
 use disk_memory::MemoryDisk;
 use example_texts::holds;
@@ -104,47 +104,61 @@ fn file(row: &Row, calls: u64, kind: &str) -> &'static str {
 
 const READ: &str = "GET /tx/list\nGET /settings?keys=settings.motd\nGET /job";
 
-// What the crash leaves is what was done so far, and `apply` pays.
-fn leaves(
+// A server replies what is in the store.
+fn replies(
     alloc: Global,
     row: &Row,
-    stopped: &MemoryDisk,
+    disk: &mut MemoryDisk,
     calls: u64,
     kind: &str,
 ) -> Result<(), Fail> {
-    let mut disk = left(alloc, stopped, kind)?;
-    holds(alloc, &disk, "etc/motd", file(row, calls, kind))?;
     let store = store(alloc, row, calls, kind)?;
-    runs(alloc, &mut disk, "serve", asked(READ), store.as_str())?;
-    begins(alloc, &mut disk, "apply", "", IDLE)?;
+    runs(alloc, disk, "serve", asked(READ), store.as_str())
+}
+
+// What the crash left is what was done so far, and `apply` pays.
+fn leaves(
+    alloc: Global,
+    row: &Row,
+    disk: &mut MemoryDisk,
+    calls: u64,
+    kind: &str,
+) -> Result<(), Fail> {
+    holds(alloc, disk, "etc/motd", file(row, calls, kind))?;
+    replies(alloc, row, disk, calls, kind)?;
+    begins(alloc, disk, "apply", "", IDLE)?;
     let paid = if is_there(row.committed, calls, kind) {
         "new\n"
     } else {
         "Welcome\n"
     };
-    holds(alloc, &disk, "etc/motd", paid)
+    holds(alloc, disk, "etc/motd", paid)
+}
+
+// The run is stopped after so many calls: it comes to what it is to come to where these are all.
+fn ends(alloc: Global, row: &Row, disk: &mut MemoryDisk, calls: u64) -> Result<(), Fail> {
+    disk.stop_after(calls);
+    let told = told(alloc, disk, row.line, asked(row.requests))?;
+    let ended = told.as_str() == row.told;
+    if ended == (calls == row.calls) {
+        return Ok(());
+    }
+    Err(Fail::new(format_args!("{} after {calls} calls", row.line)))
 }
 
 // The run is stopped after so many calls, and a crash follows.
-fn stops(alloc: Global, row: &Row, from: &MemoryDisk, calls: u64) -> Result<(), Fail> {
-    let mut disk = from.crash(&[])?;
-    disk.stop_after(calls);
-    let told = told(alloc, &mut disk, row.line, asked(row.requests))?;
-    let ended = told.as_str() == row.told;
-    if ended != (calls == row.calls) {
-        return Err(Fail::new(format_args!("{} after {calls} calls", row.line)));
-    }
-    for kind in ["old", "new", "torn"] {
-        leaves(alloc, row, &disk, calls, kind)?;
+fn stops(alloc: Global, row: &Row, disk: &mut MemoryDisk, calls: u64) -> Result<(), Fail> {
+    ends(alloc, row, disk, calls)?;
+    for kind in KINDS {
+        leaves(alloc, row, &mut left(alloc, disk, kind)?, calls, kind)?;
     }
     Ok(())
 }
 
 // It is stopped after each of its calls.
-fn stops_anywhere(alloc: Global, row: &Row) -> Result<(), Fail> {
-    let from = before(alloc, row.line)?;
+fn stops_anywhere(alloc: Global, row: &Row, from: &MemoryDisk) -> Result<(), Fail> {
     for calls in 0..=row.calls {
-        stops(alloc, row, &from, calls)?;
+        stops(alloc, row, &mut from.crash(&[])?, calls)?;
     }
     Ok(())
 }
@@ -152,7 +166,7 @@ fn stops_anywhere(alloc: Global, row: &Row) -> Result<(), Fail> {
 #[test]
 fn each_stop_leaves_what_was_done(rt: HostRuntime) -> Result<(), Fail> {
     for row in ROWS {
-        stops_anywhere(rt.alloc(), row)?;
+        stops_anywhere(rt.alloc(), row, &before(rt.alloc(), row.line)?)?;
     }
     Ok(())
 }
@@ -167,20 +181,21 @@ set weak 29
 end
 "#;
 
-// The journal of a commit that is stopped behind the sync of its journal.
-#[test]
-fn a_commit_is_written_down_first(rt: HostRuntime) -> Result<(), Fail> {
-    let alloc = rt.alloc();
-    let from = ready(alloc)?;
-    let mut disk = from.crash(&[])?;
+// A commit that is stopped behind the sync of its journal leaves that.
+fn leaves_its_journal(alloc: Global, disk: &mut MemoryDisk) -> Result<(), Fail> {
     disk.stop_after(40);
     let stopped = "0 \n204\n500 {\"error\":\"disk\"}\n";
-    begins(alloc, &mut disk, "serve", CHANGES, stopped)?;
-    let disk = left(alloc, &disk, "old")?;
+    begins(alloc, disk, "serve", CHANGES, stopped)?;
     holds(
         alloc,
-        &disk,
+        &left(alloc, disk, "old")?,
         "store/v1.5.2_0000000000000000/journal",
         JOURNAL,
     )
+}
+
+#[test]
+fn a_commit_is_written_down_first(rt: HostRuntime) -> Result<(), Fail> {
+    let mut disk = ready(rt.alloc())?.crash(&[])?;
+    leaves_its_journal(rt.alloc(), &mut disk)
 }

@@ -31,6 +31,14 @@ fn below(alloc: Global, content: &Content, prefix: &str) -> Result<String, Fail>
     Ok(pairs(alloc, &found)?)
 }
 
+// Below each prefix stand the pairs beside it.
+fn stand_below(alloc: Global, content: &Content, rows: &[(&str, &str)]) -> Result<(), Fail> {
+    for (prefix, wanted) in rows {
+        answers(below(alloc, content, prefix), wanted, prefix)?;
+    }
+    Ok(())
+}
+
 #[test]
 fn lists_what_is_below(rt: HostRuntime) -> Result<(), Fail> {
     let rows: &[(&str, &str)] = &[
@@ -42,10 +50,7 @@ fn lists_what_is_below(rt: HostRuntime) -> Result<(), Fail> {
         ("b", ""),
     ];
     let content = content(rt.alloc(), r#"live:[["a.b",1],["a.c.d",2],["aa",3]]"#)?;
-    for (prefix, wanted) in rows {
-        answers(below(rt.alloc(), &content, prefix), wanted, prefix)?;
-    }
-    Ok(())
+    stand_below(rt.alloc(), &content, rows)
 }
 
 // What is put at the key takes its place there, or that it does not fit.
@@ -60,8 +65,9 @@ fn put(alloc: Global, content: &mut Content, key: Key) -> Result<String, Fail> {
 fn put_answers(alloc: Global, at: &str, wanted: &str) -> Result<(), Fail> {
     let members =
         r#"live:[["settings.a",1],["settings.b.c",2]] weak:["settings.a","settings.b.c"]"#;
+    let key = key(alloc, at)?;
     let mut content = content(alloc, members)?;
-    answers(put(alloc, &mut content, key(alloc, at)?), wanted, at)
+    answers(put(alloc, &mut content, key), wanted, at)
 }
 
 // A key that is put is no longer weak.
@@ -90,8 +96,8 @@ fn is_taken(content: &mut Content, key: &Key) -> bool {
 
 #[test]
 fn takes_values(rt: HostRuntime) -> Result<(), Fail> {
-    let mut content = content(rt.alloc(), r#"live:[["settings.a",1]] weak:["settings.a"]"#)?;
     let key = key(rt.alloc(), "settings.a")?;
+    let mut content = content(rt.alloc(), r#"live:[["settings.a",1]] weak:["settings.a"]"#)?;
     assert!(rt; is_taken(&mut content, &key));
     assert!(rt; content.next_value(None).is_none());
     Ok(())
@@ -105,8 +111,8 @@ fn has_meta(content: &Content, key: &Key) -> bool {
 
 #[test]
 fn takes_metadata(rt: HostRuntime) -> Result<(), Fail> {
-    let mut content = content(rt.alloc(), r#"meta:[["a","n",1]]"#)?;
     let key = key(rt.alloc(), "a")?;
+    let mut content = content(rt.alloc(), r#"meta:[["a","n",1]]"#)?;
     assert!(rt; has_meta(&content, &key));
     assert!(rt; content.take_meta(&key, b"n") == Some(Scalar::Int(1)));
     assert!(rt; !has_meta(&content, &key));
@@ -138,9 +144,10 @@ fn put_meta(alloc: Global, content: &mut Content, key: Key) -> Result<(), AllocE
 
 #[test]
 fn puts_metadata(rt: HostRuntime) -> Result<(), Fail> {
-    let mut content = Content::new(rt.alloc());
     let key = key(rt.alloc(), "a")?;
-    put_meta(rt.alloc(), &mut content, key.copy()?)?;
+    let copy = key.copy()?;
+    let mut content = Content::new(rt.alloc());
+    put_meta(rt.alloc(), &mut content, copy)?;
     assert!(rt; content.meta(&key, b"n") == Some(&Scalar::Int(2)));
     Ok(())
 }
@@ -154,6 +161,14 @@ fn may_be_weak(alloc: Global, content: &Content, text: &str) -> Result<&'static 
     })
 }
 
+// Each list of keys may be weak as told beside it.
+fn tell_weak(alloc: Global, content: &Content, rows: &[(&str, &str)]) -> Result<(), Fail> {
+    for (keys, wanted) in rows {
+        same(may_be_weak(alloc, content, keys)?, wanted, keys)?;
+    }
+    Ok(())
+}
+
 #[test]
 fn tells_what_may_be_weak(rt: HostRuntime) -> Result<(), Fail> {
     let rows: &[(&str, &str)] = &[
@@ -162,8 +177,5 @@ fn tells_what_may_be_weak(rt: HostRuntime) -> Result<(), Fail> {
         ("a", "may not"),
     ];
     let content = content(rt.alloc(), r#"live:[["a",1],["settings.a",1]]"#)?;
-    for (keys, wanted) in rows {
-        same(may_be_weak(rt.alloc(), &content, keys)?, wanted, keys)?;
-    }
-    Ok(())
+    tell_weak(rt.alloc(), &content, rows)
 }

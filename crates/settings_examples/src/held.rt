@@ -1,16 +1,21 @@
 //! Held texts that are read, and printed as they were.
-use crate::texts::answers;
-use example_texts::held_text;
+use example_texts::{answers, held_text};
 use held_text::HeldText;
+use key_names::Text;
 use settings_tree::Held;
 use std::alloc::Global;
 use std::test::Fail;
 
+// A copy of what the text holds.
+fn copied(alloc: Global, text: &str) -> Result<Held, Fail> {
+    let held = Held::read(alloc, text.as_bytes())?;
+    Ok(held.copy()?)
+}
+
 // A copy of what the text holds, printed.
-fn printed(alloc: Global, text: &str) -> Result<String, Fail> {
-    let held = Held::read(alloc, text.as_bytes())?.copy()?;
-    let text = held.print()?;
-    Ok(String::from_str(alloc, text.as_str())?)
+fn printed(alloc: Global, text: &str) -> Result<Text, Fail> {
+    let held = copied(alloc, text)?;
+    Ok(held.print()?)
 }
 
 #[test]

@@ -122,8 +122,8 @@ fn patched(alloc: Global, held: &Held, pairs: &[(Key, Pending)]) -> Result<Strin
 }
 
 fn patch_answers(alloc: Global, members: &str, text: &str, wanted: &str) -> Result<(), Fail> {
-    let held = held(alloc, members)?;
     let pairs = pairs(alloc, text)?;
+    let held = held(alloc, members)?;
     answers(patched(alloc, &held, &pairs), wanted, text)
 }
 
@@ -175,10 +175,15 @@ fn committed(alloc: Global, held: &Held, tx: &TxName) -> Result<String, AllocErr
     }
 }
 
+// What the commit of `t` tells.
+fn commit_told(alloc: Global, held: &Held) -> Result<String, Fail> {
+    let tx = tx(alloc)?;
+    Ok(committed(alloc, held, &tx)?)
+}
+
 fn commit_answers(alloc: Global, members: &str, wanted: &str) -> Result<(), Fail> {
     let held = held(alloc, members)?;
-    let tx = tx(alloc)?;
-    same(committed(alloc, &held, &tx)?.as_str(), wanted, members)
+    answers(commit_told(alloc, &held), wanted, members)
 }
 
 fn commits(alloc: Global, rows: &[(&str, &str)]) -> Result<(), Fail> {
@@ -250,17 +255,22 @@ fn push_dropped(text: &mut String, alloc: Global, dropped: &Dropped) -> Result<(
 }
 
 // The keys, and the entries.
-fn dropped(alloc: Global, held: &Held, tx: &TxName) -> Result<String, AllocError> {
-    let dropped = drop_tx(alloc, held, tx)?;
+fn dropped(alloc: Global, dropped: &Dropped) -> Result<String, AllocError> {
     let mut text = String::new(alloc);
-    push_dropped(&mut text, alloc, &dropped)?;
+    push_dropped(&mut text, alloc, dropped)?;
     Ok(text)
+}
+
+// What the end of `t` tells.
+fn drop_told(alloc: Global, held: &Held) -> Result<String, Fail> {
+    let tx = tx(alloc)?;
+    let end = drop_tx(alloc, held, &tx)?;
+    Ok(dropped(alloc, &end)?)
 }
 
 fn drop_answers(alloc: Global, members: &str, wanted: &str) -> Result<(), Fail> {
     let held = held(alloc, members)?;
-    let tx = tx(alloc)?;
-    same(dropped(alloc, &held, &tx)?.as_str(), wanted, members)
+    answers(drop_told(alloc, &held), wanted, members)
 }
 
 #[test]

@@ -1,6 +1,6 @@
 //! Disks with files below the folder `image`.
 use disk_memory::MemoryDisk;
-use outside::{Disk, Path};
+use example_texts::put;
 use std::alloc::Global;
 use std::test::Fail;
 
@@ -17,19 +17,23 @@ template-path = \"motd\"
 affected-services = [\"motd\"]
 ";
 
-/// Puts a file at the path below `image`.
-pub fn put(alloc: Global, disk: &mut MemoryDisk, path: &str, bytes: &str) -> Result<(), Fail> {
+// Puts a file at the path below `image`.
+fn put_below(alloc: Global, disk: &mut MemoryDisk, path: &str, bytes: &str) -> Result<(), Fail> {
     let path = format!(in alloc; "image/{path}")?;
-    let path = Path::read(alloc, path.as_str().as_bytes())?;
-    disk.replace(&path, bytes.as_bytes())?;
+    put(alloc, disk, path.as_str(), bytes)
+}
+
+// Puts these files below `image`.
+fn put_all(alloc: Global, disk: &mut MemoryDisk, files: &[(&str, &str)]) -> Result<(), Fail> {
+    for (path, bytes) in files {
+        put_below(alloc, disk, path, bytes)?;
+    }
     Ok(())
 }
 
 /// A disk with these files below `image`.
 pub fn disk_of(alloc: Global, files: &[(&str, &str)]) -> Result<MemoryDisk, Fail> {
     let mut disk = MemoryDisk::new(alloc)?;
-    for (path, bytes) in files {
-        put(alloc, &mut disk, path, bytes)?;
-    }
+    put_all(alloc, &mut disk, files)?;
     Ok(disk)
 }

@@ -1,5 +1,5 @@
 //! The images of small hosts: their texts, and the coverage of their files.
-use crate::disks::{MOTD, disk_of, put};
+use crate::disks::{MOTD, disk_of};
 use depend_check::{Coverage, covered};
 use disk_memory::MemoryDisk;
 use example_texts::same;
@@ -8,11 +8,21 @@ use std::test::Fail;
 use store_image::{Image, read_image};
 
 // The image text is the one whose lines these are.
-fn has_text(alloc: Global, files: &[(&str, &str)], wanted: &str) -> Result<(), Fail> {
-    let mut disk = disk_of(alloc, files)?;
-    let image = read_image(alloc, &mut disk)?;
+fn has_text(alloc: Global, image: &Image, wanted: &str) -> Result<(), Fail> {
     let text = String::from_utf8_lossy(alloc, image.text.as_slice())?;
     same(text.as_str(), wanted, "the image text")
+}
+
+// The disk has an image with this text.
+fn holds_text(alloc: Global, disk: &mut MemoryDisk, wanted: &str) -> Result<(), Fail> {
+    let image = read_image(alloc, disk)?;
+    has_text(alloc, &image, wanted)
+}
+
+// The files are an image with this text.
+fn have_text(alloc: Global, files: &[(&str, &str)], wanted: &str) -> Result<(), Fail> {
+    let mut disk = disk_of(alloc, files)?;
+    holds_text(alloc, &mut disk, wanted)
 }
 
 #[test]
@@ -25,7 +35,7 @@ fn image_text_of_a_host(rt: HostRuntime) -> Result<(), Fail> {
         "model W3R5cGVzXQoic2V0dGluZ3MubW90ZCIgPSAibGluZSIKW3NlcnZpY2VzLm1vdGRdCmNvbmZpZ3VyYXRpb24tZmlsZXMgPSBbIm1vdGQiXQpyZXN0YXJ0LWNvbW1hbmRzID0gW10KW2NvbmZpZ3VyYXRpb24tZmlsZXMubW90ZF0KcGF0aCA9ICIvZXRjL21vdGQiCnRlbXBsYXRlLXBhdGggPSAibW90ZCIKW21ldGFkYXRhLnNldHRpbmdzLm1vdGRdCmFmZmVjdGVkLXNlcnZpY2VzID0gWyJtb3RkIl0K
 template motd e3tzZXR0aW5ncy5tb3RkfX0K
 ";
-    has_text(rt.alloc(), &files, wanted)
+    have_text(rt.alloc(), &files, wanted)
 }
 
 // Two files with one template, and a third file.
@@ -44,7 +54,7 @@ fn image_text_has_each_template_once(rt: HostRuntime) -> Result<(), Fail> {
 template b/c eXo=
 template b-c eA==
 ";
-    has_text(rt.alloc(), &files, wanted)
+    have_text(rt.alloc(), &files, wanted)
 }
 
 const HOST: &str = "[types]
@@ -96,17 +106,15 @@ const SYSCTL: &str = "{{#if settings.kernel.sysctl}}
 {{/if}}
 ";
 
-// The disk of the host, with more text behind its model, and this template of chrony.
-fn host(alloc: Global, more: &str, chrony: &str) -> Result<MemoryDisk, Fail> {
-    let model = format!(in alloc; "{HOST}{more}")?;
+// The disk of the host with this model, and this template of chrony.
+fn host<'a>(alloc: Global, model: &'a str, chrony: &'a str) -> Result<MemoryDisk, Fail> {
     let files = [
+        ("model.toml", model),
+        ("templates/chrony", chrony),
         ("templates/motd", "{{settings.motd}}\n"),
         ("templates/sysctl", SYSCTL),
     ];
-    let mut disk = disk_of(alloc, &files)?;
-    put(alloc, &mut disk, "model.toml", model.as_str())?;
-    put(alloc, &mut disk, "templates/chrony", chrony)?;
-    Ok(disk)
+    disk_of(alloc, &files)
 }
 
 fn shown(alloc: Global, coverage: &Coverage) -> Result<String, AllocError> {
@@ -145,23 +153,28 @@ fn are_covered(alloc: Global, image: &Image, rows: &[(&str, &str)]) -> Result<()
     Ok(())
 }
 
+// The disk has an image whose files are covered as told.
+fn covers(alloc: Global, disk: &mut MemoryDisk, rows: &[(&str, &str)]) -> Result<(), Fail> {
+    let image = read_image(alloc, disk)?;
+    are_covered(alloc, &image, rows)
+}
+
 #[test]
 fn a_host_is_covered(rt: HostRuntime) -> Result<(), Fail> {
-    let mut disk = host(rt.alloc(), "", CHRONY)?;
-    let image = read_image(rt.alloc(), &mut disk)?;
+    let mut disk = host(rt.alloc(), HOST, CHRONY)?;
     let rows = [
         ("chrony", "covered"),
         ("motd", "covered"),
         ("sysctl", "covered"),
     ];
-    are_covered(rt.alloc(), &image, &rows)
+    covers(rt.alloc(), &mut disk, &rows)
 }
 
 #[test]
 fn a_longer_key_without_the_service(rt: HostRuntime) -> Result<(), Fail> {
     let more = "[metadata.settings.ntp.time-servers]\naffected-services = [\"motd\"]\n";
-    let mut disk = host(rt.alloc(), more, "{{#if settings.ntp}}on{{/if}}")?;
-    let image = read_image(rt.alloc(), &mut disk)?;
+    let model = format!(in rt.alloc(); "{HOST}{more}")?;
+    let mut disk = host(rt.alloc(), model.as_str(), "{{#if settings.ntp}}on{{/if}}")?;
     let rows = [
         (
             "chrony",
@@ -170,5 +183,5 @@ fn a_longer_key_without_the_service(rt: HostRuntime) -> Result<(), Fail> {
         ("motd", "covered"),
         ("sysctl", "covered"),
     ];
-    are_covered(rt.alloc(), &image, &rows)
+    covers(rt.alloc(), &mut disk, &rows)
 }

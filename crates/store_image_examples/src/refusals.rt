@@ -25,10 +25,15 @@ fn told(alloc: Global, disk: &mut MemoryDisk) -> Result<String, AllocError> {
     }
 }
 
+// What is told of the image on the disk is wanted.
+fn is_told(alloc: Global, disk: &mut MemoryDisk, wanted: &str, at: &str) -> Result<(), Fail> {
+    let told = told(alloc, disk)?;
+    same(told.as_str(), wanted, at)
+}
+
 fn tells(alloc: Global, files: &[(&str, &str)], wanted: &str) -> Result<(), Fail> {
     let mut disk = disk_of(alloc, files)?;
-    let told = told(alloc, &mut disk)?;
-    same(told.as_str(), wanted, "these files")
+    is_told(alloc, &mut disk, wanted, "these files")
 }
 
 // Each model is refused so.
@@ -173,15 +178,18 @@ fn tells_the_first_fault(rt: HostRuntime) -> Result<(), Fail> {
     tells(alloc, &files, "templates/a/z unclosed 1")
 }
 
+// The call of the disk with this number fails, and so does the reading.
+fn call_fails(alloc: Global, call: u64) -> Result<(), Fail> {
+    let which = vec![in alloc; call]?;
+    let mut disk = disk_of(alloc, &[("model.toml", MOTD), ("templates/motd", "")])?;
+    disk.fail_calls(which);
+    is_told(alloc, &mut disk, "failed", "a call")
+}
+
 #[test]
 fn each_disk_call_fails(rt: HostRuntime) -> Result<(), Fail> {
-    let alloc = rt.alloc();
     for call in 1..3u64 {
-        let mut disk = disk_of(alloc, &[("model.toml", MOTD), ("templates/motd", "")])?;
-        let mut which = Vec::new(alloc);
-        which.push(2 + call)?;
-        disk.fail_calls(which);
-        same(told(alloc, &mut disk)?.as_str(), "failed", "a call")?;
+        call_fails(rt.alloc(), 2 + call)?;
     }
     Ok(())
 }

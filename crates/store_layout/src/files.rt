@@ -7,8 +7,9 @@ use store_files::Found;
 // Whether the file may stand alone.
 fn stands_alone(alloc: Global, path: &[u8], bytes: &[u8]) -> Result<bool, Fail> {
     let path = Path::read(alloc, path)?;
+    let bytes = bytes.to_vec(alloc)?;
     let mut found = Found::new(alloc);
-    Ok(found.read(alloc, path.names(), bytes.to_vec(alloc)?)?)
+    Ok(found.read(alloc, path.names(), bytes)?)
 }
 
 #[test]

@@ -2,14 +2,15 @@
 ghost use Rattle.std.specs.Prelude.{◌≡◌, length, IfOk};
 
 use disk_memory::{MemoryDisk, Node, Pick};
-use fs_datastore::{LoadError, batch_of, load, save_all};
+use fs_datastore::{LoadError, Loaded, batch_of, load, save_all};
 use held_text::HeldText;
 use outside::{Disk, Path, PathError};
 use pending_tx::commit;
-use settings_tree::{Held, TxName};
+use settings_tree::{Change, Held, TxName};
 use std::alloc::{AllocError, Global};
+use std::process::Abort;
 use std::test::Fail;
-use version_links::{Version, flip, fresh_dir};
+use version_links::{Names, Version, flip, fresh_dir};
 
 const HELD: &str = concat!(
     r#"{"image":"aW1n","live":[["settings.\"a.b\"",true],["settings.motd","hi"]],"#,
@@ -113,11 +114,16 @@ fn store(alloc: Global, files: &[(&str, &str)]) -> Result<MemoryDisk, Fail> {
     Ok(disk)
 }
 
+// Whether this held text was loaded.
+fn has_text(loaded: &Loaded, text: &str) -> Result<bool, Fail> {
+    Ok(loaded.held.print()?.as_str() == text)
+}
+
 // Whether the data directory stands for this held text in this format.
 fn stands_for(alloc: Global, disk: &mut MemoryDisk, text: &str, format: u8) -> Result<bool, Fail> {
     let dir = directory(alloc, PRESENT)?;
     let loaded = load(alloc, disk, &dir)?;
-    Ok(loaded.format == format && loaded.held.print()?.as_str() == text)
+    Ok(has_text(&loaded, text)? && loaded.format == format)
 }
 
 #[test]
@@ -223,21 +229,42 @@ fn is_damaged_by_each_prefix(rt: HostRuntime) -> Result<(), Fail> {
     Ok(())
 }
 
+// Whether the data directory is damaged at the place, once a link stands there.
+fn is_damaged_by_link_at(alloc: Global, disk: &mut MemoryDisk, place: &str) -> Result<bool, Fail> {
+    disk.relink(&file_path(alloc, place)?, b"x")?;
+    is_damaged_at(alloc, disk, place)
+}
+
 #[test]
 fn is_damaged_by_a_link(rt: HostRuntime) -> Result<(), Fail> {
     let mut disk = store(rt.alloc(), FILES)?;
-    disk.relink(&file_path(rt.alloc(), "live/settings/motd")?, b"x")?;
-    assert!(rt; is_damaged_at(rt.alloc(), &mut disk, "live/settings/motd")?);
+    assert!(rt; is_damaged_by_link_at(rt.alloc(), &mut disk, "live/settings/motd")?);
     Ok(())
+}
+
+// Saves what is held to the directory of these names, to which the links then lead.
+fn save_to(alloc: Global, disk: &mut MemoryDisk, names: &Names, held: &Held) -> Result<(), Fail> {
+    save_all(alloc, disk, names.directory(), held)?;
+    flip(disk, names)?;
+    Ok(())
+}
+
+// Makes a store at 1.5.2 that holds this.
+fn make(alloc: Global, disk: &mut MemoryDisk, held: &Held) -> Result<(), Fail> {
+    let names = fresh_dir(alloc, disk, &VERSION)?;
+    save_to(alloc, disk, &names, held)
+}
+
+// Makes one that holds `HELD`.
+fn make_held(alloc: Global, disk: &mut MemoryDisk) -> Result<(), Fail> {
+    let held = Held::read(alloc, HELD.as_bytes())?;
+    make(alloc, disk, &held)
 }
 
 // A disk with a new store at 1.5.2 that holds `HELD`.
 fn made(alloc: Global) -> Result<MemoryDisk, Fail> {
     let mut disk = MemoryDisk::new(alloc)?;
-    let held = Held::read(alloc, HELD.as_bytes())?;
-    let names = fresh_dir(alloc, &mut disk, &VERSION)?;
-    save_all(alloc, &mut disk, names.directory(), &held)?;
-    flip(&mut disk, &names)?;
+    make_held(alloc, &mut disk)?;
     Ok(disk)
 }
 
@@ -264,15 +291,22 @@ fn saves_beside(alloc: Global, disk: &mut MemoryDisk) -> Result<bool, Fail> {
     Ok(save_all(alloc, disk, &dir, &held).is_ok())
 }
 
-// Whether such a save fails when it is cut off after so many calls, and leaves the store as it was after a crash.
-fn stays(alloc: Global, calls: u64, stops: bool) -> Result<bool, Fail> {
-    let mut disk = made(alloc)?;
-    cut_off(alloc, &mut disk, calls, stops)?;
-    if saves_beside(alloc, &mut disk)? {
-        return Ok(false);
-    }
+// Whether a crash leaves the store as it was made.
+fn outlasts_crash(alloc: Global, disk: &MemoryDisk) -> Result<bool, Fail> {
     let mut left = disk.crash(&[Pick::New, Pick::Old, Pick::Gone])?;
     stands_for(alloc, &mut left, HELD, 2)
+}
+
+// Whether such a save fails when it is cut off after so many calls, and leaves the store as it was after a crash.
+fn stays_on(alloc: Global, disk: &mut MemoryDisk, calls: u64, stops: bool) -> Result<bool, Fail> {
+    cut_off(alloc, disk, calls, stops)?;
+    Ok(!saves_beside(alloc, disk)? && outlasts_crash(alloc, disk)?)
+}
+
+// Whether it does beside a new store.
+fn stays(alloc: Global, calls: u64, stops: bool) -> Result<bool, Fail> {
+    let mut disk = made(alloc)?;
+    stays_on(alloc, &mut disk, calls, stops)
 }
 
 #[test]
@@ -285,44 +319,68 @@ fn a_save_that_is_cut_off_leaves_the_store(rt: HostRuntime) -> Result<(), Fail> 
     Ok(())
 }
 
+// Adds both texts to the row.
+fn add(row: &mut Vec<u8>, sign: &[u8], text: &[u8]) -> Result<(), AllocError> {
+    row.extend_from_slice(sign)?;
+    row.extend_from_slice(text)
+}
+
 // The path with what stands there: the text of a link behind an arrow, the bytes of a file behind a `=`.
 fn row(disk: &MemoryDisk, path: &Path) -> Result<Vec<u8>, Fail> {
     let mut row = path.print()?;
     match disk.node(path) {
-        Some(Node::Link(text)) => {
-            row.extend_from_slice(b" -> ")?;
-            row.extend_from_slice(text.as_slice())?;
-        }
-        Some(Node::File(bytes)) => {
-            row.extend_from_slice(b" = ")?;
-            row.extend_from_slice(bytes.as_slice())?;
-        }
+        Some(Node::Link(text)) => add(&mut row, b" -> ", text.as_slice())?,
+        Some(Node::File(bytes)) => add(&mut row, b" = ", bytes.as_slice())?,
         None => {}
     }
     Ok(row)
 }
 
-#[test]
-fn makes_a_store(rt: HostRuntime) -> Result<(), Fail> {
-    let mut disk = made(rt.alloc())?;
-    let paths = disk.list(rt.alloc(), &Path::root(rt.alloc()))?;
+// The paths are those of the store, and what stands there is as its rows say.
+fn compare(rt: &impl Abort, disk: &MemoryDisk, paths: &[Path]) -> Result<(), Fail> {
     assert_eq!(rt; paths.len(), STORE.len());
     for (path, wanted) in paths.iter().zip(STORE) {
         assert!(rt;
-            row(&disk, path)?.as_slice() == wanted.as_bytes(),
+            row(disk, path)?.as_slice() == wanted.as_bytes(),
             "{wanted}"
         );
     }
     Ok(())
 }
 
+// The same of all paths of the disk.
+fn compare_all(rt: &impl Abort, alloc: Global, disk: &mut MemoryDisk) -> Result<(), Fail> {
+    let paths = disk.list(alloc, &Path::root(alloc))?;
+    compare(rt, disk, &paths)
+}
+
+#[test]
+fn makes_a_store(rt: HostRuntime) -> Result<(), Fail> {
+    let mut disk = made(rt.alloc())?;
+    compare_all(&rt, rt.alloc(), &mut disk)
+}
+
+// Whether the journal of the change is this text.
+fn has_journal(alloc: Global, change: &Change, text: &str) -> Result<bool, Fail> {
+    let dir = directory(alloc, b"v1")?;
+    Ok(batch_of(alloc, &dir, change)?.text() == text.as_bytes())
+}
+
+// Whether the journal of the commit of the transaction is this text.
+fn commits_with(alloc: Global, held: &Held, tx: &TxName, text: &str) -> Result<bool, Fail> {
+    let committed = commit(alloc, held, tx)?;
+    has_journal(alloc, &committed.change, text)
+}
+
+// Whether it is where the setting is pending.
+fn commits_pending_with(alloc: Global, tx: &TxName, text: &str) -> Result<bool, Fail> {
+    let held = Held::read(alloc, PENDING.as_bytes())?;
+    commits_with(alloc, &held, tx, text)
+}
+
 #[test]
 fn writes_a_commit_as_a_journal(rt: HostRuntime) -> Result<(), Fail> {
-    let held = Held::read(rt.alloc(), PENDING.as_bytes())?;
     let tx = TxName::read(rt.alloc(), b"default")?.ok_or("no name")?;
-    let committed = commit(rt.alloc(), &held, &tx)?;
-    let dir = Path::root(rt.alloc()).child(b"store")?.child(b"v1")?;
-    let batch = batch_of(rt.alloc(), &dir, &committed.change)?;
-    assert!(rt; batch.text() == JOURNAL.as_bytes());
+    assert!(rt; commits_pending_with(rt.alloc(), &tx, JOURNAL)?);
     Ok(())
 }

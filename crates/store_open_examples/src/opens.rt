@@ -1,6 +1,6 @@
 //! What is on the disk after a beginning and an opening.
 use crate::stores::{File, IMAGE_TEXT, OPENED, host, place, store};
-use crate::words::{begun, opened};
+use crate::words::{beginning_tells, opening_tells};
 use disk_memory::{MemoryDisk, Node};
 use example_texts::same;
 use std::alloc::Global;
@@ -36,15 +36,18 @@ const BEGUN: &[File] = &[
     ("weak", Some("[]")),
 ];
 
+// A beginning makes the store, and a second one leaves it as it is.
+fn begins_once(alloc: Global, disk: &mut MemoryDisk) -> Result<(), Fail> {
+    beginning_tells(alloc, disk, "begun", "the first")?;
+    has(alloc, disk, BEGUN)?;
+    beginning_tells(alloc, disk, "already there 1.5.2", "the second")?;
+    has(alloc, disk, BEGUN)
+}
+
 #[test]
 fn begins_one_store(rt: HostRuntime) -> Result<(), Fail> {
-    let alloc = rt.alloc();
-    let mut disk = host(alloc)?;
-    same(begun(alloc, &mut disk)?.as_str(), "begun", "the first")?;
-    has(alloc, &disk, BEGUN)?;
-    let told = begun(alloc, &mut disk)?;
-    same(told.as_str(), "already there 1.5.2", "the second")?;
-    has(alloc, &disk, BEGUN)
+    let mut disk = host(rt.alloc())?;
+    begins_once(rt.alloc(), &mut disk)
 }
 
 // A journal that commits a setting of the transaction `default`.
@@ -162,17 +165,16 @@ const OPENINGS: &[(&[File], bool, &[File])] = &[
     ),
 ];
 
-fn opens(alloc: Global, files: &[File], boot: bool, wanted: &[File]) -> Result<(), Fail> {
-    let mut disk = store(alloc, files)?;
-    let told = opened(alloc, &mut disk, boot)?;
-    same(told.as_str(), "open", "an opening")?;
-    has(alloc, &disk, wanted)
+// The store opens, and has these files then.
+fn opens(alloc: Global, disk: &mut MemoryDisk, boot: bool, wanted: &[File]) -> Result<(), Fail> {
+    opening_tells(alloc, disk, boot, "open", "an opening")?;
+    has(alloc, disk, wanted)
 }
 
 #[test]
 fn opens_stores(rt: HostRuntime) -> Result<(), Fail> {
     for (files, boot, wanted) in OPENINGS {
-        opens(rt.alloc(), files, *boot, wanted)?;
+        opens(rt.alloc(), &mut store(rt.alloc(), files)?, *boot, wanted)?;
     }
     Ok(())
 }
@@ -180,7 +182,7 @@ fn opens_stores(rt: HostRuntime) -> Result<(), Fail> {
 // How many calls of the disk an opening makes.
 fn calls_of(alloc: Global, disk: &mut MemoryDisk, boot: bool) -> Result<u64, Fail> {
     let before = disk.calls();
-    same(opened(alloc, disk, boot)?.as_str(), "open", "an opening")?;
+    opening_tells(alloc, disk, boot, "open", "an opening")?;
     Ok(disk.calls().saturating_sub(before))
 }
 

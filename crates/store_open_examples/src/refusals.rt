@@ -1,6 +1,7 @@
 //! Each refusal, and which of two is told.
 use crate::stores::{File, MODEL, host, store};
-use crate::words::{begun, opened};
+use crate::words::{beginning_tells, opened, opening_tells};
+use disk_memory::MemoryDisk;
 use example_texts::same;
 use outside::{Disk, Path};
 use std::alloc::Global;
@@ -106,53 +107,49 @@ const REFUSALS: &[(&[File], &str)] = &[
     (&[AS_IT_IS], "open"),
 ];
 
-fn tells(alloc: Global, files: &[File], wanted: &str) -> Result<(), Fail> {
-    let mut disk = store(alloc, files)?;
-    let told = opened(alloc, &mut disk, false)?;
-    same(told.as_str(), wanted, "a store")?;
-    let again = opened(alloc, &mut disk, true)?;
-    same(again.as_str(), wanted, "the store again")
+// An opening tells the wanted words, and so does one at a boot behind it.
+fn tells(alloc: Global, disk: &mut MemoryDisk, wanted: &str) -> Result<(), Fail> {
+    opening_tells(alloc, disk, false, wanted, "a store")?;
+    opening_tells(alloc, disk, true, wanted, "the store again")
 }
 
 #[test]
 fn refuses_stores(rt: HostRuntime) -> Result<(), Fail> {
     for (files, wanted) in REFUSALS {
-        tells(rt.alloc(), files, wanted)?;
+        tells(rt.alloc(), &mut store(rt.alloc(), files)?, wanted)?;
     }
     Ok(())
 }
 
-#[test]
-fn refuses_links(rt: HostRuntime) -> Result<(), Fail> {
-    let alloc = rt.alloc();
-    let mut disk = host(alloc)?;
-    same(
-        opened(alloc, &mut disk, false)?.as_str(),
-        "no store",
-        "no links",
-    )?;
+// Where no links are there is no store, and a link that leads to no version is told.
+fn links_are_refused(alloc: Global, disk: &mut MemoryDisk) -> Result<(), Fail> {
+    opening_tells(alloc, disk, false, "no store", "no links")?;
     disk.relink(&Path::read(alloc, b"store/current")?, b"v01")?;
-    same(
-        opened(alloc, &mut disk, false)?.as_str(),
-        "bad link store/current",
-        "an opening",
-    )?;
-    same(
-        begun(alloc, &mut disk)?.as_str(),
-        "bad link store/current",
-        "a beginning",
-    )
+    let refused = "bad link store/current";
+    opening_tells(alloc, disk, false, refused, "an opening")?;
+    beginning_tells(alloc, disk, refused, "a beginning")
 }
 
-// A model that is cut there makes another image, or it is told what is wrong with it.
-fn cut(alloc: Global, length: usize) -> Result<(), Fail> {
-    let mut disk = store(alloc, &[("image/model.toml", MODEL.get(..length))])?;
-    let told = opened(alloc, &mut disk, false)?;
+#[test]
+fn refuses_links(rt: HostRuntime) -> Result<(), Fail> {
+    let mut disk = host(rt.alloc())?;
+    links_are_refused(rt.alloc(), &mut disk)
+}
+
+// The store opens to another image, or it is told what is wrong with the model.
+fn opens_or_tells(alloc: Global, disk: &mut MemoryDisk) -> Result<(), Fail> {
+    let told = opened(alloc, disk, false)?;
     let told = told.as_str();
     if told == "open" || told.starts_with("bad image model.toml ") {
         return Ok(());
     }
     same(told, "open", "a model that is cut")
+}
+
+// A model that is cut there makes another image, or it is told what is wrong with it.
+fn cut(alloc: Global, length: usize) -> Result<(), Fail> {
+    let mut disk = store(alloc, &[("image/model.toml", MODEL.get(..length))])?;
+    opens_or_tells(alloc, &mut disk)
 }
 
 #[test]

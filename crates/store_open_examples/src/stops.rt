@@ -2,7 +2,7 @@
 //! call failing once.
 use crate::opens::has;
 use crate::stores::{OPENED, host, store};
-use crate::words::{begun, opened};
+use crate::words::{beginning_tells, opened, opening_tells};
 use disk_memory::MemoryDisk;
 use example_texts::{picks, same};
 use std::alloc::{AllocError, Global};
@@ -32,39 +32,38 @@ fn ended(whole: bool, word: &'static str) -> &'static str {
 fn leads_on(alloc: Global, disk: &mut MemoryDisk, may_lack: bool) -> Result<(), Fail> {
     let told = opened(alloc, disk, false)?;
     if may_lack && told.as_str() == "no store" {
-        return same(begun(alloc, disk)?.as_str(), "begun", "a second beginning");
+        return beginning_tells(alloc, disk, "begun", "a second beginning");
     }
     same(told.as_str(), "open", "an opening")?;
     has(alloc, disk, OPENED)
 }
 
+// What a crash leaves of the disk.
+fn left(alloc: Global, disk: &MemoryDisk, kinds: &str) -> Result<MemoryDisk, Fail> {
+    Ok(disk.crash(&picks(alloc, kinds)?)?)
+}
+
 // A beginning is stopped after so many calls, and a crash follows.
-fn begins_again(alloc: Global, calls: u64, kinds: &str) -> Result<(), Fail> {
-    let mut disk = host(alloc)?;
+fn begins_again(alloc: Global, disk: &mut MemoryDisk, calls: u64, kinds: &str) -> Result<(), Fail> {
     disk.stop_after(disk.calls().saturating_add(calls));
     let whole = calls == BEGINNING;
-    same(
-        begun(alloc, &mut disk)?.as_str(),
-        ended(whole, "begun"),
-        kinds,
-    )?;
-    leads_on(alloc, &mut disk.crash(&picks(alloc, kinds)?)?, !whole)
+    beginning_tells(alloc, disk, ended(whole, "begun"), kinds)?;
+    leads_on(alloc, &mut left(alloc, disk, kinds)?, !whole)
 }
 
 // An opening is stopped after so many calls, and a crash follows.
-fn opens_again(alloc: Global, calls: u64, kinds: &str) -> Result<(), Fail> {
-    let mut disk = store(alloc, &[])?;
+fn opens_again(alloc: Global, disk: &mut MemoryDisk, calls: u64, kinds: &str) -> Result<(), Fail> {
     disk.stop_after(disk.calls().saturating_add(calls));
     let wanted = ended(calls == OPENING, "open");
-    same(opened(alloc, &mut disk, false)?.as_str(), wanted, kinds)?;
-    leads_on(alloc, &mut disk.crash(&picks(alloc, kinds)?)?, false)
+    opening_tells(alloc, disk, false, wanted, kinds)?;
+    leads_on(alloc, &mut left(alloc, disk, kinds)?, false)
 }
 
 // Each of them is stopped wherever it may be.
 fn goes_on(alloc: Global, kinds: &str) -> Result<(), Fail> {
     for calls in 0..=OPENING {
-        begins_again(alloc, calls.min(BEGINNING), kinds)?;
-        opens_again(alloc, calls, kinds)?;
+        begins_again(alloc, &mut host(alloc)?, calls.min(BEGINNING), kinds)?;
+        opens_again(alloc, &mut store(alloc, &[])?, calls, kinds)?;
     }
     Ok(())
 }
@@ -84,20 +83,24 @@ fn fail_after(alloc: Global, disk: &mut MemoryDisk, calls: u64) -> Result<(), Al
     Ok(())
 }
 
+// A call of a beginning fails.
+fn beginning_fails(alloc: Global, disk: &mut MemoryDisk, calls: u64) -> Result<(), Fail> {
+    fail_after(alloc, disk, calls)?;
+    beginning_tells(alloc, disk, "failed", "a beginning")?;
+    leads_on(alloc, disk, true)
+}
+
+// A call of an opening fails.
+fn opening_fails(alloc: Global, disk: &mut MemoryDisk, calls: u64) -> Result<(), Fail> {
+    fail_after(alloc, disk, calls)?;
+    opening_tells(alloc, disk, false, "failed", "an opening")?;
+    leads_on(alloc, disk, false)
+}
+
 // A call of a beginning fails, and then one of an opening.
 fn fails_once(alloc: Global, calls: u64) -> Result<(), Fail> {
-    let mut disk = host(alloc)?;
-    fail_after(alloc, &mut disk, calls.min(BEGINNING - 1))?;
-    same(begun(alloc, &mut disk)?.as_str(), "failed", "a beginning")?;
-    leads_on(alloc, &mut disk, true)?;
-    let mut disk = store(alloc, &[])?;
-    fail_after(alloc, &mut disk, calls)?;
-    same(
-        opened(alloc, &mut disk, false)?.as_str(),
-        "failed",
-        "an opening",
-    )?;
-    leads_on(alloc, &mut disk, false)
+    beginning_fails(alloc, &mut host(alloc)?, calls.min(BEGINNING - 1))?;
+    opening_fails(alloc, &mut store(alloc, &[])?, calls)
 }
 
 #[test]

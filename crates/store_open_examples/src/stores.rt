@@ -1,7 +1,7 @@
 //! Stores of a small host.
 use disk_memory::MemoryDisk;
-use outside::{Disk, Path};
-use std::alloc::Global;
+use outside::{Disk, Failed, Path};
+use std::alloc::{AllocError, Global};
 use std::test::Fail;
 use store_open::init;
 use version_links::Version;
@@ -67,43 +67,64 @@ pub const OPENED: &[File] = &[
     ),
 ];
 
+// The text of the file's path.
+fn path_text(alloc: Global, name: &str) -> Result<String, AllocError> {
+    if name.starts_with("image/") || name.starts_with("etc/") {
+        return String::from_str(alloc, name);
+    }
+    format!(in alloc; "store/v1.5.2_0000000000000000/{name}")
+}
+
 /// Where the file is: below `image` or `etc`, or else below the data directory.
 pub fn place(alloc: Global, name: &str) -> Result<Path, Fail> {
-    if name.starts_with("image/") || name.starts_with("etc/") {
-        return Ok(Path::read(alloc, name.as_bytes())?);
+    let text = path_text(alloc, name)?;
+    Ok(Path::read(alloc, text.as_str().as_bytes())?)
+}
+
+// The file gets these bytes, or is taken away, and that is on the disk.
+fn lay(disk: &mut MemoryDisk, path: &Path, bytes: Option<&str>) -> Result<(), Failed> {
+    match bytes {
+        Some(bytes) => disk.replace(path, bytes.as_bytes())?,
+        None => disk.remove(path)?,
     }
-    let path = format!(in alloc; "store/v1.5.2_0000000000000000/{name}")?;
-    Ok(Path::read(alloc, path.as_str().as_bytes())?)
+    disk.sync()
 }
 
 fn put(alloc: Global, disk: &mut MemoryDisk, name: &str, bytes: Option<&str>) -> Result<(), Fail> {
     let path = place(alloc, name)?;
-    match bytes {
-        Some(bytes) => disk.replace(&path, bytes.as_bytes())?,
-        None => disk.remove(&path)?,
+    Ok(lay(disk, &path, bytes)?)
+}
+
+// The files of the image.
+const IMAGE: &[File] = &[
+    ("image/model.toml", Some(MODEL)),
+    ("image/templates/motd", Some("{{settings.motd}}\n")),
+];
+
+// Puts these files, or takes them away.
+fn put_all(alloc: Global, disk: &mut MemoryDisk, files: &[File]) -> Result<(), Fail> {
+    for (name, bytes) in files {
+        put(alloc, disk, name, *bytes)?;
     }
-    Ok(disk.sync()?)
+    Ok(())
 }
 
 /// A disk with the image of the host, and no store.
 pub fn host(alloc: Global) -> Result<MemoryDisk, Fail> {
     let mut disk = MemoryDisk::new(alloc)?;
-    put(alloc, &mut disk, "image/model.toml", Some(MODEL))?;
-    put(
-        alloc,
-        &mut disk,
-        "image/templates/motd",
-        Some("{{settings.motd}}\n"),
-    )?;
+    put_all(alloc, &mut disk, IMAGE)?;
     Ok(disk)
+}
+
+// Begins a store at 1.5.2, and puts these files, or takes them away.
+fn begin(alloc: Global, disk: &mut MemoryDisk, files: &[File]) -> Result<(), Fail> {
+    init(alloc, disk, &V1_5_2)?;
+    put_all(alloc, disk, files)
 }
 
 /// A disk with the image of the host and a new store at 1.5.2, with these files put or taken away.
 pub fn store(alloc: Global, files: &[File]) -> Result<MemoryDisk, Fail> {
     let mut disk = host(alloc)?;
-    init(alloc, &mut disk, &V1_5_2)?;
-    for (name, bytes) in files {
-        put(alloc, &mut disk, name, *bytes)?;
-    }
+    begin(alloc, &mut disk, files)?;
     Ok(disk)
 }

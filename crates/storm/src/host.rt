@@ -125,6 +125,18 @@ fn begin(alloc: Global, disk: &mut MemoryDisk) -> Result<(), Trouble> {
     Ok(())
 }
 
+// The host of the disk, on which a store begins.
+fn host_on(alloc: Global, disk: &mut MemoryDisk) -> Result<Host, Trouble>
+    ensures table { IfOk result (λ host. IsTable host.image.types) }
+    ensures typed { IfOk result (λ host. AreTyped host.image.types host.image.defaults.values) }
+    ensures settings { IfOk result (λ host. AreSettings host.image.defaults.values) }
+{
+    begin(alloc, disk)?;
+    let release = release_of(alloc)?;
+    let image = image_of(alloc, disk)?;
+    Ok(Host { image, release })
+}
+
 /// The host, and its disk with a store that has just begun.
 pub fn host(alloc: Global) -> Result<(Host, MemoryDisk), Trouble>
     ensures table { IfOk result (λ made. IsTable made.0.image.types) }
@@ -132,8 +144,6 @@ pub fn host(alloc: Global) -> Result<(Host, MemoryDisk), Trouble>
     ensures settings { IfOk result (λ made. AreSettings made.0.image.defaults.values) }
 {
     let mut disk = empty_disk(alloc)?;
-    let image = image_of(alloc, &mut disk)?;
-    let release = release_of(alloc)?;
-    begin(alloc, &mut disk)?;
-    Ok((Host { image, release }, disk))
+    let host = host_on(alloc, &mut disk)?;
+    Ok((host, disk))
 }

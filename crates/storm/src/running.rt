@@ -1,4 +1,7 @@
 //! A step over devices in memory.
+ghost use Rattle.std.specs.Prelude.{◌≡◌, false};
+ghost use Rattle.disk_memory.specs.Door.{state};
+
 use disk_memory::{Input, MemoryDisk, MemoryDoor, MemorySink, MemorySpawner};
 use settings_run::run;
 use std::alloc::{AllocError, Global};
@@ -55,20 +58,37 @@ fn set_fault(alloc: Global, disk: &mut MemoryDisk, fault: Fault) -> Result<u64, 
     }
 }
 
-/// Makes the step, but for the failing of the power behind it. A disk whose calls fail ever serves again only behind a crash.
-pub fn run_step(alloc: Global, disk: &mut MemoryDisk, step: &Step) -> Result<Seen, AllocError> {
-    let mut spawner = MemorySpawner::of_statuses(alloc, step.statuses.to_vec(alloc)?);
-    let mut door = MemoryDoor::of_inputs(alloc, inputs(alloc, step)?);
-    door.fail_accept(step.accept_fails.unwrap_or(NEVER));
-    let mut out = MemorySink::new(alloc);
+// What is seen of the step over these devices.
+fn run_over(
+    alloc: Global,
+    disk: &mut MemoryDisk,
+    spawner: &mut MemorySpawner,
+    door: &mut MemoryDoor,
+    out: &mut MemorySink,
+    step: &Step,
+) -> Result<Seen, AllocError>
+    requires idle { (state door.old).busy ≡ false }
+    requires unused { (state door.old).accepted ≡ 0 }
+{
     let first = set_fault(alloc, disk, step.fault)?;
-    let status = run(alloc, &step.words, disk, &mut spawner, &mut door, &mut out);
+    let status = run(alloc, &step.words, disk, spawner, door, out);
     disk.fail_calls(Vec::new(alloc));
     Ok(Seen {
         status,
         printed: out.written().to_vec(alloc)?,
-        replies: replies(alloc, &door, step.sent.len())?,
-        programs: spawned_lines(alloc, &spawner)?,
+        replies: replies(alloc, door, step.sent.len())?,
+        programs: spawned_lines(alloc, spawner)?,
         struck: disk.calls() >= first,
     })
+}
+
+/// Makes the step, but for the failing of the power behind it. A disk whose calls fail ever serves again only behind a crash.
+pub fn run_step(alloc: Global, disk: &mut MemoryDisk, step: &Step) -> Result<Seen, AllocError> {
+    let statuses = step.statuses.to_vec(alloc)?;
+    let inputs = inputs(alloc, step)?;
+    let mut spawner = MemorySpawner::of_statuses(alloc, statuses);
+    let mut door = MemoryDoor::of_inputs(alloc, inputs);
+    door.fail_accept(step.accept_fails.unwrap_or(NEVER));
+    let mut out = MemorySink::new(alloc);
+    run_over(alloc, disk, &mut spawner, &mut door, &mut out, step)
 }

@@ -1,12 +1,13 @@
 //! The events of the commands other than `serve`.
 ghost use Rattle.std.specs.Prelude.{◌≡◌};
+ghost use Rattle.api_http.specs.Questions.{question, IsProper};
 ghost use Rattle.storm_machine.specs.Stands.{Stands};
 
 use crate::moves::moved;
 use crate::outcomes::{Outcome, bytes, line, refusal_of};
 use crate::replay::Replay;
 use crate::trouble::{Trouble, differs};
-use api_http::{Reading, Reply, read_request};
+use api_http::{Ask, Reading, Reply, read_request};
 use command_outcome::Refusal;
 use key_names::Bytes;
 use machine_answers::{JobShown, job_text};
@@ -32,6 +33,21 @@ fn refused(alloc: Global, reply: &Reply) -> Result<Option<Refusal>, AllocError> 
     Ok(Some(Refusal::Refused { status, body }))
 }
 
+// What a command asks for. It answers why the command ends there, if it does.
+fn ask_for(
+    alloc: Global,
+    image: &PlainImage,
+    replay: &mut Replay,
+    ask: &Ask,
+) -> Result<Option<Refusal>, Trouble>
+    requires stands { Stands image.now replay.old.machine.held }
+    requires proper { IsProper (question ask.now) }
+    ensures { Stands image.now replay.new.machine.held }
+{
+    let reply = replay.ask(alloc, image, ask)?;
+    Ok(refused(alloc, &reply)?)
+}
+
 // One request of a command. It answers why the command ends there, if it does.
 fn ask(
     alloc: Global,
@@ -43,11 +59,11 @@ fn ask(
     ensures { Stands image.now replay.new.machine.held }
 {
     match read_request(alloc, &sent.bytes)? {
-        Reading::Whole { ask, .. } => {
-            let reply = replay.ask(alloc, image, &ask)?;
-            Ok(refused(alloc, &reply)?)
-        }
-        _ => Err(differs(alloc, "a command asks for nothing")),
+        Reading::Whole { ask, .. } => ask_for(alloc, image, replay, &ask),
+        Reading::NotYet | Reading::Refused { .. } => Err(differs(
+            alloc,
+            "a command asks for nothing",
+        )),
     }
 }
 
@@ -133,6 +149,20 @@ pub fn begins(replay: &mut Replay) -> Outcome
     Err(Refusal::AlreadyThere { version })
 }
 
+// It notes what the move to this version makes of the store.
+fn note_move(
+    alloc: Global,
+    release: &Release,
+    replay: &mut Replay,
+    version: Version,
+) -> Result<(), Trouble>
+    ensures { replay.new.machine ≡ replay.old.machine }
+{
+    let held = moved(alloc, release, &replay.machine, &version)?;
+    replay.moved = Some((version, held));
+    Ok(())
+}
+
 /// What `migrate` comes to, by this release. It notes what the move makes of the store; the machine stays.
 pub fn migrates(
     alloc: Global,
@@ -148,8 +178,7 @@ pub fn migrates(
     let fails = replay.faults.strikes();
     let moves = !fails || replay.faults.is_taken();
     if moves && version != replay.machine.version {
-        let held = moved(alloc, release, &replay.machine, &version)?;
-        replay.moved = Some((version, held));
+        note_move(alloc, release, replay, version)?;
     }
     if fails {
         return Ok(Err(Refusal::Disk));

@@ -81,16 +81,27 @@ fn check_run(
     check_files(alloc, image, replay, run.disk, run.step.crash)
 }
 
+// What was seen has to be what the machine has come to, unless the run has no event that the strike names.
+fn check_complete(
+    alloc: Global,
+    image: &PlainImage,
+    replay: &Replay,
+    run: &Run,
+    outcome: &Outcome,
+) -> Result<(), Trouble> {
+    if !replay.faults.is_complete() {
+        return Ok(());
+    }
+    check_run(alloc, image, replay, run, outcome)
+}
+
 // The machine goes through the run, and agrees with it, unless the run has no event that the strike names.
 fn agree(alloc: Global, host: &Host, replay: &mut Replay, run: &Run) -> Result<(), Trouble>
     requires stands { Stands host.now.image replay.old.machine.held }
     ensures { Stands host.now.image replay.new.machine.held }
 {
     let outcome = outcome(alloc, host, replay, run)?;
-    if !replay.faults.is_complete() {
-        return Ok(());
-    }
-    check_run(alloc, &host.image, replay, run, &outcome)
+    check_complete(alloc, &host.image, replay, run, &outcome)
 }
 
 // The machine behind the run, with a disk that fails so.
@@ -134,6 +145,16 @@ fn go_either(
     }
 }
 
+// The replay where its run had the event of the strike, and else this trouble.
+fn complete_or(replay: Replay, trouble: Trouble) -> Result<Replay, Trouble>
+    ensures { IfOk result (λ made. made ≡ replay) }
+{
+    if replay.faults.is_complete() {
+        return Ok(replay);
+    }
+    Err(trouble)
+}
+
 // No run has more events.
 const MOST_EVENTS: u64 = 1000;
 
@@ -150,8 +171,7 @@ fn follow_struck(
     let mut last = differs(alloc, "the disk failed no event");
     for at in 0..MOST_EVENTS {
         match go_either(alloc, host, machine, run, at) {
-            Ok(replay) if replay.faults.is_complete() => return Ok(replay),
-            Ok(_) => return Err(last),
+            Ok(replay) => return complete_or(replay, last),
             Err(Trouble::Memory) => return Err(Trouble::Memory),
             Err(trouble) => last = trouble,
         }

@@ -1,5 +1,5 @@
 //! What stands on a disk, beside the machine.
-ghost use Rattle.std.specs.Prelude.{◌≡◌, IfOk, length};
+ghost use Rattle.std.specs.Prelude.{◌≡◌, length};
 ghost use Rattle.storm_machine.specs.Stands.{Stands};
 
 use crate::programs::machine_lines;
@@ -19,26 +19,61 @@ use std::alloc::{AllocError, Global};
 use std::collections::BTreeMap;
 use version_links::{Place, Version, resolve};
 
-// Where the links of the disk lead.
-fn place_of(alloc: Global, disk: &mut MemoryDisk) -> Result<Place, Trouble>
-    ensures { IfOk result (λ place. length place.directory ≡ 2) }
-{
-    match resolve(alloc, disk) {
-        Ok(Some(place)) => Ok(place),
-        _ => Err(differs(alloc, "the links lead nowhere")),
-    }
+/// What is held there has to be what the machine holds.
+pub fn same_held(alloc: Global, shown: &Held, wanted: &Held, at: &str) -> Result<(), Trouble> {
+    let shown = shown.print()?;
+    let wanted = wanted.print()?;
+    same(
+        alloc,
+        shown.as_str().as_bytes(),
+        wanted.as_str().as_bytes(),
+        at,
+    )
 }
 
-// What the data directory holds, its journal carried out.
-fn loaded(alloc: Global, disk: &mut MemoryDisk, place: &Place) -> Result<Loaded, Trouble>
+// What was loaded at the place has to be a store of this version that holds this.
+fn check_loaded(
+    alloc: Global,
+    place: &Place,
+    loaded: &Loaded,
+    version: &Version,
+    held: &Held,
+) -> Result<(), Trouble> {
+    if place.version != *version || loaded.format != 2 {
+        return Err(differs(alloc, "the store has another version"));
+    }
+    same_held(alloc, &loaded.held, held, "the store")
+}
+
+// The same of the data directory, its journal carried out.
+fn check_place(
+    alloc: Global,
+    disk: &mut MemoryDisk,
+    place: &Place,
+    version: &Version,
+    held: &Held,
+) -> Result<(), Trouble>
     requires { length place.now.directory ≡ 2 }
 {
     if recover(alloc, disk, &place.directory).is_err() {
         return Err(differs(alloc, "the journal is bad"));
     }
     match load(alloc, disk, &place.directory) {
-        Ok(loaded) => Ok(loaded),
+        Ok(loaded) => check_loaded(alloc, place, &loaded, version, held),
         Err(_) => Err(differs(alloc, "the store is damaged")),
+    }
+}
+
+// The same of the data directory to which the links of the disk lead.
+fn check_links(
+    alloc: Global,
+    disk: &mut MemoryDisk,
+    version: &Version,
+    held: &Held,
+) -> Result<(), Trouble> {
+    match resolve(alloc, disk) {
+        Ok(Some(place)) => check_place(alloc, disk, &place, version, held),
+        _ => Err(differs(alloc, "the links lead nowhere")),
     }
 }
 
@@ -50,19 +85,7 @@ pub fn check_store(
     held: &Held,
 ) -> Result<(), Trouble> {
     let mut copy = disk.crash(&[])?;
-    let place = place_of(alloc, &mut copy)?;
-    let loaded = loaded(alloc, &mut copy, &place)?;
-    if place.version != *version || loaded.format != 2 {
-        return Err(differs(alloc, "the store has another version"));
-    }
-    let found = loaded.held.print()?;
-    let wanted = held.print()?;
-    same(
-        alloc,
-        found.as_str().as_bytes(),
-        wanted.as_str().as_bytes(),
-        "the store",
-    )
+    check_links(alloc, &mut copy, version, held)
 }
 
 /// The programs that were run have to be those of the machine.

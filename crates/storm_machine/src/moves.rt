@@ -49,20 +49,28 @@ fn is_of(transition: &Transition, step: &Step) -> bool {
     transition.from == low && transition.to == high
 }
 
-// What the migrations of a step make of it, in their order or, back, from the last.
-fn stepped(alloc: Global, release: &Release, step: &Step, held: Held) -> Result<Held, Trouble> {
-    let transition = release.transitions.iter().find(|one| is_of(one, step));
-    let Some(transition) = transition else {
-        return Err(differs(alloc, "no transition"));
-    };
+// The transition along which the step goes.
+fn transition_of<'a>(
+    alloc: Global,
+    release: &'a Release,
+    step: &Step,
+) -> Result<&'a Transition, Trouble> {
+    match release.transitions.iter().find(|one| is_of(one, step)) {
+        Some(transition) => Ok(transition),
+        None => Err(differs(alloc, "no transition")),
+    }
+}
+
+// The migrations of a step change what is held, in their order or, back, from the last.
+fn go_step(alloc: Global, release: &Release, step: &Step, held: &mut Held) -> Result<(), Trouble> {
+    let transition = transition_of(alloc, release, step)?;
     let count = transition.names.len();
-    let mut held = held;
     for index in 0..count {
         let place = if step.back { count - 1 - index } else { index };
         let name = &transition.names[place];
-        held = mapped_by(alloc, release, name, step.back, &held)?;
+        *held = mapped_by(alloc, release, name, step.back, held)?;
     }
-    Ok(held)
+    Ok(())
 }
 
 /// What the store of the machine holds once it is moved to the version along the release.
@@ -77,7 +85,7 @@ pub fn moved(
     };
     let mut held = machine.held.copy()?;
     for step in &steps {
-        held = stepped(alloc, release, step, held)?;
+        go_step(alloc, release, step, &mut held)?;
     }
     held.owed = Owed::All;
     Ok(held)

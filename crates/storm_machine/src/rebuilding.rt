@@ -1,8 +1,4 @@
 //! The machine of a store that was moved.
-ghost use Rattle.std.specs.Prelude.{IfOk};
-ghost use Rattle.model_file.specs.Model.{AreTyped};
-ghost use Rattle.opening_step.specs.Step.{AreSettings};
-ghost use Rattle.typed_settings.specs.Order.{IsTable};
 ghost use Rattle.storm_machine.specs.Stands.{Stands};
 
 use crate::trouble::{Trouble, differs};
@@ -72,6 +68,46 @@ fn pend(
     }
 }
 
+// The pairs that make the second content of the first.
+fn changes(alloc: Global, from: &Content, to: &Content) -> Result<Vec<(Key, Pending)>, AllocError> {
+    let mut pairs = puts(alloc, to)?;
+    add_removals(alloc, &mut pairs, from, to)?;
+    Ok(pairs)
+}
+
+// What the machine has pending in the transaction becomes live.
+fn commit(
+    alloc: Global,
+    image: &PlainImage,
+    machine: &mut PlainMachine,
+    tx: &TxName,
+) -> Result<(), Trouble>
+    requires { Stands image.now machine.old.held }
+    ensures { Stands image.now machine.new.held }
+{
+    match machine.commit(alloc, image, tx) {
+        Ok(_) | Err(CommitError::NoPending) => Ok(()),
+        Err(CommitError::Memory) => Err(Trouble::Memory),
+    }
+}
+
+// The machine gets these weak keys.
+fn set_weak(
+    alloc: Global,
+    image: &PlainImage,
+    machine: &mut PlainMachine,
+    live: &Content,
+) -> Result<(), Trouble>
+    requires { Stands image.now machine.old.held }
+    ensures { Stands image.now machine.new.held }
+{
+    if !machine.held.live.may_be_weak(live.weak().as_slice()) {
+        return Err(differs(alloc, "a weak key without a value"));
+    }
+    machine.held.live.set_weak(live.weak().copy()?);
+    Ok(())
+}
+
 // The machine gets these live settings and weak keys.
 fn set_live(
     alloc: Global,
@@ -82,19 +118,11 @@ fn set_live(
     requires { Stands image.now machine.old.held }
     ensures { Stands image.now machine.new.held }
 {
-    let mut pairs = puts(alloc, live)?;
-    add_removals(alloc, &mut pairs, &machine.held.live, live)?;
+    let pairs = changes(alloc, &machine.held.live, live)?;
     let tx = name(alloc, "moved")?;
     pend(alloc, image, machine, &tx, &pairs)?;
-    match machine.commit(alloc, image, &tx) {
-        Ok(_) | Err(CommitError::NoPending) => {}
-        Err(CommitError::Memory) => return Err(Trouble::Memory),
-    }
-    if !machine.held.live.may_be_weak(live.weak().as_slice()) {
-        return Err(differs(alloc, "a weak key without a value"));
-    }
-    machine.held.live.set_weak(live.weak().copy()?);
-    Ok(())
+    commit(alloc, image, machine, &tx)?;
+    set_weak(alloc, image, machine, live)
 }
 
 // The machine gets the transactions too.
@@ -113,35 +141,36 @@ fn set_pending(
     Ok(())
 }
 
-// A machine of this version whose new store was opened.
-fn opened(alloc: Global, image: &PlainImage, version: Version) -> Result<PlainMachine, AllocError>
-    requires table { IsTable image.now.types }
-    requires defaults { AreTyped image.now.types image.now.defaults.values }
-    requires settings { AreSettings image.now.defaults.values }
-    ensures { IfOk result (λ made. Stands image.now made.held) }
-{
-    let mut made = PlainMachine::new(alloc, version);
-    made.open_store(alloc, image, false, OpeningAnswer::Succeeded)?;
-    Ok(made)
-}
-
-/// The machine of a store that was moved: of this version, and holding this, but for what an opening lays anyway. It gets there by
-/// patches and commits, so that each value is tried by the types.
-pub fn machine_of(
+// The machine becomes one of this version whose new store was opened.
+fn begin_again(
     alloc: Global,
     image: &PlainImage,
+    machine: &mut PlainMachine,
+    version: Version,
+) -> Result<(), AllocError>
+    requires { Stands image.now machine.old.held }
+    ensures { Stands image.now machine.new.held }
+{
+    *machine = PlainMachine::new(alloc, version);
+    machine.open_store(alloc, image, false, OpeningAnswer::Succeeded)
+}
+
+/// The machine becomes that of a store that was moved: of this version, and holding this, but for what an opening lays anyway. It gets
+/// there by patches and commits, so that each value is tried by the types.
+pub fn go_over(
+    alloc: Global,
+    image: &PlainImage,
+    machine: &mut PlainMachine,
     version: Version,
     held: &Held,
-) -> Result<PlainMachine, Trouble>
-    requires table { IsTable image.now.types }
-    requires defaults { AreTyped image.now.types image.now.defaults.values }
-    requires settings { AreSettings image.now.defaults.values }
-    ensures { IfOk result (λ made. Stands image.now made.held) }
+) -> Result<(), Trouble>
+    requires { Stands image.now machine.old.held }
+    ensures { Stands image.now machine.new.held }
 {
-    let mut made = opened(alloc, image, version)?;
-    set_live(alloc, image, &mut made, &held.live)?;
-    set_pending(alloc, image, &mut made, held)?;
-    made.held.owed = held.owed.copy()?;
-    made.held.image = held.image.copy()?;
-    Ok(made)
+    begin_again(alloc, image, machine, version)?;
+    set_live(alloc, image, machine, &held.live)?;
+    set_pending(alloc, image, machine, held)?;
+    machine.held.owed = held.owed.copy()?;
+    machine.held.image = held.image.copy()?;
+    Ok(())
 }

@@ -32,13 +32,24 @@ pub struct Replay {
     pub moved: Option<(Version, Held)>,
 }
 
+// Adds a copy of the file.
+fn add_copy(
+    files: &mut BTreeMap<Path, Bytes>,
+    path: &Path,
+    bytes: &Bytes,
+) -> Result<(), AllocError> {
+    let path = path.copy()?;
+    files.insert(path, bytes.copy()?)?;
+    Ok(())
+}
+
 fn copy_of_files(
     alloc: Global,
     files: &BTreeMap<Path, Bytes>,
 ) -> Result<BTreeMap<Path, Bytes>, AllocError> {
     let mut copy = BTreeMap::new(alloc);
     for (path, bytes) in files.iter() {
-        copy.insert(path.copy()?, bytes.copy()?)?;
+        add_copy(&mut copy, path, bytes)?;
     }
     Ok(copy)
 }
@@ -52,12 +63,13 @@ fn at_rest(
     requires { Stands image.now machine.now.held }
     ensures { IfOk result (λ copy. Stands image.now copy.held) }
 {
+    let etc = copy_of_files(alloc, &machine.etc)?;
     let held = machine.held.copy()?;
     Ok(PlainMachine {
         version: machine.version,
         held,
         job: Job::Idle,
-        etc: copy_of_files(alloc, &machine.etc)?,
+        etc,
         runs: Vec::new(alloc),
     })
 }
@@ -153,9 +165,9 @@ impl Replay {
         requires { Stands image.now machine.now.held }
         ensures { IfOk result (λ replay. Stands image.now replay.machine.held) }
     {
-        let machine = at_rest(alloc, image, machine)?;
         let mut statuses = statuses.to_vec(alloc)?;
         statuses.reverse();
+        let machine = at_rest(alloc, image, machine)?;
         Ok(Replay {
             machine,
             faults: Faults::of(strike),

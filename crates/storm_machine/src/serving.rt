@@ -1,4 +1,5 @@
 //! The events of `serve`.
+ghost use Rattle.api_http.specs.Questions.{question, IsProper};
 ghost use Rattle.storm_machine.specs.Stands.{Stands};
 
 use crate::outcomes::{Outcome, bytes};
@@ -10,6 +11,26 @@ use command_outcome::Refusal;
 use plain_machine::PlainImage;
 use std::alloc::Global;
 use storm_steps::{Sent, Serving, Step};
+
+// The reply to bytes that are refused.
+fn refused(alloc: Global, refusal: api_http::Refusal) -> Result<Option<Reply>, Trouble> {
+    let answer = Answer::Refused { refusal };
+    Ok(Some(print_reply(alloc, &answer)?))
+}
+
+// The reply to what is asked for.
+fn asked(
+    alloc: Global,
+    image: &PlainImage,
+    replay: &mut Replay,
+    ask: &Ask,
+) -> Result<Option<Reply>, Trouble>
+    requires stands { Stands image.now replay.old.machine.held }
+    requires proper { IsProper (question ask.now) }
+    ensures { Stands image.now replay.new.machine.held }
+{
+    Ok(Some(replay.ask(alloc, image, ask)?))
+}
 
 // The reply to what a client sends; None where no request comes.
 fn reply_to(
@@ -26,11 +47,8 @@ fn reply_to(
     }
     match read_request(alloc, &sent.bytes)? {
         Reading::NotYet => Ok(None),
-        Reading::Refused { refusal } => {
-            let answer = Answer::Refused { refusal };
-            Ok(Some(print_reply(alloc, &answer)?))
-        }
-        Reading::Whole { ask, .. } => Ok(Some(replay.ask(alloc, image, &ask)?)),
+        Reading::Refused { refusal } => refused(alloc, refusal),
+        Reading::Whole { ask, .. } => asked(alloc, image, replay, &ask),
     }
 }
 

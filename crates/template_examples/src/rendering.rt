@@ -2,4 +2,4 @@
 mod blocks;
 mod expressions;
 mod refusals;
-mod shown;
+pub mod shown;

@@ -1,10 +1,9 @@
 //! The templates of a time service and of kernel settings.
-use key_names::Key;
-use settings_tree::{Content, Os, Scalar};
+use crate::rendering::shown::{put, renders};
+use settings_tree::{Content, Os};
 use std::alloc::Global;
 use std::process::Abort;
 use std::test::Fail;
-use template_eval::render;
 use template_reader::read;
 
 const CHRONY: &str =
@@ -19,11 +18,7 @@ const SYSCTL: &str =
 fn content_of(alloc: Global, setting: Option<(&str, &str)>) -> Result<Content, Fail> {
     let mut content = Content::new(alloc);
     if let Some((key, json)) = setting {
-        let key = Key::read(alloc, key.as_bytes())?;
-        let value = Scalar::of_json(alloc, json.as_bytes())?;
-        if content.fits(&key) {
-            content.put(key, value)?;
-        }
+        put(alloc, &mut content, key, json)?;
     }
     Ok(content)
 }
@@ -33,18 +28,22 @@ fn no_names(alloc: Global) -> Os {
     Os::of(Vec::new(alloc))
 }
 
-// Each template renders to the bytes beside it over a content with this value, or with none.
-fn each_renders(
-    rt: &impl Abort,
+// The template renders to what is wanted over a content with this value, or with none.
+fn renders_with(
     alloc: Global,
-    rows: &[(&str, Option<(&str, &str)>, &str)],
+    source: &str,
+    setting: Option<(&str, &str)>,
+    want: &str,
 ) -> Result<(), Fail> {
     let os = no_names(alloc);
+    let content = content_of(alloc, setting)?;
+    renders(alloc, &content, &os, source, want)
+}
+
+// Each template renders to the text beside it over a content with this value, or with none.
+fn each_renders(alloc: Global, rows: &[(&str, Option<(&str, &str)>, &str)]) -> Result<(), Fail> {
     for (source, setting, want) in rows {
-        let content = content_of(alloc, *setting)?;
-        let template = read(alloc, source.as_bytes())?;
-        let rendered = render(alloc, &template, source.as_bytes(), &content, &os)?;
-        assert_eq!(rt; rendered.as_slice(), want.as_bytes(), "at {source:?}");
+        renders_with(alloc, source, *setting, want)?;
     }
     Ok(())
 }
@@ -70,7 +69,7 @@ fn renders_services(rt: HostRuntime) -> Result<(), Fail> {
         ),
         (POOLS, Some(("settings.ntp.time-servers", "[]")), ""),
     ];
-    each_renders(&rt, rt.alloc(), rows)
+    each_renders(rt.alloc(), rows)
 }
 
 // The first bytes of the template, so many, are refused where they end within its tags and blocks,

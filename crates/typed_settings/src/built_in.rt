@@ -1,5 +1,5 @@
 //! The rows that are built in.
-ghost use Rattle.std.specs.Prelude.{◌≡◌, ◌++◌, [], ◌∷◌, IfOk};
+ghost use Rattle.std.specs.Prelude.{◌≡◌, ◌++◌, [], ◌∷◌, IfOk, OnOk};
 ghost use Rattle.typed_settings.specs.Row.{built_in, row_with};
 
 use crate::item_word::ItemWord;
@@ -31,55 +31,64 @@ fn pattern(alloc: Global, first: &str, last: &str) -> Result<Pattern, AllocError
     Ok(Pattern::of(places))
 }
 
-fn row(alloc: Global, first: &str, last: &str, word: Word, text: &str) -> Result<Row, AllocError>
-    ensures { IfOk result (λ row. row
-        ≡ row_with (Place.Plain first.now ∷ Place.Any ∷ Place.Plain last.now ∷ []) word text.now) }
+// Adds the row of the pattern `FIRST.*.LAST` with this word, which the text says.
+fn push_row(
+    alloc: Global,
+    rows: &mut Vec<Row>,
+    first: &str,
+    last: &str,
+    word: Word,
+    text: &str,
+) -> Result<(), AllocError>
+    ensures { OnOk result (rows.new.items ≡ rows.old.items
+        ++ row_with (Place.Plain first.now ∷ Place.Any ∷ Place.Plain last.now ∷ []) word text.now ∷ []) }
 {
     let pattern = pattern(alloc, first, last)?;
     let text = Text::from_str(alloc, text)?;
-    Ok(Row {
+    rows.push(Row {
         pattern,
         word,
         text,
-    })
+    })?;
+    Ok(())
 }
 
 /// The built-in rows. The only error is want of memory.
 pub fn built_in(alloc: Global) -> Result<Vec<Row>, AllocError>
     ensures { IfOk result (λ rows. rows.items ≡ built_in) }
 {
-    let files = row(
+    let mut rows = Vec::new(alloc);
+    push_row(
         alloc,
+        &mut rows,
         "services",
         "configuration-files",
         Word::List(ItemWord::Identifier),
         "list identifier",
     )?;
-    let commands = row(
+    push_row(
         alloc,
+        &mut rows,
         "services",
         "restart-commands",
         Word::List(ItemWord::Text),
         "list text",
     )?;
-    let path = row(
+    push_row(
         alloc,
+        &mut rows,
         "configuration-files",
         "path",
         Word::One(ItemWord::Text),
         "text",
     )?;
-    let template = row(
+    push_row(
         alloc,
+        &mut rows,
         "configuration-files",
         "template-path",
         Word::One(ItemWord::Text),
         "text",
     )?;
-    let mut rows = Vec::new(alloc);
-    rows.push(files)?;
-    rows.push(commands)?;
-    rows.push(path)?;
-    rows.push(template)?;
     Ok(rows)
 }

@@ -1,8 +1,7 @@
 //! The command `check`.
-use crate::commands::runs::{disk_of, runs};
-use disk_memory::{MemoryDoor, MemorySink, MemorySpawner};
-use example_texts::words_of;
-use settings_run::run;
+use crate::commands::runs::{disk_of, run_over, runs};
+use disk_memory::{MemoryDisk, MemorySink};
+use std::alloc::Global;
 use std::test::Fail;
 
 // A host of three files, of which chrony is covered or not: the second part is added to the model.
@@ -82,50 +81,49 @@ const ROWS: &[(&str, &str, u8, &str)] = &[
     ),
 ];
 
+// The host with this model, and with this template of chrony.
+fn host<'a>(alloc: Global, model: &'a str, chrony: &'a str) -> Result<MemoryDisk, Fail> {
+    let files = [
+        ("image/model.toml", model),
+        ("image/templates/motd", MOTD),
+        ("image/templates/chrony", chrony),
+        ("image/templates/sysctl", SYSCTL),
+    ];
+    disk_of(alloc, &files)
+}
+
+// The host of the row.
+fn host_of(alloc: Global, more: &str, chrony: &str) -> Result<MemoryDisk, Fail> {
+    let model = format!(in alloc; "{HOST}{more}")?;
+    host(alloc, model.as_str(), chrony)
+}
+
 #[test]
 fn images_are_checked(rt: HostRuntime) -> Result<(), Fail> {
     let alloc = rt.alloc();
     for (more, chrony, status, printed) in ROWS {
-        let model = format!(in alloc; "{HOST}{more}")?;
-        let files = [
-            ("image/model.toml", model.as_str()),
-            ("image/templates/motd", MOTD),
-            ("image/templates/chrony", *chrony),
-            ("image/templates/sysctl", SYSCTL),
-        ];
-        let mut disk = disk_of(alloc, &files)?;
+        let mut disk = host_of(alloc, more, chrony)?;
         runs(alloc, &mut disk, "check", *status, printed)?;
     }
     let mut disk = disk_of(alloc, &[])?;
-    runs(
-        alloc,
-        &mut disk,
-        "check",
-        8,
-        "settings: bad image model.toml missing -\n",
-    )
+    let missing = "settings: bad image model.toml missing -\n";
+    runs(alloc, &mut disk, "check", 8, missing)
+}
+
+// This call of a check fails.
+fn fails(alloc: Global, disk: &mut MemoryDisk, call: u64) -> Result<(), Fail> {
+    disk.fail_calls(vec![in alloc; call]?);
+    runs(alloc, disk, "check", 3, "settings: disk\n")
 }
 
 #[test]
 fn devices_fail_in_a_check(rt: HostRuntime) -> Result<(), Fail> {
     let alloc = rt.alloc();
-    let files = [
-        ("image/model.toml", HOST),
-        ("image/templates/motd", MOTD),
-        ("image/templates/chrony", CHRONY),
-        ("image/templates/sysctl", SYSCTL),
-    ];
     for call in 6..10u64 {
-        let mut disk = disk_of(alloc, &files)?;
-        disk.fail_calls(vec![in alloc; call]?);
-        runs(alloc, &mut disk, "check", 3, "settings: disk\n")?;
+        fails(alloc, &mut host(alloc, HOST, CHRONY)?, call)?;
     }
-    let words = words_of(alloc, "check", ' ')?;
-    let mut disk = disk_of(alloc, &files)?;
     let mut out = MemorySink::fail_from(alloc, 6);
-    let mut spawner = MemorySpawner::of_answers(alloc, Vec::new(alloc));
-    let mut door = MemoryDoor::of_inputs(alloc, Vec::new(alloc));
-    let status = run(alloc, &words, &mut disk, &mut spawner, &mut door, &mut out);
+    let status = run_over(alloc, &mut host(alloc, HOST, CHRONY)?, "check", &mut out)?;
     assert_eq!(rt; status, 12);
     assert_eq!(rt; out.written(), b"chrony".as_slice());
     Ok(())

@@ -138,34 +138,40 @@ const RELEASES: &[Step] = &[
     ),
 ];
 
-#[test]
-fn releases_are_read_first(rt: HostRuntime) -> Result<(), Fail> {
-    let alloc = rt.alloc();
-    let mut disk = disk_of(alloc, &[])?;
+// A store without an image is not moved by any release.
+fn refuses_releases(alloc: Global, disk: &mut MemoryDisk) -> Result<(), Fail> {
     let missing = "settings: bad image release.toml missing -\n";
-    runs(alloc, &mut disk, "migrate --to 1.5.3", 8, missing)?;
-    runs(alloc, &mut disk, "init --version 1.5.2", 0, "1.5.2\n")?;
+    runs(alloc, disk, "migrate --to 1.5.3", 8, missing)?;
+    runs(alloc, disk, "init --version 1.5.2", 0, "1.5.2\n")?;
     for (release, status, printed) in RELEASES {
-        put(alloc, &mut disk, "image/release.toml", release)?;
-        runs(alloc, &mut disk, "migrate --to 1.5.3", *status, printed)?;
+        put(alloc, disk, "image/release.toml", release)?;
+        runs(alloc, disk, "migrate --to 1.5.3", *status, printed)?;
     }
     let missing = "settings: bad image model.toml missing -\n";
-    runs(alloc, &mut disk, "get", 8, missing)
+    runs(alloc, disk, "get", 8, missing)
 }
 
-// The files take three calls, and `init` sixteen.
+#[test]
+fn releases_are_read_first(rt: HostRuntime) -> Result<(), Fail> {
+    let mut disk = disk_of(rt.alloc(), &[])?;
+    refuses_releases(rt.alloc(), &mut disk)
+}
+
+// This call of the disk fails: the files take three calls, and `init` sixteen.
+fn fails(alloc: Global, disk: &mut MemoryDisk, call: u64) -> Result<(), Fail> {
+    disk.fail_calls(vec![in alloc; call]?);
+    let (status, printed) = if call < 20 {
+        (3, "settings: disk\n")
+    } else {
+        (0, "1.5.2\n")
+    };
+    runs(alloc, disk, "init --version 1.5.2", status, printed)
+}
+
 #[test]
 fn each_call_of_the_disk_fails(rt: HostRuntime) -> Result<(), Fail> {
-    let alloc = rt.alloc();
     for call in 4..=20u64 {
-        let mut disk = disk_of(alloc, HOST)?;
-        disk.fail_calls(vec![in alloc; call]?);
-        let (status, printed) = if call < 20 {
-            (3, "settings: disk\n")
-        } else {
-            (0, "1.5.2\n")
-        };
-        runs(alloc, &mut disk, "init --version 1.5.2", status, printed)?;
+        fails(rt.alloc(), &mut disk_of(rt.alloc(), HOST)?, call)?;
     }
     Ok(())
 }

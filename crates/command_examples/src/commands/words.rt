@@ -1,5 +1,6 @@
 //! Words that spell no command, and commands that want a store.
 use crate::commands::runs::{disk_of, runs};
+use disk_memory::MemoryDisk;
 use std::alloc::Global;
 use std::test::Fail;
 
@@ -40,18 +41,24 @@ const ROWS: &[(u8, &str, &[&str])] = &[
 ];
 
 // Each of the lines ends so.
-fn end(alloc: Global, lines: &[&str], status: u8, told: &str) -> Result<(), Fail> {
-    let mut disk = disk_of(alloc, &[])?;
+fn end(
+    alloc: Global,
+    disk: &mut MemoryDisk,
+    lines: &[&str],
+    status: u8,
+    told: &str,
+) -> Result<(), Fail> {
     for line in lines {
-        runs(alloc, &mut disk, line, status, told)?;
+        runs(alloc, disk, line, status, told)?;
     }
     Ok(())
 }
 
 #[test]
 fn words_are_refused(rt: HostRuntime) -> Result<(), Fail> {
+    let alloc = rt.alloc();
     for (status, told, lines) in ROWS {
-        end(rt.alloc(), lines, *status, told)?;
+        end(alloc, &mut disk_of(alloc, &[])?, lines, *status, told)?;
     }
     Ok(())
 }

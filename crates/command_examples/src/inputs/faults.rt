@@ -4,7 +4,7 @@ use crate::inputs::generators::HOSTNAME;
 use crate::inputs::host::ready;
 use crate::inputs::runs::{Says, runs, told};
 use disk_memory::MemoryDisk;
-use example_texts::{repeated, same};
+use example_texts::repeated;
 use std::alloc::{AllocError, Global};
 use std::test::Fail;
 
@@ -64,70 +64,88 @@ fn failed(alloc: Global, row: &Row, call: u64) -> Result<String, AllocError> {
     format!(in alloc; "3 settings: disk\n{asked}")
 }
 
-// Whichever call fails, what is set is there whole or not, and the next run ends well.
-fn fails(alloc: Global, row: &Row, from: &MemoryDisk, call: u64) -> Result<(), Fail> {
-    let mut disk = from.crash(&[])?;
-    disk.fail_calls(vec![in alloc; call]?);
+// The run comes to what it comes to where this call fails.
+fn ends_at(alloc: Global, row: &Row, disk: &mut MemoryDisk, call: u64) -> Result<(), Fail> {
     let wanted = failed(alloc, row, call)?;
-    runs(alloc, &mut disk, row.line, row.says, wanted.as_str())?;
+    runs(alloc, disk, row.line, row.says, wanted.as_str())
+}
+
+// Whichever call fails, what is set is there whole or not, and the next run ends well.
+fn fails(alloc: Global, row: &Row, disk: &mut MemoryDisk, call: u64) -> Result<(), Fail> {
+    disk.fail_calls(vec![in alloc; call]?);
+    ends_at(alloc, row, disk, call)?;
     let held = if call > row.commits {
         row.after
     } else {
         row.before
     };
-    runs(alloc, &mut disk, row.get, &[], held)?;
-    told(alloc, &mut disk, row.line, row.says)?;
-    runs(alloc, &mut disk, row.get, &[], row.after)
+    runs(alloc, disk, row.get, &[], held)?;
+    told(alloc, disk, row.line, row.says)?;
+    runs(alloc, disk, row.get, &[], row.after)
 }
 
 // Each of its calls.
-fn fails_anywhere(alloc: Global, row: &Row) -> Result<(), Fail> {
-    let from = ready(alloc, row.path, row.file)?;
+fn fails_anywhere(alloc: Global, row: &Row, from: &MemoryDisk) -> Result<(), Fail> {
     for call in 1..=row.calls {
-        fails(alloc, row, &from, call)?;
+        fails(alloc, row, &mut from.crash(&[])?, call)?;
     }
     Ok(())
+}
+
+// The host before the run.
+fn begun(alloc: Global, row: &Row) -> Result<MemoryDisk, Fail> {
+    ready(alloc, row.path, row.file)
 }
 
 #[test]
 fn each_call_fails(rt: HostRuntime) -> Result<(), Fail> {
     for row in ROWS {
-        fails_anywhere(rt.alloc(), row)?;
+        fails_anywhere(rt.alloc(), row, &begun(rt.alloc(), row)?)?;
     }
     Ok(())
 }
 
+// The run ends where it is stopped after so many calls, or at its end.
+fn ends(alloc: Global, row: &Row, disk: &mut MemoryDisk, calls: u64) -> Result<(), Fail> {
+    disk.stop_after(calls);
+    if calls < row.calls {
+        return ends_at(alloc, row, disk, calls + 1);
+    }
+    runs(alloc, disk, row.line, row.says, row.told)
+}
+
+// What a crash leaves of the disk.
+fn left(alloc: Global, disk: &MemoryDisk, kind: &str) -> Result<MemoryDisk, AllocError> {
+    disk.crash(&repeated(alloc, kind, 8)?)
+}
+
 // The run is stopped after so many calls, and a crash follows: it leaves what is set from the journal's sync on, and from the
 // journal on where the crash leaves that.
-fn stops(alloc: Global, row: &Row, from: &MemoryDisk, calls: u64, kind: &str) -> Result<(), Fail> {
-    let mut disk = from.crash(&[])?;
-    disk.stop_after(calls);
-    let shown = told(alloc, &mut disk, row.line, row.says)?;
-    let wanted = if calls < row.calls {
-        failed(alloc, row, calls + 1)?
-    } else {
-        String::from_str(alloc, row.told)?
-    };
-    same(shown.as_str(), wanted.as_str(), row.line)?;
+fn stops(
+    alloc: Global,
+    row: &Row,
+    disk: &mut MemoryDisk,
+    calls: u64,
+    kind: &str,
+) -> Result<(), Fail> {
+    ends(alloc, row, disk, calls)?;
     let set = calls > row.commits || calls == row.commits && kind == "new";
     let held = if set { row.after } else { row.before };
-    let mut left = disk.crash(&repeated(alloc, kind, 8)?)?;
-    runs(alloc, &mut left, row.get, &[], held)
+    runs(alloc, &mut left(alloc, disk, kind)?, row.get, &[], held)
 }
 
 // It is stopped after each of its calls.
 fn stops_anywhere(alloc: Global, row: &Row, from: &MemoryDisk, kind: &str) -> Result<(), Fail> {
     for calls in 0..=row.calls {
-        stops(alloc, row, from, calls, kind)?;
+        stops(alloc, row, &mut from.crash(&[])?, calls, kind)?;
     }
     Ok(())
 }
 
 // And with each kind of crash.
-fn stops_in_each_way(alloc: Global, row: &Row) -> Result<(), Fail> {
-    let from = ready(alloc, row.path, row.file)?;
+fn stops_in_each_way(alloc: Global, row: &Row, from: &MemoryDisk) -> Result<(), Fail> {
     for kind in ["old", "new", "torn"] {
-        stops_anywhere(alloc, row, &from, kind)?;
+        stops_anywhere(alloc, row, from, kind)?;
     }
     Ok(())
 }
@@ -135,7 +153,7 @@ fn stops_in_each_way(alloc: Global, row: &Row) -> Result<(), Fail> {
 #[test]
 fn each_stop_leaves_all_or_nothing(rt: HostRuntime) -> Result<(), Fail> {
     for row in ROWS {
-        stops_in_each_way(rt.alloc(), row)?;
+        stops_in_each_way(rt.alloc(), row, &begun(rt.alloc(), row)?)?;
     }
     Ok(())
 }

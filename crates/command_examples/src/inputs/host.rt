@@ -1,7 +1,8 @@
 //! A host of one configuration file, all of which was applied.
 use crate::inputs::runs::runs;
 use disk_memory::MemoryDisk;
-use outside::{Disk, Path};
+use example_texts::put;
+use outside::Disk;
 use std::alloc::Global;
 use std::test::Fail;
 
@@ -24,27 +25,20 @@ affected-services = ["motd"]
 affected-services = ["motd"]
 "#;
 
-/// Makes the path a file with these bytes.
-pub fn put(alloc: Global, disk: &mut MemoryDisk, path: &str, bytes: &str) -> Result<(), Fail> {
-    let path = Path::read(alloc, path.as_bytes())?;
-    disk.replace(&path, bytes.as_bytes())?;
+// Puts the image and a further file, begins a store of version 1.5.2, and applies all.
+fn begin(alloc: Global, disk: &mut MemoryDisk, path: &str, bytes: &str) -> Result<(), Fail> {
+    put(alloc, disk, "image/model.toml", MODEL)?;
+    put(alloc, disk, "image/templates/motd", "{{settings.motd}}\n")?;
+    put(alloc, disk, path, bytes)?;
     disk.sync()?;
-    Ok(())
+    runs(alloc, disk, "init --version 1.5.2", &[], "0 1.5.2\n")?;
+    let idle = "0 {\"job\":\"idle\",\"owed\":[]}\n";
+    runs(alloc, disk, "apply", &[], idle)
 }
 
 /// A store of version 1.5.2, in which nothing is owed, and a further file.
 pub fn ready(alloc: Global, path: &str, bytes: &str) -> Result<MemoryDisk, Fail> {
     let mut disk = MemoryDisk::new(alloc)?;
-    put(alloc, &mut disk, "image/model.toml", MODEL)?;
-    put(
-        alloc,
-        &mut disk,
-        "image/templates/motd",
-        "{{settings.motd}}\n",
-    )?;
-    put(alloc, &mut disk, path, bytes)?;
-    runs(alloc, &mut disk, "init --version 1.5.2", &[], "0 1.5.2\n")?;
-    let idle = "0 {\"job\":\"idle\",\"owed\":[]}\n";
-    runs(alloc, &mut disk, "apply", &[], idle)?;
+    begin(alloc, &mut disk, path, bytes)?;
     Ok(disk)
 }

@@ -37,6 +37,20 @@ fn add_asked(alloc: Global, text: &mut String, spawner: &MemorySpawner) -> Resul
     Ok(())
 }
 
+// The status and what is printed, and a line for each program that was asked.
+fn shown(
+    alloc: Global,
+    status: u8,
+    out: &MemorySink,
+    spawner: &MemorySpawner,
+) -> Result<String, AllocError> {
+    let printed = String::from_utf8_lossy(alloc, out.written())?;
+    let printed = printed.as_str();
+    let mut text = format!(in alloc; "{status} {printed}")?;
+    add_asked(alloc, &mut text, spawner)?;
+    Ok(text)
+}
+
 /// What the run of the words comes to, where programs answer so: its status and what is printed, and a line for each program that
 /// was asked.
 pub fn told(
@@ -44,17 +58,14 @@ pub fn told(
     disk: &mut MemoryDisk,
     line: &str,
     all: &[Says],
-) -> Result<String, Fail> {
+) -> Result<String, AllocError> {
     let words = words_of(alloc, line, ' ')?;
-    let mut spawner = MemorySpawner::of_answers(alloc, answers(alloc, all)?);
+    let answers = answers(alloc, all)?;
+    let mut spawner = MemorySpawner::of_answers(alloc, answers);
     let mut door = MemoryDoor::of_inputs(alloc, Vec::new(alloc));
     let mut out = MemorySink::new(alloc);
     let status = run(alloc, &words, disk, &mut spawner, &mut door, &mut out);
-    let printed = String::from_utf8_lossy(alloc, out.written())?;
-    let printed = printed.as_str();
-    let mut text = format!(in alloc; "{status} {printed}")?;
-    add_asked(alloc, &mut text, &spawner)?;
-    Ok(text)
+    shown(alloc, status, &out, &spawner)
 }
 
 /// Runs the words, where programs answer so, and compares what that comes to.

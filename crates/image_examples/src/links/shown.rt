@@ -36,14 +36,16 @@ fn are_split(commands: &[Command]) -> bool {
     }
 }
 
-fn splits_commands(alloc: Global) -> Result<bool, Fail> {
-    let manifest = manifest(alloc)?;
-    Ok(are_split(&manifest.commands_of(&Owed::All)?))
+// Whether the commands of all services are split into their words.
+fn splits_commands(manifest: &Manifest) -> Result<bool, AllocError> {
+    let commands = manifest.commands_of(&Owed::All)?;
+    Ok(are_split(&commands))
 }
 
 #[test]
 fn splits_all_commands(rt: HostRuntime) -> Result<(), Fail> {
-    assert!(rt; splits_commands(rt.alloc())?);
+    let manifest = manifest(rt.alloc())?;
+    assert!(rt; splits_commands(&manifest)?);
     Ok(())
 }
 
@@ -76,8 +78,8 @@ fn counted(alloc: Global, index: &Index, keys: &KeyList) -> Result<u64, Fail> {
 }
 
 fn steps(alloc: Global) -> Result<u64, Fail> {
-    let index = index(alloc)?;
     let keys = rising(alloc, "settings.motd,settings.ntp.time-servers")?;
+    let index = index(alloc)?;
     counted(alloc, &index, &keys)
 }
 
@@ -117,7 +119,7 @@ fn below_settings(alloc: Global, manifest: &Manifest) -> Result<usize, Fail> {
 
 #[test]
 fn lists_below(rt: HostRuntime) -> Result<(), Fail> {
-    let count = below_settings(rt.alloc(), &manifest(rt.alloc())?)?;
-    assert_eq!(rt; count, 3);
+    let manifest = manifest(rt.alloc())?;
+    assert_eq!(rt; below_settings(rt.alloc(), &manifest)?, 3);
     Ok(())
 }

@@ -57,10 +57,9 @@ fn has(alloc: Global, content: &Content, key: &str, value: &str, list: &str) -> 
     same(shown(alloc, found)?.as_str(), list, key)
 }
 
-fn have(alloc: Global, rows: &[(&str, &str, &str)]) -> Result<(), Fail> {
-    let model = Model::read(alloc, HOST.as_bytes())?;
+fn have(alloc: Global, content: &Content, rows: &[(&str, &str, &str)]) -> Result<(), Fail> {
     for (key, value, list) in rows {
-        has(alloc, &model.content, key, value, list)?;
+        has(alloc, content, key, value, list)?;
     }
     Ok(())
 }
@@ -86,7 +85,8 @@ fn reads_values(rt: HostRuntime) -> Result<(), Fail> {
             "none",
         ),
     ];
-    have(rt.alloc(), rows)
+    let model = Model::read(rt.alloc(), HOST.as_bytes())?;
+    have(rt.alloc(), &model.content, rows)
 }
 
 // Whether the one name of the operating system is `name`, and it is this.

@@ -17,23 +17,37 @@ const LINKS: &[Place] = &[
     ("store/v1.5.2", "v1.5.2_0000000000000000"),
 ];
 
-fn files(alloc: Global, places: &[Place]) -> Result<Vec<(Path, Node)>, Fail> {
-    let mut nodes = Vec::new(alloc);
+// Adds the files.
+fn add_files(alloc: Global, nodes: &mut Vec<(Path, Node)>, places: &[Place]) -> Result<(), Fail> {
     for (path, text) in places {
-        let file = Node::File(bytes(alloc, text)?);
-        nodes.push((Path::read(alloc, path.as_bytes())?, file))?;
+        let path = Path::read(alloc, path.as_bytes())?;
+        nodes.push((path, Node::File(bytes(alloc, text)?)))?;
     }
-    Ok(nodes)
+    Ok(())
+}
+
+// Adds the links.
+fn add_links(alloc: Global, nodes: &mut Vec<(Path, Node)>) -> Result<(), Fail> {
+    for (path, text) in LINKS {
+        let path = Path::read(alloc, path.as_bytes())?;
+        nodes.push((path, Node::Link(bytes(alloc, text)?)))?;
+    }
+    Ok(())
 }
 
 /// A disk with a store at 1.5.2 of these files, and others.
 pub fn store(alloc: Global, places: &[Place]) -> Result<MemoryDisk, Fail> {
-    let mut nodes = files(alloc, places)?;
-    for (path, text) in LINKS {
-        let link = Node::Link(bytes(alloc, text)?);
-        nodes.push((Path::read(alloc, path.as_bytes())?, link))?;
-    }
+    let mut nodes = Vec::new(alloc);
+    add_files(alloc, &mut nodes, places)?;
+    add_links(alloc, &mut nodes)?;
     Ok(MemoryDisk::of_tree(alloc, nodes)?)
+}
+
+// The status comes first, and then what is printed.
+fn shown(alloc: Global, status: u8, out: &MemorySink) -> Result<String, AllocError> {
+    let printed = String::from_utf8_lossy(alloc, out.written())?;
+    let printed = printed.as_str();
+    format!(in alloc; "{status} {printed}")
 }
 
 /// Runs the words of the line: the status comes first, and then what is printed.
@@ -43,9 +57,7 @@ pub fn told(alloc: Global, disk: &mut MemoryDisk, line: &str) -> Result<String, 
     let mut door = MemoryDoor::of_inputs(alloc, Vec::new(alloc));
     let mut out = MemorySink::new(alloc);
     let status = run(alloc, &words, disk, &mut spawner, &mut door, &mut out);
-    let printed = String::from_utf8_lossy(alloc, out.written())?;
-    let printed = printed.as_str();
-    format!(in alloc; "{status} {printed}")
+    shown(alloc, status, &out)
 }
 
 fn push(alloc: Global, text: &mut String, bytes: &[u8]) -> Result<(), AllocError> {
@@ -55,17 +67,34 @@ fn push(alloc: Global, text: &mut String, bytes: &[u8]) -> Result<(), AllocError
     Ok(())
 }
 
-/// The data directory to which the links lead, with the bytes of each of its files, in the order of their paths.
-pub fn state(alloc: Global, disk: &mut MemoryDisk) -> Result<String, Fail> {
-    let Some(place) = resolve(alloc, disk)? else {
-        return Err(Fail::new("no store"));
-    };
-    let mut text = String::new(alloc);
-    push(alloc, &mut text, &place.directory.print()?)?;
-    for path in &disk.list(alloc, &place.directory)? {
+// Adds the bytes of the files at these paths.
+fn push_files(
+    alloc: Global,
+    text: &mut String,
+    disk: &MemoryDisk,
+    paths: &[Path],
+) -> Result<(), AllocError> {
+    for path in paths {
         if let Some(Node::File(bytes)) = disk.node(path) {
-            push(alloc, &mut text, bytes.as_slice())?;
+            push(alloc, text, bytes.as_slice())?;
         }
     }
+    Ok(())
+}
+
+// The directory, with the bytes of each of its files, in the order of their paths.
+fn shown_below(alloc: Global, disk: &mut MemoryDisk, directory: &Path) -> Result<String, Fail> {
+    let paths = disk.list(alloc, directory)?;
+    let mut text = String::new(alloc);
+    push(alloc, &mut text, &directory.print()?)?;
+    push_files(alloc, &mut text, disk, &paths)?;
     Ok(text)
+}
+
+/// The data directory to which the links lead, with the bytes of each of its files, in the order of their paths.
+pub fn state(alloc: Global, disk: &mut MemoryDisk) -> Result<String, Fail> {
+    match resolve(alloc, disk)? {
+        Some(place) => shown_below(alloc, disk, &place.directory),
+        None => Err(Fail::new("no store")),
+    }
 }

@@ -1,6 +1,6 @@
 //! Which answers are taken.
 use crate::programs::host::{answer, first_input, host, is_at, runs, swapped};
-use disk_memory::MemorySpawner;
+use disk_memory::{MemoryDisk, MemorySpawner};
 use outside::Answer;
 use std::alloc::Global;
 use std::test::Fail;
@@ -17,7 +17,9 @@ enum Does {
 const OUTPUT: &str = "settings: migration up output\n";
 
 // What the program does, and the status, the line and the version of the store behind it.
-const ROWS: &[(Does, u8, &str, &str)] = &[
+type Row = (Does, u8, &'static str, &'static str);
+
+const ROWS: &[Row] = &[
     (Does::Swaps("{", "{"), 0, "1.5.3\n", "1.5.3"),
     (Does::Swaps("{", "\n { "), 0, "1.5.3\n", "1.5.3"),
     (Does::Swaps(":", " : "), 0, "1.5.3\n", "1.5.3"),
@@ -114,24 +116,37 @@ fn answer_of(alloc: Global, does: &Does, input: &str) -> Result<Option<Answer>, 
     }
 }
 
+// The first program on the way does this.
+fn doing(alloc: Global, disk: &mut MemoryDisk, does: &Does) -> Result<MemorySpawner, Fail> {
+    let input = first_input(alloc, disk)?;
+    let answer = answer_of(alloc, does, input.as_str())?;
+    Ok(MemorySpawner::of_answers(alloc, vec![in alloc; answer]?))
+}
+
+// The move over a program that does this ends with this status, and prints this.
+fn moves(
+    alloc: Global,
+    disk: &mut MemoryDisk,
+    does: &Does,
+    status: u8,
+    printed: &str,
+) -> Result<(), Fail> {
+    let mut spawner = doing(alloc, disk, does)?;
+    let line = "migrate --to 1.5.3";
+    runs(alloc, disk, &mut spawner, line, status, printed)
+}
+
+// The move ends as the row says.
+fn ends(alloc: Global, disk: &mut MemoryDisk, row: &Row) -> Result<(), Fail> {
+    let (does, status, printed, version) = row;
+    moves(alloc, disk, does, *status, printed)?;
+    is_at(alloc, disk, version)
+}
+
 #[test]
 fn answers_are_taken_or_refused(rt: HostRuntime) -> Result<(), Fail> {
-    let alloc = rt.alloc();
-    for (does, status, printed, version) in ROWS {
-        let mut disk = host(alloc)?;
-        let input = first_input(alloc, &mut disk)?;
-        let mut answers = Vec::new(alloc);
-        answers.push(answer_of(alloc, does, input.as_str())?)?;
-        let mut spawner = MemorySpawner::of_answers(alloc, answers);
-        runs(
-            alloc,
-            &mut disk,
-            &mut spawner,
-            "migrate --to 1.5.3",
-            *status,
-            *printed,
-        )?;
-        is_at(alloc, &mut disk, *version)?;
+    for row in ROWS {
+        ends(rt.alloc(), &mut host(rt.alloc())?, row)?;
     }
     Ok(())
 }

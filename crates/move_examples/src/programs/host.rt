@@ -34,6 +34,25 @@ kind = \"program\"
 words = \"mig-off\"
 ";
 
+// Compares the status with which the words ended, and what they printed.
+fn ended_with(
+    alloc: Global,
+    line: &str,
+    ended: u8,
+    out: &MemorySink,
+    status: u8,
+    printed: &str,
+) -> Result<(), Fail> {
+    let text = String::from_utf8_lossy(alloc, out.written())?;
+    if ended == status && text.as_str() == printed {
+        return Ok(());
+    }
+    Err(Fail::new(format_args!(
+        "`{line}` ended with {ended}, not {status}, and printed {}",
+        text.as_str()
+    )))
+}
+
 /// Runs the words of the line, and compares the status and what was printed.
 pub fn runs(
     alloc: Global,
@@ -47,49 +66,51 @@ pub fn runs(
     let mut door = MemoryDoor::of_inputs(alloc, Vec::new(alloc));
     let mut out = MemorySink::new(alloc);
     let ended = run(alloc, &words, disk, spawner, &mut door, &mut out);
-    let text = String::from_utf8_lossy(alloc, out.written())?;
-    if ended == status && text.as_str() == printed {
-        return Ok(());
-    }
-    Err(Fail::new(format_args!(
-        "`{line}` ended with {ended}, not {status}, and printed {}",
-        text.as_str()
-    )))
+    ended_with(alloc, line, ended, &out, status, printed)
+}
+
+// Runs the words of the line, where no program answers, and compares the status and what was printed.
+fn runs_alone(
+    alloc: Global,
+    disk: &mut MemoryDisk,
+    line: &str,
+    status: u8,
+    printed: &str,
+) -> Result<(), Fail> {
+    let mut spawner = MemorySpawner::of_answers(alloc, Vec::new(alloc));
+    runs(alloc, disk, &mut spawner, line, status, printed)
+}
+
+// Puts the image, begins a store of version 1.5.2, opens it, and writes down that nothing is owed.
+fn begin(alloc: Global, disk: &mut MemoryDisk) -> Result<(), Fail> {
+    put(alloc, disk, "image/model.toml", MODEL)?;
+    put(alloc, disk, "image/release.toml", RELEASE)?;
+    runs_alone(alloc, disk, "init --version 1.5.2", 0, "1.5.2\n")?;
+    let tree = "{\"settings\":{\"motd\":\"Welcome\"}}\n";
+    runs_alone(alloc, disk, "get", 0, tree)?;
+    put(alloc, disk, "store/v1.5.2_0000000000000000/owed", "[]")?;
+    Ok(disk.sync()?)
 }
 
 /// A store of version 1.5.2 in which nothing is owed.
 pub fn host(alloc: Global) -> Result<MemoryDisk, Fail> {
     let mut disk = MemoryDisk::new(alloc)?;
-    let mut spawner = MemorySpawner::of_answers(alloc, Vec::new(alloc));
-    put(alloc, &mut disk, "image/model.toml", MODEL)?;
-    put(alloc, &mut disk, "image/release.toml", RELEASE)?;
-    runs(
-        alloc,
-        &mut disk,
-        &mut spawner,
-        "init --version 1.5.2",
-        0,
-        "1.5.2\n",
-    )?;
-    let tree = "{\"settings\":{\"motd\":\"Welcome\"}}\n";
-    runs(alloc, &mut disk, &mut spawner, "get", 0, tree)?;
-    put(alloc, &mut disk, "store/v1.5.2_0000000000000000/owed", "[]")?;
-    disk.sync()?;
+    begin(alloc, &mut disk)?;
     Ok(disk)
 }
 
 /// Compares the version to which the links of the store lead.
 pub fn is_at(alloc: Global, disk: &mut MemoryDisk, version: &str) -> Result<(), Fail> {
-    let mut spawner = MemorySpawner::of_answers(alloc, Vec::new(alloc));
     let line = format!(in alloc; "settings: already there {version}\n")?;
-    runs(
-        alloc,
-        disk,
-        &mut spawner,
-        "init --version 9.0.0",
-        14,
-        line.as_str(),
-    )
+    runs_alone(alloc, disk, "init --version 9.0.0", 14, line.as_str())
+}
+
+// What the first program that was asked was given.
+fn first_given(alloc: Global, spawner: &MemorySpawner) -> Result<String, Fail> {
+    match spawner.asked() {
+        [question, ..] => Ok(String::from_utf8_lossy(alloc, &question.input)?),
+        [] => Err(Fail::new(format_args!("nothing was asked"))),
+    }
 }
 
 /// What the first program on the way is given: one that answers nothing is asked.
@@ -97,10 +118,7 @@ pub fn first_input(alloc: Global, disk: &mut MemoryDisk) -> Result<String, Fail>
     let mut spawner = MemorySpawner::of_answers(alloc, Vec::new(alloc));
     let line = "settings: migration up output\n";
     runs(alloc, disk, &mut spawner, "migrate --to 1.5.3", 18, line)?;
-    match spawner.asked() {
-        [question, ..] => Ok(String::from_utf8_lossy(alloc, &question.input)?),
-        [] => Err(Fail::new(format_args!("nothing was asked"))),
-    }
+    first_given(alloc, &spawner)
 }
 
 /// The text with the first place of one text replaced by another.

@@ -1,6 +1,6 @@
 //! Blocks, one within the other.
 use crate::reading::shown::{agree, shown};
-use example_texts::nested;
+use example_texts::{nested, same};
 use std::alloc::{AllocError, Global};
 use std::test::Fail;
 
@@ -42,7 +42,7 @@ fn nests_blocks(rt: HostRuntime) -> Result<(), Fail> {
             "if a[|if b[|'x']]",
         ),
     ];
-    agree(&rt, rt.alloc(), rows)
+    agree(rt.alloc(), rows)
 }
 
 // What the first bytes of `{{#if a}}x{{/if}}` are read to, so many of them.
@@ -62,7 +62,7 @@ fn reads_each_prefix(rt: HostRuntime) -> Result<(), Fail> {
     let source = b"{{#if a}}x{{/if}}";
     for length in 0..=source.len() {
         let read = shown(rt.alloc(), source.split_at(length).0)?;
-        assert_eq!(rt; read.as_str(), prefix_read(length));
+        same(read.as_str(), prefix_read(length), "a prefix")?;
     }
     Ok(())
 }
@@ -72,14 +72,24 @@ fn blocks(alloc: Global, count: usize, within: &str) -> Result<String, AllocErro
     nested(alloc, count, "{{#if a}}", within, "{{/if}}")
 }
 
+// What they are read to.
+fn blocks_read(alloc: Global, count: usize, within: &str) -> Result<String, AllocError> {
+    let source = blocks(alloc, count, within)?;
+    shown(alloc, source.as_bytes())
+}
+
 #[test]
 fn keeps_the_limit(rt: HostRuntime) -> Result<(), Fail> {
     let alloc = rt.alloc();
-    let full = blocks(alloc, 32, "{{a}}")?;
-    assert!(rt; shown(alloc, full.as_bytes())?.as_str().starts_with("if a["));
-    let deep = blocks(alloc, 33, "")?;
-    assert_eq!(rt; shown(alloc, deep.as_bytes())?.as_str(), "TooDeep 288");
-    let outside = blocks(alloc, 32, "{{#if this}}")?;
-    assert_eq!(rt; shown(alloc, outside.as_bytes())?.as_str(), "NotInEach 288");
+    assert!(rt;
+        blocks_read(alloc, 32, "{{a}}")?
+            .as_str()
+            .starts_with("if a[")
+    );
+    assert_eq!(rt; blocks_read(alloc, 33, "")?.as_str(), "TooDeep 288");
+    assert_eq!(rt;
+        blocks_read(alloc, 32, "{{#if this}}")?.as_str(),
+        "NotInEach 288"
+    );
     Ok(())
 }

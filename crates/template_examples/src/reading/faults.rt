@@ -1,7 +1,7 @@
 //! The first fault and its place.
 use crate::reading::shown::{agree, shown};
+use example_texts::same;
 use std::alloc::Global;
-use std::process::Abort;
 use std::test::Fail;
 
 #[test]
@@ -18,14 +18,14 @@ fn refuses_pieces(rt: HostRuntime) -> Result<(), Fail> {
         ("{{default \"a }} b}}", "Unclosed 0"),
         ("{{\"a}}", "Unclosed 0"),
     ];
-    agree(&rt, rt.alloc(), rows)
+    agree(rt.alloc(), rows)
 }
 
 // Each source is a bad tag at its start.
-fn are_bad_tags(rt: &impl Abort, alloc: Global, sources: &[&str]) -> Result<(), Fail> {
+fn are_bad_tags(alloc: Global, sources: &[&str]) -> Result<(), Fail> {
     for source in sources {
         let read = shown(alloc, source.as_bytes())?;
-        assert_eq!(rt; read.as_str(), "BadTag 0", "at {source:?}");
+        same(read.as_str(), "BadTag 0", source)?;
     }
     Ok(())
 }
@@ -61,7 +61,7 @@ fn refuses_bad_tags(rt: HostRuntime) -> Result<(), Fail> {
         "{{@x}}",
         "{{@key.a}}",
     ];
-    are_bad_tags(&rt, rt.alloc(), rows)
+    are_bad_tags(rt.alloc(), rows)
 }
 
 #[test]
@@ -85,7 +85,7 @@ fn refuses_bad_helpers(rt: HostRuntime) -> Result<(), Fail> {
         "{{join_map \"=\" \",\" fail-if-missing a}}",
         "{{join_map \"=\" \",\" \"fail-if-missing\" a b}}",
     ];
-    are_bad_tags(&rt, rt.alloc(), rows)
+    are_bad_tags(rt.alloc(), rows)
 }
 
 #[test]
@@ -111,7 +111,7 @@ fn refuses_blocks(rt: HostRuntime) -> Result<(), Fail> {
         ("{{#if a}}\\{{a}}", "Escape 9"),
         ("{{/if}}{{a b}}", "NotBegun 0"),
     ];
-    agree(&rt, rt.alloc(), rows)
+    agree(rt.alloc(), rows)
 }
 
 #[test]
@@ -125,7 +125,7 @@ fn counts_places_in_the_source(rt: HostRuntime) -> Result<(), Fail> {
         ("+++\n{{#if a}}", "NeverClosed 4"),
         ("{{a b}}\n+++\n", "BadFront 0"),
     ];
-    agree(&rt, rt.alloc(), rows)?;
+    agree(rt.alloc(), rows)?;
     let no_text = shown(rt.alloc(), b"\xff\n+++\n")?;
     assert_eq!(rt; no_text.as_str(), "BadFront 0");
     Ok(())

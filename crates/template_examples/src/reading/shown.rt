@@ -1,8 +1,9 @@
 //! Templates shown as texts: a text in `'`, a print in `<>`, and a block with its parts in `[|]`.
 ghost use Rattle.std.specs.Prelude.{◌<◌};
 
+use example_texts::same;
+use key_names::Key;
 use std::alloc::{AllocError, Global};
-use std::process::Abort;
 use std::test::Fail;
 use template_reader::{Expr, Literal, Node, Nodes, Span, Walk, piece, read};
 
@@ -21,13 +22,19 @@ fn push_text(out: &mut String, source: &[u8], span: Span) -> Result<(), AllocErr
     out.push_str("'")
 }
 
+// Adds the key.
+fn push_key(out: &mut String, key: &Key) -> Result<(), AllocError> {
+    let key = key.print()?;
+    out.push_str(key.as_str())
+}
+
 fn push_path(out: &mut String, path: &Walk) -> Result<(), AllocError> {
     match path {
-        Walk::Root(key) => out.push_str(key.print()?.as_str()),
+        Walk::Root(key) => push_key(out, key),
         Walk::This(None) => out.push_str("@this"),
         Walk::This(Some(key)) => {
             out.push_str("@this.")?;
-            out.push_str(key.print()?.as_str())
+            push_key(out, key)
         }
         Walk::AtKey => out.push_str("@key"),
         Walk::AtIndex => out.push_str("@index"),
@@ -165,10 +172,10 @@ pub fn shown(alloc: Global, source: &[u8]) -> Result<String, AllocError> {
 }
 
 /// Each source is read to what stands beside it.
-pub fn agree(rt: &impl Abort, alloc: Global, rows: &[(&str, &str)]) -> Result<(), Fail> {
+pub fn agree(alloc: Global, rows: &[(&str, &str)]) -> Result<(), Fail> {
     for (source, want) in rows {
         let read = shown(alloc, source.as_bytes())?;
-        assert_eq!(rt; read.as_str(), *want, "at {source:?}");
+        same(read.as_str(), want, source)?;
     }
     Ok(())
 }

@@ -20,7 +20,7 @@ fn reads_paths(rt: HostRuntime) -> Result<(), Fail> {
         ("{{join_array}}{{join_map}}", "<join_array><join_map>"),
         ("{{if}}{{each}}", "<if><each>"),
     ];
-    agree(&rt, rt.alloc(), rows)
+    agree(rt.alloc(), rows)
 }
 
 #[test]
@@ -59,7 +59,7 @@ fn reads_helpers(rt: HostRuntime) -> Result<(), Fail> {
         ),
         ("{{{default 1 a}}}", "<default 1 a>"),
     ];
-    agree(&rt, rt.alloc(), rows)
+    agree(rt.alloc(), rows)
 }
 
 #[test]
@@ -76,5 +76,5 @@ fn passes_comments(rt: HostRuntime) -> Result<(), Fail> {
         ("a {{!-- x ~--}} b", "'a '' b'"),
         ("a {{!~}} b", "'a ''b'"),
     ];
-    agree(&rt, rt.alloc(), rows)
+    agree(rt.alloc(), rows)
 }

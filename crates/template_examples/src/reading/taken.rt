@@ -29,7 +29,7 @@ fn takes_whole_lines(rt: HostRuntime) -> Result<(), Fail> {
             "'\t'unless a['x\n '|]'y\n'",
         ),
     ];
-    agree(&rt, rt.alloc(), rows)
+    agree(rt.alloc(), rows)
 }
 
 #[test]
@@ -45,7 +45,7 @@ fn trims_white_space(rt: HostRuntime) -> Result<(), Fail> {
         ("x\n  {{~#if a}}\ny{{/if}}", "'x'if a['y'|]"),
         ("x\n{{#if a~}}\n\n y{{/if}}", "'x\n'if a['y'|]"),
     ];
-    agree(&rt, rt.alloc(), rows)
+    agree(rt.alloc(), rows)
 }
 
 #[test]
@@ -64,5 +64,5 @@ fn leaves_other_bytes(rt: HostRuntime) -> Result<(), Fail> {
         ("+++\n+++\nb", "'+++\nb'"),
         ("{{a}}+++\nb", "<a>'+++\nb'"),
     ];
-    agree(&rt, rt.alloc(), rows)
+    agree(rt.alloc(), rows)
 }

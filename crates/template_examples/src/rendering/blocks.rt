@@ -28,7 +28,7 @@ fn renders_texts_and_tests(rt: HostRuntime) -> Result<(), Fail> {
             "ab",
         ),
     ];
-    agree(&rt, rt.alloc(), rows)
+    agree(rt.alloc(), rows)
 }
 
 #[test]
@@ -76,5 +76,5 @@ fn renders_eaches(rt: HostRuntime) -> Result<(), Fail> {
             "",
         ),
     ];
-    agree(&rt, rt.alloc(), rows)
+    agree(rt.alloc(), rows)
 }

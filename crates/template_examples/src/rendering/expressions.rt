@@ -19,7 +19,7 @@ fn prints_scalars(rt: HostRuntime) -> Result<(), Fail> {
         ("{{base64_decode settings.secret}}", "hello"),
         ("{{base64_decode settings.empty}}", ""),
     ];
-    agree(&rt, rt.alloc(), rows)
+    agree(rt.alloc(), rows)
 }
 
 #[test]
@@ -44,5 +44,5 @@ fn joins(rt: HostRuntime) -> Result<(), Fail> {
             "arch:x86_64",
         ),
     ];
-    agree(&rt, rt.alloc(), rows)
+    agree(rt.alloc(), rows)
 }

@@ -36,7 +36,7 @@ fn refuses(rt: HostRuntime) -> Result<(), Fail> {
             "missing settings.gone",
         ),
     ];
-    agree(&rt, rt.alloc(), rows)
+    agree(rt.alloc(), rows)
 }
 
 #[test]
@@ -75,5 +75,5 @@ fn refuses_in_blocks(rt: HostRuntime) -> Result<(), Fail> {
         ("{{os}}", "not-scalar os"),
         ("{{os.arch.a}}", "missing os.arch.a"),
     ];
-    agree(&rt, rt.alloc(), rows)
+    agree(rt.alloc(), rows)
 }

@@ -1,14 +1,14 @@
 //! What templates render to, as texts.
+use example_texts::same;
 use key_names::{Key, Text};
 use settings_tree::{Content, Os, OsName, Scalar};
 use std::alloc::{AllocError, Global};
-use std::process::Abort;
 use std::test::Fail;
 use template_eval::{RenderError, render};
 use template_reader::read;
 
-// Puts the value that the JSON is at the key, where the key fits.
-fn put(alloc: Global, content: &mut Content, key: &str, json: &str) -> Result<(), Fail> {
+/// Puts the value that the JSON is at the key, where the key fits.
+pub fn put(alloc: Global, content: &mut Content, key: &str, json: &str) -> Result<(), Fail> {
     let key = Key::read(alloc, key.as_bytes())?;
     let value = Scalar::of_json(alloc, json.as_bytes())?;
     if content.fits(&key) {
@@ -17,7 +17,15 @@ fn put(alloc: Global, content: &mut Content, key: &str, json: &str) -> Result<()
     Ok(())
 }
 
-/// The values that the tests render over.
+// Puts each value at the key beside it.
+fn put_all(alloc: Global, content: &mut Content, rows: &[(&str, &str)]) -> Result<(), Fail> {
+    for (key, json) in rows {
+        put(alloc, content, key, json)?;
+    }
+    Ok(())
+}
+
+// The values that the tests render over.
 fn values(alloc: Global) -> Result<Content, Fail> {
     let rows: &[(&str, &str)] = &[
         ("settings.motd", "\"Welcome\""),
@@ -39,9 +47,7 @@ fn values(alloc: Global) -> Result<Content, Fail> {
         ("settings.pairs.c", "true"),
     ];
     let mut content = Content::new(alloc);
-    for (key, json) in rows {
-        put(alloc, &mut content, key, json)?;
-    }
+    put_all(alloc, &mut content, rows)?;
     Ok(content)
 }
 
@@ -69,23 +75,49 @@ fn with_path(alloc: Global, kind: &str, path: &Text) -> Result<String, AllocErro
     format!(in alloc; "{kind} {path}")
 }
 
-/// What the source renders to, or its refusal and the path.
-pub fn shown(alloc: Global, content: &Content, os: &Os, source: &str) -> Result<Vec<u8>, Fail> {
-    let source = source.as_bytes();
-    let template = read(alloc, source)?;
-    match render(alloc, &template, source, content, os) {
-        Ok(bytes) => Ok(bytes),
-        Err(error) => Ok(refusal(alloc, &error)?.as_bytes().to_vec(alloc)?),
+// The text that was rendered, or the refusal with its path.
+fn told(alloc: Global, rendered: Result<Vec<u8>, RenderError>) -> Result<String, AllocError> {
+    match rendered {
+        Ok(bytes) => String::from_utf8_lossy(alloc, &bytes),
+        Err(error) => refusal(alloc, &error),
     }
 }
 
-/// Each source renders to what stands beside it.
-pub fn agree(rt: &impl Abort, alloc: Global, rows: &[(&str, &str)]) -> Result<(), Fail> {
-    let content = values(alloc)?;
-    let os = os_of(alloc)?;
+// What the source renders to, or its refusal and the path.
+fn shown(alloc: Global, content: &Content, os: &Os, source: &str) -> Result<String, Fail> {
+    let source = source.as_bytes();
+    let template = read(alloc, source)?;
+    Ok(told(alloc, render(alloc, &template, source, content, os))?)
+}
+
+/// The source renders to what is wanted, a text or a refusal.
+pub fn renders(
+    alloc: Global,
+    content: &Content,
+    os: &Os,
+    source: &str,
+    want: &str,
+) -> Result<(), Fail> {
+    let shown = shown(alloc, content, os, source)?;
+    same(shown.as_str(), want, source)
+}
+
+// Each source renders to what stands beside it over these values.
+fn each_renders(
+    alloc: Global,
+    content: &Content,
+    os: &Os,
+    rows: &[(&str, &str)],
+) -> Result<(), Fail> {
     for (source, want) in rows {
-        let shown = shown(alloc, &content, &os, source)?;
-        assert_eq!(rt; shown.as_slice(), want.as_bytes(), "at {source:?}");
+        renders(alloc, content, os, source, want)?;
     }
     Ok(())
+}
+
+/// Each source renders to what stands beside it.
+pub fn agree(alloc: Global, rows: &[(&str, &str)]) -> Result<(), Fail> {
+    let os = os_of(alloc)?;
+    let content = values(alloc)?;
+    each_renders(alloc, &content, &os, rows)
 }

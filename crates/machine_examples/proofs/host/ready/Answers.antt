@@ -1,4 +1,4 @@
 use Rattle.machine_examples.proofs.host.ready.Goals as goal
 
-pub open_store-requires-clause-typed : goal.open_store-requires-clause-typed
-open_store-requires-clause-typed c = c.new-machine.ensures.typed c.args.image.now.types
+pub begin-requires-clause-typed : goal.begin-requires-clause-typed
+begin-requires-clause-typed c = c.new-machine.ensures.typed c.args.image.now.types

@@ -1,7 +1,7 @@
 use Rattle.storm.proofs.storming.storm.Goals as goal
 
-pub loop-init : goal.loop-init
-loop-init c = record {
+pub make_steps-requires : goal.make_steps-requires
+make_steps-requires c = record {
   table = c.requires.table;
   defaults = c.requires.defaults;
   settings = c.requires.settings;

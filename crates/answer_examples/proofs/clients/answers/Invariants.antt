@@ -1,5 +1,5 @@
 use Rattle.settings_machine.specs.Typed.{IsTypedHeld}
-use Rattle.answer_examples.proofs.clients.goes.Given as goal
+use Rattle.answer_examples.proofs.clients.answers.Given as goal
 
 -- what is held is typed
 abbrev pub invariant-loop-word : goal.invariant-loop-word

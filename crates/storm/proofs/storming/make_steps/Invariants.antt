@@ -1,5 +1,5 @@
 use Rattle.storm_machine.specs.Stands.{Stands}
-use Rattle.storm.proofs.storming.storm.Given as goal
+use Rattle.storm.proofs.storming.make_steps.Given as goal
 
 -- what is held is typed
 abbrev pub invariant-loop : goal.invariant-loop
