@@ -1,14 +1,26 @@
 //! What is done to a host and to its disk, by texts.
 ghost use Rattle.std.specs.Prelude.{IfOk};
 ghost use Rattle.api_core.specs.Cores.{IsSound};
+ghost use Rattle.api_http.specs.Questions.{question, IsProper};
 
 use crate::host::{Host, begun, open};
 use crate::texts::{ask_of, held_line, reply_line};
+use api_http::Ask;
 use disk_memory::{MemoryDisk, Node};
 use example_texts::repeated;
 use outside::Path;
 use std::alloc::{AllocError, Global};
 use std::test::Fail;
+
+// The reply to the request.
+fn answered(alloc: Global, host: &mut Host, ask: &Ask) -> Result<String, Fail>
+    requires sound { IsSound host.old.core }
+    requires proper { IsProper (question ask.now) }
+    ensures { IsSound host.new.core }
+{
+    let reply = host.core.handle(alloc, ask, &mut host.disk);
+    Ok(reply_line(alloc, &reply)?)
+}
 
 // The reply to the request of the line.
 fn replied(alloc: Global, host: &mut Host, line: &str) -> Result<String, Fail>
@@ -16,8 +28,7 @@ fn replied(alloc: Global, host: &mut Host, line: &str) -> Result<String, Fail>
     ensures { IsSound host.new.core }
 {
     let ask = ask_of(alloc, line)?;
-    let reply = host.core.handle(alloc, &ask, &mut host.disk);
-    Ok(reply_line(alloc, &reply)?)
+    answered(alloc, host, &ask)
 }
 
 // Turns of the job.
