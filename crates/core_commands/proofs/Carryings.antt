@@ -1,5 +1,6 @@
 -- A store is opened, and what follows.
 use Rattle.std.proofs.Common.{◌≡◌, inr, false, List, Option, Result, Ok, Err, IfErr, refl, sym, ap}
+use Rattle.std.specs.Result.{result_and}
 use Rattle.outside.specs.History.{History}
 use Rattle.outside.specs.Spawner.{Run}
 use Rattle.outside.proofs.Told.{moves_map}
@@ -17,9 +18,10 @@ use Rattle.settings_machine.specs.Paid.{IsGood}
 use Rattle.machine_disk.specs.Kept.{Folder, CoreState, DiskAt}
 use Rattle.machine_disk.specs.Ran.{OpensTo}
 use Rattle.machine_disk.proofs.Runs.{opens_kept}
+use Rattle.api_core.specs.declared.serving.Core.{Core}
 use Rattle.command_outcome.specs.declared.refusal.Refusal.{Refusal}
 use Rattle.command_outcome.specs.declared.refusal.Refusal.TheVariants as refused
-use Rattle.core_commands.specs.Carried.{Comes, core_over, Follows, GoesOn, GoesOnFrom, MakesBy, Makes, CarriesOut}
+use Rattle.core_commands.specs.Carried.{Comes, HoldsAll, core_over, Follows, GoesOn, GoesOnFrom, MakesBy, Makes, CarriesOut}
 use Rattle.core_commands.specs.Handing.{not_opened}
 
 -- ---- an opening
@@ -139,3 +141,12 @@ module _ {A B : Type 0} (qs : List Request) (P : World → A → Type 0) (Q : Wo
       → CarriesOut qs Q (Err refused.Memory) ran_before ran_after told_before told_after
   carries_lost said c =
       carries_as qs P Q (Ok said) (Err refused.Memory) ran_before ran_after (λ I W asked turned comes. inr (Idle, comes.0)) (λ x is. absurd (cc is)) told_before told_after c
+
+-- The core that is answered holds what it held; a refusal stays one.
+pub goes_core : (qs : List Request) (core : Core) (done : Result Unit Refusal) (ran_before ran_after : Option (List Run)) (store : Opened) (old new : History)
+    → GoesOnFrom qs (λ W d. HoldsAll W core) store done ran_before ran_after old new → GoesOnFrom qs HoldsAll store (result_and done (Ok core)) ran_before ran_after old new
+goes_core qs core (Ok d) ran_before ran_after store old new goes =
+    goes_as qs (λ W d. HoldsAll W core) HoldsAll (Ok d) (Ok core) ran_before ran_after (λ I W asked turned comes. comes) store old new goes
+goes_core qs core (Err e) ran_before ran_after store old new goes =
+    goes_as qs (λ W d. HoldsAll W core) HoldsAll (Err e) (Err e) ran_before ran_after
+    (λ I W asked turned comes. comes_err {A = Unit {0}} {B = Core} I W qs (λ X d. HoldsAll X core) HoldsAll e asked turned comes) store old new goes

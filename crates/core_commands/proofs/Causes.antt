@@ -1,5 +1,6 @@
 -- Causes that are handed on.
 use Rattle.std.proofs.Common.{arith, ◌≡◌, inl, inr, ◌==◌, if◌then◌else◌, ℕ, Bool, true, false, List, Some, Result, Ok, Err, IfErr, refl, sym, ◌∙◌, ap, subst}
+use Rattle.std.specs.Prelude.{IsErrAnd}
 use Rattle.outside.specs.Faults.{Rose, HasCauseOf}
 use Rattle.command_outcome.specs.declared.refusal.Refusal.{Refusal}
 use Rattle.command_outcome.specs.declared.refusal.Refusal.TheVariants as refused
@@ -13,6 +14,11 @@ use Rattle.core_commands.specs.Handing.{HasSpawnCause, HandsJob, HandsSent, not_
 
 pub same_refusal : {T : Type 0} (e f : Refusal) → ◌≡◌ {A = Result T Refusal} (Err e) (Err f) → e ≡ f
 same_refusal e f is = cc is
+
+-- The refusal that is handed on is that of the call.
+pub error_is : {T : Type 0} (r : Result T Refusal) (e : Refusal) → IsErrAnd r (λ x. x ≡ e) → r ≡ Err e
+error_is (Ok v) e is = absurd is
+error_is (Err x) e is = ap (λ (y : Refusal). Err y) is
 
 -- A refusal, where nothing failed before.
 pub cause_later : {A B : Type 0} (e : Refusal) (before mid now : ℕ) → mid ≡ before → HasCauseOf {T = A} refused.Disk mid now (Err e) → HasCauseOf {T = B} refused.Disk before now (Err e)

@@ -4,3 +4,4 @@ pub mod Committing
 pub mod Handing
 pub mod Laws
 pub mod Lines
+pub mod Telling

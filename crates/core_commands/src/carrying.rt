@@ -1,5 +1,6 @@
 //! Requests over a store that is opened, and the job's end.
-ghost use Rattle.std.specs.Prelude.{◌≡◌, All, false};
+ghost use Rattle.std.specs.Prelude.{◌≡◌, All, Ok, false};
+ghost use Rattle.std.specs.Result.{result_and};
 ghost use Rattle.outside.specs.Told.{Moves};
 ghost use Rattle.outside.specs.Faults.{HasCauseOf};
 ghost use Rattle.api_http.specs.Questions.{question, IsProper};
@@ -42,6 +43,13 @@ fn ask_and_drive<D: Disk, S: Spawner>(
     drive(alloc, core, disk, spawner)
 }
 
+// The value, where the work before it is done, or else why it is not.
+fn once_done<T: Drop>(done: Result<(), Refusal>, value: T) -> Result<T, Refusal>
+    ensures { result ≡ result_and done (Ok value) }
+{
+    done.and(Ok(value))
+}
+
 // The core over a store that was just opened, behind the requests and the turns.
 fn go_on<D: Disk, S: Spawner>(
     alloc: Global,
@@ -59,8 +67,8 @@ fn go_on<D: Disk, S: Spawner>(
     ensures asked { S.asked spawner.new ≡ S.asked spawner.old }
 {
     let mut core = Core::new(store);
-    ask_and_drive(alloc, &mut core, asks, disk, spawner)?;
-    Ok(core)
+    let done = ask_and_drive(alloc, &mut core, asks, disk, spawner);
+    once_done(done, core)
 }
 
 /// Opens the store, without boot, asks the requests one after another, and makes turns until no job runs. It answers the core, which

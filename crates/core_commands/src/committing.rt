@@ -111,5 +111,7 @@ pub fn commit_pairs<D: Disk>(
     ensures cause { HasCauseOf Refusal.Disk (D.faults disk.old) (D.faults disk.new) result }
 {
     let mut core = Core::new(store);
-    commit_by(alloc, &mut core, tx, pairs, disk)
+    let line = commit_by(alloc, &mut core, tx, pairs, disk);
+    drop(core);
+    line
 }

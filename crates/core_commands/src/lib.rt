@@ -11,6 +11,7 @@ mod handing;
 mod law;
 mod lines;
 mod setting;
+mod telling;
 
 pub use applying::apply;
 pub use asking::{ask_each, ask_each_and_last};

@@ -1,5 +1,5 @@
 //! The command `set`.
-ghost use Rattle.std.specs.Prelude.{◌≡◌, ◌∷◌, [], All, IsTrue, IfOk, IfErr};
+ghost use Rattle.std.specs.Prelude.{◌≡◌, All, IsTrue, IfOk};
 ghost use Rattle.outside.specs.Faults.{HasCauseOf};
 ghost use Rattle.key_names.specs.Key.{is_prefix};
 ghost use Rattle.settings_tree.specs.Content.{settings_key};
@@ -7,15 +7,14 @@ ghost use Rattle.api_http.specs.Questions.{question, IsProper};
 ghost use Rattle.core_commands.specs.Asking.{requests};
 ghost use Rattle.core_commands.specs.Carried.{Carried, set_tx, puts_of, set_requests};
 ghost use Rattle.core_commands.specs.Handing.{HasSpawnCause};
-ghost use Rattle.core_commands.specs.Lines.{IsTreeLine, IsSettingsLine};
+ghost use Rattle.core_commands.specs.Lines.{IsSettingsLine};
 
-use crate::carrying::carry;
-use crate::lines::tree_line;
+use crate::telling::{Telling, carry_and_tell};
 use api_http::Ask;
 use command_outcome::Refusal;
 use key_names::{Bytes, Key};
 use outside::{Disk, Spawner};
-use settings_tree::{Content, Pending, Scalar, TxName};
+use settings_tree::{Pending, Scalar, TxName};
 use std::alloc::{AllocError, Global};
 
 // The transaction of the command.
@@ -60,17 +59,6 @@ fn set_asks(alloc: Global, pairs: &[(Key, Scalar)]) -> Result<[Ask; 3], AllocErr
     ])
 }
 
-// The tree of the live settings, as a line.
-fn settings_line(alloc: Global, live: &Content) -> Result<Bytes, Refusal>
-    ensures ok { IfOk result (IsTreeLine live.now.values (settings_key ∷ [])) }
-    ensures memory { IfErr result (λ refusal. refusal ≡ Refusal.Memory) }
-{
-    let Ok(settings) = Key::of_segment(alloc, b"settings") else {
-        return Err(Refusal::Memory);
-    };
-    Ok(tree_line(alloc, live, &[settings])?)
-}
-
 /// Sets values: opens the store, without boot; drops the transaction `cli-set`, patches it with these pairs in order, commits it and
 /// applies; makes turns until no job runs; and answers the tree of the live settings, as compact JSON (RFC 8259), and a line feed.
 ///
@@ -91,6 +79,5 @@ pub fn set<D: Disk, S: Spawner>(
     ensures asked { S.asked spawner.new ≡ S.asked spawner.old }
 {
     let asks = set_asks(alloc, pairs)?;
-    let core = carry(alloc, &asks, disk, spawner)?;
-    settings_line(alloc, &core.held().live)
+    carry_and_tell(alloc, &asks, Telling::Settings, disk, spawner)
 }

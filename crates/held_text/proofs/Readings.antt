@@ -1,7 +1,7 @@
 -- What is read of JSON values.
 use Rattle.std.proofs.Common.{◌≡◌, ℕ, List, [], ◌∷◌, ◌++◌, Some, None, map, refl, sym, ap, ◌∙◌, append_assoc, append-nil, Result, Ok, Err}
 use Rattle.std.proofs.lemmas.List.{map-append}
-use Rattle.std.specs.Prelude.{IsErrAnd}
+use Rattle.std.specs.Prelude.{IsErrAnd, OnErr}
 use Rattle.serde_json.specs.Data.{Data, string, object, Items, no_items, item, Members, no_members, member}
 use Rattle.serde_json.specs.Find.{as_array, as_object, as_str}
 use Rattle.serde_json.specs.View.{view, items_of, items_view}
@@ -58,6 +58,11 @@ pub err_reads : {X : Type 0} (IsValid : X → Type 0) (as_data : X → Data) (d 
     → ((x : X) → IsValid x → d ≡ as_data x → (e : HeldError) → Q e → e ≡ Memory) → Reads IsValid as_data d r
 err_reads IsValid as_data d Q (Ok x) none memory = absurd none
 err_reads IsValid as_data d Q (Err e) gives memory = record { finds = λ x valid is. memory x valid is e gives }
+
+-- What holds anyway holds at an error.
+pub at_error : {T E P : Type 0} (r : Result T E) → P → OnErr r P
+at_error (Ok x) p = tt
+at_error (Err e) p = p
 
 -- One more value of some members is taken.
 pub taken_next : (all left rest : Members) (done now : List Value) (name : List ℕ) (v : Value) → member_values all ≡ map view done ++ member_values left → left ≡ member name (view v) rest → now ≡ done ++ v ∷ []

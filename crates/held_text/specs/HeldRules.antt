@@ -19,10 +19,11 @@ use Rattle.json_trees.specs.declared.pending.Pending.{Pending}
 use Rattle.json_trees.specs.declared.scalar.Scalar.{Scalar}
 use Rattle.settings_maps.specs.Maps.{IsFull}
 use Rattle.settings_maps.specs.TxName.{is_tx_name}
-use Rattle.settings_tree.specs.Content.{Contents, IsContent, IsNamed}
-use Rattle.held_text.specs.HeldText.{Row, rows, keys_data, map_data, metadata_data, owed_data, pending_maps_data, image_data, held_text}
+use Rattle.settings_tree.specs.Content.{Contents, IsContent, IsNamed, no_content}
+use Rattle.held_text.specs.HeldText.{Row, rows, keys_data, map_data, metadata_data, owed_data, pending_maps_data, image_data, held_members, held_text}
 use Rattle.settings_tree.specs.Pending.{IsPending}
 use Rattle.settings_tree.specs.Rule.{IsPrefixFree}
+use Rattle.settings_tree.specs.declared.entry.Owed.{Owed}
 use Rattle.settings_tree.specs.declared.held.Held.{Held}
 use Rattle.held_text.specs.declared.held_error.HeldError.{HeldError}
 use Rattle.held_text.specs.declared.held_error.HeldError.TheVariants.{Memory}
@@ -113,6 +114,22 @@ pub record PutsRows (d : Data) (old new : Contents) (result : Result (Unit {0}) 
 -- Where the JSON values are those of a content, the answer is this content.
 pub record ReadsContent (values metadata weak : Data) (result : Result Contents HeldError) : Type 0 where
   pub finds : (c : Contents) → IsLive c → values ≡ map_data scalar_data c.values → metadata ≡ metadata_data c.metadata → weak ≡ keys_data c.weak → IsRead result c
+
+-- Where the JSON values are those of the metadata and the weak keys of a content, they were put beside its values.
+pub record PutsOthers (metadata weak : Data) (old new : Contents) (result : Result (Unit {0}) HeldError) : Type 0 where
+  pub puts :
+      (c : Contents) → IsLive c → old ≡ record no_content { values = c.values } → metadata ≡ metadata_data c.metadata → weak ≡ keys_data c.weak
+      → MatchResult result (λ _. new ≡ c) (λ e. e ≡ Memory)
+
+-- Where the JSON values are those of what is owed, of pending maps and of an image text, these are the answer.
+pub record ReadsRest (owed pending image : Data) (result : Result (Owed × FinMap bytes_cmp (FinMap key_cmp Pending) × List ℕ) HeldError) : Type 0 where
+  pub finds :
+      (o : Owed) (p : FinMap bytes_cmp (FinMap key_cmp Pending)) (i : List ℕ) → IsOwed o → ArePending p → IsBytes i
+      → owed ≡ owed_data o → pending ≡ pending_maps_data p → image ≡ image_data i → IsRead result (o, p, i)
+
+-- Where the JSON values are those of the members of what is held, this is the answer.
+pub record ReadsMembers (values : List Data) (result : Result Held HeldError) : Type 0 where
+  pub finds : (h : Held) → IsHeld h → values ≡ member_values (held_members h) → IsRead result h
 
 -- ---- for private clauses: writing
 

@@ -3,7 +3,7 @@
 ghost use Rattle.std.specs.Prelude.{◌≡◌, ◌≢◌, ◌<◌, [], ◌∷◌, IsTrue, IfOk, IfErr, OnOk, OnErr, Some, None, false, length, map, string_bytes};
 ghost use Rattle.std.specs.FinMap.{insert};
 ghost use Rattle.base64.specs.GeneralPurpose.{IsBytes};
-ghost use Rattle.serde_json.specs.Data.{string};
+ghost use Rattle.serde_json.specs.Data.{Data, string};
 ghost use Rattle.std.specs.Vec.Iter.{into_iter_items};
 ghost use Rattle.serde_json.specs.Find.{as_array, as_object, as_str};
 ghost use Rattle.serde_json.specs.View.{view, items_view, members_view};
@@ -12,8 +12,8 @@ ghost use Rattle.json_trees.specs.Nested.{IsSound};
 ghost use Rattle.settings_maps.specs.Maps.{is_empty};
 ghost use Rattle.settings_maps.specs.TxName.{is_tx_name};
 ghost use Rattle.settings_tree.specs.Content.{no_content};
-ghost use Rattle.held_text.specs.HeldText.{key_data, keys_data, pair_data, map_data, row_data, transaction_data, pending_maps_data, owed_data, image_data, held_data};
-ghost use Rattle.held_text.specs.HeldRules.{IsRow, IsMap, IsWholeTransaction, ArePending, IsHeld, Reads, HasValues, ReadsContent, PutsRows, member_values};
+ghost use Rattle.held_text.specs.HeldText.{list_data, key_data, keys_data, pair_data, map_data, row_data, transaction_data, pending_maps_data, owed_data, image_data, held_data};
+ghost use Rattle.held_text.specs.HeldRules.{IsRow, IsMap, IsWholeTransaction, ArePending, IsHeld, Reads, HasValues, ReadsContent, ReadsRest, ReadsMembers, PutsRows, PutsOthers, member_values};
 ghost use Rattle.settings_tree.specs.Owed.{IsKeyList, IsOwed};
 ghost use Rattle.settings_tree.specs.Rule.{IsPrefixFree};
 ghost use Rattle.held_text.specs.declared.held_error.HeldError.TheVariants.{Memory};
@@ -68,6 +68,24 @@ fn three_of(values: &mut IntoIter<Value>) -> Result<(Value, Value, Value), HeldE
     Ok((first, second, third))
 }
 
+// The two values of a list. What stands behind them does not count here.
+fn couple_of(list: Value) -> Result<(Value, Value), HeldError>
+    ensures ok { IfOk result (λ v. (a b : Data) → view list ≡ list_data (a ∷ b ∷ []) → (view v.0 ≡ a) × (view v.1 ≡ b)) }
+    ensures err { OnErr result ((a b : Data) → view list ≢ list_data (a ∷ b ∷ [])) }
+{
+    let mut values = list_of(list)?.into_iter();
+    two_of(&mut values)
+}
+
+// The three values of a list. What stands behind them does not count here.
+fn triple_of(list: Value) -> Result<(Value, Value, Value), HeldError>
+    ensures ok { IfOk result (λ v. (a b c : Data) → view list ≡ list_data (a ∷ b ∷ c ∷ []) → (view v.0 ≡ a) × (view v.1 ≡ b) × (view v.2 ≡ c)) }
+    ensures err { OnErr result ((a b c : Data) → view list ≢ list_data (a ∷ b ∷ c ∷ [])) }
+{
+    let mut values = list_of(list)?.into_iter();
+    three_of(&mut values)
+}
+
 fn string_of(value: Value) -> Result<String, HeldError>
     ensures ok { IfOk result (λ text. as_str (view value) ≡ Some (string_bytes text)) }
     ensures err { OnErr result (as_str (view value) ≡ None) }
@@ -88,8 +106,7 @@ fn key_of(alloc: Global, value: Value) -> Result<Key, HeldError>
 fn pair_of<L: Leaf>(alloc: Global, value: Value) -> Result<(Key, L), HeldError>
     ensures { Reads (IsSound L.leaf L.written) (pair_data L.written) (view value) result }
 {
-    let mut values = list_of(value)?.into_iter();
-    let (key, value) = two_of(&mut values)?;
+    let (key, value) = couple_of(value)?;
     let key = key_of(alloc, key)?;
     let leaf = L::of_value(alloc, value)?;
     Ok((key, leaf))
@@ -114,8 +131,7 @@ fn map_of<L: Leaf + Drop>(alloc: Global, list: Value) -> Result<KeyMap<L>, HeldE
 fn row_of(alloc: Global, value: Value) -> Result<(Key, Text, Scalar), HeldError>
     ensures { Reads IsRow row_data (view value) result }
 {
-    let mut values = list_of(value)?.into_iter();
-    let (key, name, value) = three_of(&mut values)?;
+    let (key, name, value) = triple_of(value)?;
     let key = key_of(alloc, key)?;
     let name = Text::of(string_of(name)?);
     let value = Scalar::of_value(alloc, value)?;
@@ -157,8 +173,26 @@ fn values_alone(alloc: Global, values: KeyMap<Scalar>) -> Content
     Content::of(values, Metadata::new(alloc), KeyList::new(alloc))
 }
 
+// Puts metadata and weak keys into a content that has only values.
+fn put_others(
+    alloc: Global,
+    content: &mut Content,
+    metadata: Value,
+    weak: Value,
+) -> Result<(), HeldError>
+    ensures { PutsOthers (view metadata) (view weak) content.old content.new result }
+{
+    put_rows(alloc, content, metadata)?;
+    let weak = key_list_of(alloc, weak)?;
+    if !content.may_be_weak(weak.as_slice()) {
+        return Err(HeldError::BadHeld);
+    }
+    content.set_weak(weak);
+    Ok(())
+}
+
 // The content with these values, metadata and weak keys.
-pub(crate) fn content_of(
+fn content_of(
     alloc: Global,
     values: Value,
     metadata: Value,
@@ -167,12 +201,7 @@ pub(crate) fn content_of(
     ensures { ReadsContent (view values) (view metadata) (view weak) result }
 {
     let mut content = values_alone(alloc, map_of(alloc, values)?);
-    put_rows(alloc, &mut content, metadata)?;
-    let weak = key_list_of(alloc, weak)?;
-    if !content.may_be_weak(weak.as_slice()) {
-        return Err(HeldError::BadHeld);
-    }
-    content.set_weak(weak);
+    put_others(alloc, &mut content, metadata, weak)?;
     Ok(content)
 }
 
@@ -190,8 +219,7 @@ fn transaction_of(alloc: Global, value: Value) -> Result<(TxName, KeyMap<Pending
     ensures reads { Reads IsWholeTransaction transaction_data (view value) result }
     ensures free { IfOk result (λ t. IsPrefixFree t.1) }
 {
-    let mut values = list_of(value)?.into_iter();
-    let (name, keys) = two_of(&mut values)?;
+    let (name, keys) = couple_of(value)?;
     let name = tx_name_of(alloc, name)?;
     let keys = map_of(alloc, keys)?;
     Ok((name, keys))
@@ -210,8 +238,8 @@ fn put_keys(
     transactions.set_keys(tx, keys)
 }
 
-/// The pending maps that a list of transactions is.
-pub(crate) fn pending_of(alloc: Global, list: Value) -> Result<PendMaps, HeldError>
+// The pending maps that a list of transactions is.
+fn pending_of(alloc: Global, list: Value) -> Result<PendMaps, HeldError>
     ensures { Reads ArePending pending_maps_data (view list) result }
 {
     let mut transactions = Transactions::new(alloc);
@@ -225,8 +253,8 @@ pub(crate) fn pending_of(alloc: Global, list: Value) -> Result<PendMaps, HeldErr
     Ok(PendMaps::of(transactions))
 }
 
-/// The owed keys. What is no list is read as all of them.
-pub(crate) fn owed_of(alloc: Global, value: Value) -> Result<Owed, HeldError>
+// The owed keys. What is no list is read as all of them.
+fn owed_of(alloc: Global, value: Value) -> Result<Owed, HeldError>
     ensures { Reads IsOwed owed_data (view value) result }
 {
     if value.is_array() {
@@ -236,8 +264,8 @@ pub(crate) fn owed_of(alloc: Global, value: Value) -> Result<Owed, HeldError>
     }
 }
 
-/// The stored image text.
-pub(crate) fn image_of(alloc: Global, value: Value) -> Result<Bytes, HeldError>
+// The stored image text.
+fn image_of(alloc: Global, value: Value) -> Result<Bytes, HeldError>
     ensures { Reads IsBytes image_data (view value) result }
 {
     let text = string_of(value)?;
@@ -270,17 +298,42 @@ fn member_values(alloc: Global, members: Map<String, Value>) -> Result<Vec<Value
     Ok(values)
 }
 
-/// What is held, of the JSON value of a held text. Its six members come in the order of their names.
+// What is owed, pending and stored as the image text.
+fn rest_of(
+    alloc: Global,
+    owed: Value,
+    pending: Value,
+    image: Value,
+) -> Result<(Owed, PendMaps, Bytes), HeldError>
+    ensures { ReadsRest (view owed) (view pending) (view image) result }
+{
+    let image = image_of(alloc, image)?;
+    let owed = owed_of(alloc, owed)?;
+    let pending = pending_of(alloc, pending)?;
+    Ok((owed, pending, image))
+}
+
+// What is held, of the values of the six members, which come in the order of their names.
+fn held_in(alloc: Global, values: &mut IntoIter<Value>) -> Result<Held, HeldError>
+    ensures { ReadsMembers (map view (into_iter_items values.old)) result }
+{
+    let (image, live, meta) = three_of(values)?;
+    let (owed, pending, weak) = three_of(values)?;
+    let rest = rest_of(alloc, owed, pending, image)?;
+    let live = content_of(alloc, live, meta, weak)?;
+    let (owed, pending, image) = rest;
+    Ok(Held {
+        live,
+        pending,
+        owed,
+        image,
+    })
+}
+
+/// What is held, of the JSON value of a held text.
 pub(crate) fn held_of(alloc: Global, value: Value) -> Result<Held, HeldError>
     ensures { Reads IsHeld held_data (view value) result }
 {
     let mut values = values_of(alloc, value)?.into_iter();
-    let (image, live, meta) = three_of(&mut values)?;
-    let (owed, pending, weak) = three_of(&mut values)?;
-    Ok(Held {
-        live: content_of(alloc, live, meta, weak)?,
-        pending: pending_of(alloc, pending)?,
-        owed: owed_of(alloc, owed)?,
-        image: image_of(alloc, image)?,
-    })
+    held_in(alloc, &mut values)
 }

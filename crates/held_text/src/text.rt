@@ -12,7 +12,7 @@ ghost use Rattle.held_text.specs.HeldText.{rows, held_data, held_text};
 ghost use Rattle.held_text.specs.HeldRules.{IsHeld, IsRow, ArePending, IsRead, Wrote, WroteFirst, first_members, last_members};
 ghost use Rattle.settings_tree.specs.Owed.{IsKeyList, IsOwed};
 ghost use Rattle.settings_tree.specs.declared.held.Held.{Held};
-ghost use Rattle.held_text.specs.declared.held_error.HeldError.TheVariants.{BadHeld};
+ghost use Rattle.held_text.specs.declared.held_error.HeldError.TheVariants.{BadHeld, Memory};
 
 use crate::held_error::HeldError;
 use crate::reading::held_of;
@@ -67,6 +67,19 @@ fn write_held(writer: &mut Writer, alloc: Global, held: &Held) -> Result<(), All
     writer.end_object()
 }
 
+// Refuses what is printed as another text.
+fn expect_text(held: &Held, text: &[u8]) -> Result<(), HeldError>
+    ensures ok { OnOk result (held_text held.now ≡ text.now) }
+    ensures valid { OnOk result (IsHeld held.now) }
+    ensures err { IfErr result (λ e. e ≢ Memory → held_text held.now ≢ text.now) }
+{
+    if held.print()?.as_str().as_bytes() == text {
+        Ok(())
+    } else {
+        Err(HeldError::BadHeld)
+    }
+}
+
 // What the text is the print of, or `BadHeld`.
 fn read_exactly(alloc: Global, text: &[u8]) -> Result<Held, HeldError>
     ensures ok { IfOk result (λ held. held_text held ≡ text.now) }
@@ -77,11 +90,8 @@ fn read_exactly(alloc: Global, text: &[u8]) -> Result<Held, HeldError>
         return Err(HeldError::BadHeld);
     };
     let held = held_of(alloc, value)?;
-    if held.print()?.as_str().as_bytes() == text {
-        Ok(held)
-    } else {
-        Err(HeldError::BadHeld)
-    }
+    expect_text(&held, text)?;
+    Ok(held)
 }
 
 /// What a store holds, printed as one line of JSON and read back.

@@ -1,5 +1,7 @@
 //! The model file of a load run.
 ghost use Rattle.std.specs.Prelude.{◌≡◌, IfOk};
+ghost use Rattle.std.specs.List.{flat_map};
+ghost use Rattle.load_input.specs.Numbers.{below};
 ghost use Rattle.load_input.specs.Image.{type_lines, service_lines, setting_lines, model_text};
 
 use crate::numbered::push_number;
@@ -50,15 +52,25 @@ fn setting_lines(alloc: Global, i: u32) -> Result<Vec<u8>, AllocError>
     Ok(lines)
 }
 
+// The lines of all services.
+fn services_text(alloc: Global) -> Result<Vec<u8>, AllocError>
+    ensures { IfOk result (λ lines. lines.items ≡ flat_map service_lines (below 10)) }
+{
+    let mut text = Vec::new(alloc);
+    for j in 0..SERVICES {
+        let lines = service_lines(alloc, j)?;
+        text.extend_from_slice(lines.as_slice())?;
+    }
+    Ok(text)
+}
+
 /// The text of the model for so many settings. The only error is want of memory.
 pub(crate) fn model_text(alloc: Global, count: u32) -> Result<Vec<u8>, AllocError>
     ensures { IfOk result (λ text. text.items ≡ model_text count) }
 {
     let mut text = type_lines(alloc)?;
-    for j in 0..SERVICES {
-        let lines = service_lines(alloc, j)?;
-        text.extend_from_slice(lines.as_slice())?;
-    }
+    let services = services_text(alloc)?;
+    text.extend_from_slice(services.as_slice())?;
     for i in 0..count {
         let lines = setting_lines(alloc, i)?;
         text.extend_from_slice(lines.as_slice())?;

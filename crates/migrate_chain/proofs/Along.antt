@@ -1,5 +1,6 @@
 -- A store is moved along steps.
-use Rattle.std.proofs.Common.{◌≡◌, inl, inr, List, [], ◌∷◌, Option, Result, Ok, Err, refl, subst, codes}
+use Rattle.std.proofs.Common.{◌≡◌, inl, inr, List, [], ◌∷◌, Option, Result, Ok, Err, refl, sym, subst, codes}
+use Rattle.std.specs.Prelude.{IfOk, IfErr, OnOk}
 use Rattle.outside.specs.Names.{Names}
 use Rattle.outside.specs.Tree.{Tree}
 use Rattle.outside.specs.History.{Change, replaced, scribbled, synced, History, tree_of}
@@ -8,6 +9,7 @@ use Rattle.outside.specs.Told.{Moves}
 use Rattle.outside.proofs.Told.{moves_map, moves_stay, moves_then, moves_both}
 use Rattle.outside.proofs.Goes.{goes_map, goes_joined}
 use Rattle.outside.proofs.Since.{since_map, since_joined}
+use Rattle.outside.specs.declared.disk_error.Failed.{Failed as Failure}
 use Rattle.commit_journal.specs.Files.{IsBelow}
 use Rattle.settings_tree.specs.declared.held.Held.{Held}
 use Rattle.version_links.specs.declared.version.Version.{Version}
@@ -15,9 +17,9 @@ use Rattle.version_links.specs.Names.{Target, directory}
 use Rattle.version_links.specs.Chain.{found, Resolves}
 use Rattle.version_links.specs.Flip.{IsLinkTo, Flips}
 use Rattle.migrate_chain.specs.Store.{HasStore, HasEither, IsInOther, TouchesOthers, owing_all}
-use Rattle.migrate_chain.specs.Tasks.{Task, Mapped}
+use Rattle.migrate_chain.specs.Tasks.{Task, Mapped, Refused}
 use Rattle.migrate_chain.specs.Copying.{Copies}
-use Rattle.migrate_chain.specs.Moving.{IsCarried, IsSaved, IsAtHand, HasOldOrNew, MovesAlong}
+use Rattle.migrate_chain.specs.Moving.{IsCarried, Ends, IsSaved, FallsShort, IsAtHand, IsRefusal, HasOldOrNew, MovesAlong}
 use Rattle.migrate_chain.specs.declared.start.Start.{Start}
 use Rattle.migrate_chain.specs.declared.moving.Moved.{Moved}
 use Rattle.migrate_chain.specs.declared.move_error.MoveError.{MoveError}
@@ -92,7 +94,7 @@ module _ (start : Start) (tasks : List Task) (to : Version) (before after : Opti
         (goes_map (IsAtOrSync (IsLinkTo target)) (IsAtOrSync (IsBelow (codes "store" ∷ []))) mid new (λ change here. in_store change (IsLinkTo target) (link_in_store target) here) flips.others.touches)
 
     -- The links are not pointed to the copy whole.
-    pub along_failed : {E : Type 0} (e : E) (a b c : Option History) → Moves a b TouchesOthers → Moves a b (IsSaved to (owing_all made) target) → Moves b c (Flips target (Err e)) → Moves a c (MovesAlong start tasks to before after (Err Failed))
+    along_failed : {E : Type 0} (e : E) (a b c : Option History) → Moves a b TouchesOthers → Moves a b (IsSaved to (owing_all made) target) → Moves b c (Flips target (Err e)) → Moves a c (MovesAlong start tasks to before after (Err Failed))
     along_failed e a b c others saved flips = moves_then (λ old mid new both turn. record {
       any_moment = moments (Err e) old mid new both.0 both.1 turn;
       done = tt;
@@ -102,7 +104,7 @@ module _ (start : Start) (tasks : List Task) (to : Version) (before after : Opti
     }) (moves_both others saved) flips
 
     -- The links lead to the copy.
-    pub along_moved : {E : Type 0} (moved : Moved) (done : Unit) (a b c : Option History) → moved.from ≡ start.place.version → moved.to ≡ to → moved.directory ≡ directory target → Moves a b TouchesOthers → Moves a b (IsSaved to (owing_all made) target) → Moves b c (Flips {E = E} target (Ok done)) → Moves a c (MovesAlong start tasks to before after (Ok moved))
+    along_moved : {E : Type 0} (moved : Moved) (done : Unit) (a b c : Option History) → moved.from ≡ start.place.version → moved.to ≡ to → moved.directory ≡ directory target → Moves a b TouchesOthers → Moves a b (IsSaved to (owing_all made) target) → Moves b c (Flips {E = E} target (Ok done)) → Moves a c (MovesAlong start tasks to before after (Ok moved))
     along_moved {E = E} moved done a b c from_is to_is at others saved flips = moves_then (λ old mid new both turn. record {
       any_moment = moments {E = E} (Ok done) old mid new both.0 both.1 turn;
       done = λ hand. (
@@ -122,3 +124,22 @@ module _ (start : Start) (tasks : List Task) (to : Version) (before after : Opti
       kept = tt;
       outside = outside {E = E} (Ok done) old mid new both.0 turn;
     }) (moves_both others saved) flips
+
+    -- The links are pointed to the copy, or not.
+    pub along_led : (result : Result Moved MoveError) (a b c : Option History) → IfOk result (λ moved. (moved.from ≡ start.place.version) × (moved.to ≡ to) × (moved.directory ≡ directory target)) → Moves a b TouchesOthers → Moves a b (IsSaved to (owing_all made) target) → OnOk result (Moves b c (Flips {E = Failure} target (Ok tt))) → IfErr result (FallsShort target b c) → Moves a c (MovesAlong start tasks to before after result)
+    along_led (Ok moved) a b c answer others saved turned short = along_moved moved tt a b c answer.0 answer.1 answer.2 others saved turned
+    along_led (Err e) a b c answer others saved turned (inl (is, same)) = along_unmoved e a c (subst (λ x. Moves a x TouchesOthers) (sym same) others)
+    along_led (Err e) a b c answer others saved turned (inr (failure, is, flips)) =
+        subst (λ x. Moves a c (MovesAlong start tasks to before after (Err x))) (sym is) (along_failed failure a b c others saved flips)
+
+-- All tasks were carried out before the links fell short.
+pub short_ends : (tasks : List Task) (held made : Held) (target : Target) (before after : Option (List Mapped)) (refused_before refused_after : Option (List Refused)) (a b : Option History) (result : Result Moved MoveError) → IsCarried tasks held before after made → refused_after ≡ refused_before → IfErr result (FallsShort target a b) → IfErr result (Ends tasks held before after refused_before refused_after)
+short_ends tasks held made target before after refused_before refused_after a b (Ok moved) carried same short = tt
+short_ends tasks held made target before after refused_before refused_after a b (Err e) carried same (inl (is, none)) = inr (inr is, (made, carried), same)
+short_ends tasks held made target before after refused_before refused_after a b (Err e) carried same (inr (failure, is, flips)) = inr (inl is, (made, carried), same)
+
+-- What falls short is no refusal.
+pub short_quiet : (target : Target) (a b : Option History) (result : Result Moved MoveError) → IfErr result (FallsShort target a b) → IfErr result (λ e. IsRefusal e → ⊥)
+short_quiet target a b (Ok moved) short = tt
+short_quiet target a b (Err e) (inl (is, none)) = λ refusal. subst IsRefusal is refusal
+short_quiet target a b (Err e) (inr (failure, is, flips)) = λ refusal. subst IsRefusal is refusal

@@ -1,5 +1,6 @@
 -- A copy is saved in a directory to which the links don't lead.
-use Rattle.std.proofs.Common.{◌≡◌, ◌≢◌, ℕ, List, [], ◌∷◌, ◌++◌, Option, Some, None, IsSome, Ok, Err, refl, sym, ◌∙◌, ap, subst, length, take, arith, length-append}
+use Rattle.std.proofs.Common.{◌≡◌, ◌≢◌, ℕ, List, [], ◌∷◌, ◌++◌, Option, Some, None, IsSome, Result, Ok, Err, refl, sym, ◌∙◌, ap, subst, length, take, arith, length-append}
+use Rattle.std.specs.Result.{result_and}
 use Rattle.std.proofs.lemmas.Bool.{false≢true}
 use Rattle.std.proofs.Math.Seq.{take-append_seam}
 use Rattle.outside.specs.Names.{Names}
@@ -79,18 +80,21 @@ module _ (version : Version) (held : Held) where
   copy_none e a b same = moves_same same (λ h. record { others = record { touches = λ place led. goes_stay (IsAtOrSync (IsInOther place.directory)) h }; copied = tt })
 
   -- What is held is not saved whole.
-  pub copy_fails : (e : DiskErr) (target : Target) (dir : Names) (a b c : Option History) → WhereTold a (λ h. IsFirstFree (tree_of h) target) → b ≡ a → dir ≡ directory target → Moves b c (Saves {E = DiskErr} dir held (Err e)) → Moves a c (Copies version held (Err e))
+  copy_fails : (e : DiskErr) (target : Target) (dir : Names) (a b c : Option History) → WhereTold a (λ h. IsFirstFree (tree_of h) target) → b ≡ a → dir ≡ directory target → Moves b c (Saves {E = DiskErr} dir held (Err e)) → Moves a c (Copies version held (Err e))
   copy_fails e target dir a b c first same at m = moves_map (λ old new both. record {
     others = record { touches = λ place led. touches_other target place.directory old new (free_is_other (tree_of old) target place both.0.free led) (subst (λ d. Touches (IsBelow d) old new) at both.1.others.touches) };
     copied = tt;
   }) (moves_where first (moves_after same m))
 
   -- What is held is saved.
-  pub copy_done : (done : Unit) (target : Target) (dir : Names) (a b c : Option History) → target.version ≡ version → WhereTold a (λ h. IsFirstFree (tree_of h) target) → b ≡ a → dir ≡ directory target → Moves b c (Saves {E = DiskErr} dir held (Ok done)) → Moves a c (Copies {E = DiskErr} version held (Ok target))
+  copy_done : (done : Unit) (target : Target) (dir : Names) (a b c : Option History) → target.version ≡ version → WhereTold a (λ h. IsFirstFree (tree_of h) target) → b ≡ a → dir ≡ directory target → Moves b c (Saves {E = DiskErr} dir held (Ok done)) → Moves a c (Copies {E = DiskErr} version held (Ok target))
   copy_done done target dir a b c same_version first same at m = moves_map (λ old new both.
       let saves = subst (λ d. Saves {E = DiskErr} d held (Ok done) old new) at both.1 in record {
         others = record { touches = λ place led. touches_other target place.directory old new (free_is_other (tree_of old) target place both.0.free led) saves.others.touches };
         copied = record { version_is = same_version; first = both.0; stands = saves.done (empty target (tree_of old) both.0.free); settled = saves.settled };
       }) (moves_where first (moves_after same m))
 
-pub ruleset copying = (copy_none, copy_fails, copy_done)
+  -- It is saved, or not.
+  pub copy_saves : (saved : Result Unit DiskErr) (target : Target) (dir : Names) (a b c : Option History) → target.version ≡ version → WhereTold a (λ h. IsFirstFree (tree_of h) target) → b ≡ a → dir ≡ directory target → Moves b c (Saves dir held saved) → Moves a c (Copies version held (result_and saved (Ok target)))
+  copy_saves (Ok done) target dir a b c same_version first same at m = copy_done done target dir a b c same_version first same at m
+  copy_saves (Err e) target dir a b c same_version first same at m = copy_fails e target dir a b c first same at m

@@ -1,6 +1,7 @@
 pub mod Copied
 pub mod Stays
 pub mod Carried
+pub mod Mappings
 pub mod MapperCauses
 pub mod Started
 pub mod Along

@@ -1,6 +1,6 @@
 -- When the mapper may be said to have failed, call by call.
-use Rattle.std.proofs.Common.{◌≡◌, ℕ, ◌≤◌, List, Result, Ok, Err, sym, ◌∙◌, ap, subst, arith}
-use Rattle.std.specs.Prelude.{IsErr, IsErrAnd}
+use Rattle.std.proofs.Common.{◌≡◌, ℕ, ◌≤◌, List, Result, Ok, Err, refl, sym, ◌∙◌, ap, subst, arith}
+use Rattle.std.specs.Prelude.{IsErr, IsErrAnd, IfErr}
 use Rattle.outside.specs.Faults.{HasCauseOf, Rose}
 use Rattle.outside.specs.declared.disk_error.DiskErr.{DiskErr}
 use Rattle.outside.specs.declared.disk_error.DiskErr.TheVariants as device
@@ -13,7 +13,8 @@ use Rattle.migrate_chain.specs.Errors.{of_disk, of_mapper}
 use Rattle.migrate_chain.specs.Moving.{IsRefusal}
 use Rattle.migrate_chain.specs.Tasks.{Names}
 
-same_error : {T E : Type 0} (x y : E) → ◌≡◌ {A = Result T E} (Err x) (Err y) → x ≡ y
+-- Errors that are handed on alike are one.
+pub same_error : {T E : Type 0} (x y : E) → ◌≡◌ {A = Result T E} (Err x) (Err y) → x ≡ y
 same_error x y e = cc
 
 no_error : {T E : Type 0} (v : T) (x : E) → ◌≡◌ {A = Result T E} (Ok v) (Err x) → ⊥
@@ -78,9 +79,6 @@ cause_quiet (Err v) e x y same is quiet = record {
   other = λ err none. same;
 }
 
-pub cause_other : {S T : Type 0} (v : S) (r : Result T MoveError) (e : MoveError) (x y : ℕ) → IsErrAnd r (λ w. w ≡ e) → (IsRefusal e → ⊥) → HasNamedCause {E = MoveError} Spawn x y (Ok v) → HasNamedCause Spawn x y r
-cause_other v r e x y is quiet cause = cause_quiet r e x y cause.kept is quiet
-
 -- And so where it ends well.
 pub cause_done : {T : Type 0} (v : T) (x y : ℕ) → y ≡ x → HasNamedCause {E = MoveError} Spawn x y (Ok v)
 cause_done v x y same = record {
@@ -90,8 +88,10 @@ cause_done v x y same = record {
   other = λ err. absurd (no_ok MoveError v err);
 }
 
-pub cause_ok : {S T : Type 0} (v : S) (w : T) (x y : ℕ) → HasNamedCause {E = MoveError} Spawn x y (Ok v) → HasNamedCause {E = MoveError} Spawn x y (Ok w)
-cause_ok v w x y cause = cause_done w x y cause.kept
+-- It was not asked since, whatever else is answered.
+pub cause_unasked : {S T : Type 0} (v : S) (r : Result T MoveError) (x y : ℕ) → IfErr r (λ e. IsRefusal e → ⊥) → HasNamedCause {E = MoveError} Spawn x y (Ok v) → HasNamedCause Spawn x y r
+cause_unasked v (Ok w) x y quiet cause = cause_done w x y cause.kept
+cause_unasked v (Err e) x y quiet cause = cause_quiet (Err e) e x y cause.kept refl quiet
 
 pub disk_quiet : (e : DiskErr) → IsRefusal (of_disk e) → ⊥
 disk_quiet device.Failed refusal = refusal

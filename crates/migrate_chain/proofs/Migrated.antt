@@ -44,6 +44,7 @@ use Rattle.migrate_chain.specs.Store.{at_place, HasStore}
 use Rattle.migrate_chain.specs.Starting.{Starts, IsReady, IsFound}
 use Rattle.migrate_chain.specs.Moving.{IsAtHand, HasMoved, HasOldOrNew, MovesAlong, Ends, IsAnswer, IsBehind, IsRefusal, is_early}
 use Rattle.migrate_chain.specs.Migrating.{HasMigrated, IsThere, HasSome, Migrates}
+use Rattle.migrate_chain.proofs.Mappings.{if_err_any}
 use Rattle.migrate_chain.proofs.Stays.{standing}
 use Rattle.migrate_chain.proofs.Along.{in_store}
 use Rattle.std.proofs.lemmas.Result.{IfOk-weaker}
@@ -215,10 +216,6 @@ start_outside old new r starts place led =
     goes_map (IsAtOrSync (IsBelow place.directory)) (IsAtOrSync (IsBelow (codes "store" ∷ []))) old new (λ change here. in_store change (IsBelow place.directory) (dir_in_store (tree_of old) place led) here)
     (touched_since (IsBelow place.directory) old new (starts.sync_first place led))
 
-if_err_all : {T E : Type 0} {P : E → Type 0} (r : Result T E) → ((e : E) → P e) → IfErr r P
-if_err_all (Ok v) f = tt
-if_err_all (Err e) f = f e
-
 on_ok_all : {T E X : Type 0} (r : Result T E) → X → OnOk r X
 on_ok_all (Ok v) x = x
 on_ok_all (Err e) x = tt
@@ -335,7 +332,7 @@ module _ (to : Version) (transitions : List Transition) (migrations : List Named
           (both.1, inr (for_found (λ q h f. HasMigrated q h to transitions migrations before after (tree_of new)) start place held format (starts.found place held format store) (migrated_image (tree_of new) both.0)))) along.done;
       answer = IfOk-weaker result _ _ (λ moved answer place held format store. for_found (λ r h f. IsAnswer moved r.version to (tree_of new)) start place held format (starts.found place held format store) (answer (hand old mid starts.ready))) along.answer;
       found = on_ok_all result (some_store start old mid starts);
-      found_first = if_err_all result (λ e behind. some_store start old mid starts);
+      found_first = if_err_any result (λ e behind. some_store start old mid starts);
       stays = λ place held store same.
           let found = starts.found place held 2 store in
           absurd (needed (ap (λ (r : Place). r.version) found.place_is ∙ same) found.format_is);

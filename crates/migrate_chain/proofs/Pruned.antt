@@ -3,8 +3,6 @@ use Rattle.std.proofs.Common.{◌≡◌, ◌≤◌, ◌<◌, ◌+◌, ◌||◌, 
 use Rattle.std.specs.List.{AllByRecursion}
 use Rattle.std.specs.Ordering.{eq_by_cmp}
 use Rattle.std.proofs.lemmas.List.{take_more, take_all}
-use Rattle.std.specs.Prelude.{IsErrAnd}
-use Rattle.std.proofs.lemmas.Result.{err_from_is_err_and}
 use Rattle.std.proofs.lemmas.Bool.{false≢true}
 use Rattle.outside.specs.Names.{Names, path_cmp}
 use Rattle.outside.specs.Tree.{Tree, Node, node_at, set_node, paths_below}
@@ -239,6 +237,10 @@ unfolding is_early
 late_is x (inl is) = ap is_early is
 late_is x (inr is) = ap is_early is
 
+-- Where nothing was done, the links lead where they led.
+pub led_after : (a : Option History) {b : Option History} (place : Place) → b ≡ a → WhereTold a (λ h. Resolves (tree_of h) (at_place place)) → WhereTold b (λ h. Resolves (tree_of h) (at_place place))
+led_after a place same led = subst (λ t. WhereTold t (λ h. Resolves (tree_of h) (at_place place))) (sym same) led
+
 -- Nothing was written.
 pub fails_at_once : (place : Place) (x : PruneError) (a b : Option History) → (x ≡ Failed) ⊎ (x ≡ Memory) → WhereTold a (λ h. Resolves (tree_of h) (at_place place)) → b ≡ a → Moves a b (Prunes (Err x))
 fails_at_once place x a b which led same = moves_map (λ old new both. prunes_late place old new both.0 (inl both.1) x (late_is x which)) (moves_where led (moves_same {R = λ s t. t ≡ s} same (λ s. refl)))
@@ -323,7 +325,3 @@ prune_no_links (links.BadLink at) a b told same = moves_map (λ old new both. su
 pub disk_late : (e : DiskErr) → (of_disk e ≡ Failed) ⊎ (of_disk e ≡ Memory)
 disk_late device.Failed = inl refl
 disk_late device.Memory = inr refl
-
--- The error of a `?`.
-pub error_is : (r : Result ℕ PruneError) (e : PruneError) → IsErrAnd r (λ x. x ≡ e) → r ≡ Err e
-error_is r e is = let p = err_from_is_err_and r is in p.1 ∙ ap Err p.2

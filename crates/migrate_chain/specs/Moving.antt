@@ -1,18 +1,21 @@
 -- What a move does to the disk, part by part.
-use Rattle.std.specs.Prelude.{◌≡◌, ◌≢◌, ◌⊎◌, ◌++◌, ◌∷◌, [], codes, Bool, true, false, List, Option, Result, IfOk, IfErr}
+use Rattle.std.specs.Prelude.{◌≡◌, ◌≢◌, ◌⊎◌, ◌++◌, ◌∷◌, [], codes, Bool, true, false, List, Option, Result, Err, IfOk, IfErr}
 use Rattle.outside.specs.Tree.{Tree}
 use Rattle.outside.specs.History.{History, tree_of, IsSettled}
 use Rattle.outside.specs.Since.{EachSince, Touches}
+use Rattle.outside.specs.Told.{Moves}
 use Rattle.outside.specs.declared.disk_error.DiskErr.{DiskErr}
+use Rattle.outside.specs.declared.disk_error.Failed.{Failed as Failure}
 use Rattle.commit_journal.specs.Files.{files_below, IsBelow}
 use Rattle.settings_tree.specs.declared.held.Held.{Held}
 use Rattle.store_files.specs.Stands.{Stands}
 use Rattle.version_links.specs.declared.version.Version.{Version}
 use Rattle.version_links.specs.Names.{Target, directory}
 use Rattle.version_links.specs.Chain.{found, Resolves}
+use Rattle.version_links.specs.Flip.{Flips}
 use Rattle.migrate_chain.specs.Store.{HasStore, at_place, place_of, owing_all}
 use Rattle.migrate_chain.specs.Tasks.{Task, Mapped, Refused, Refuses, AreDone, refusals_of, with_more}
-use Rattle.migrate_chain.specs.Errors.{of_disk, of_mapper}
+use Rattle.migrate_chain.specs.Errors.{of_disk, of_mapper, of_failure}
 use Rattle.migrate_chain.specs.declared.start.Start.{Start}
 use Rattle.migrate_chain.specs.declared.moving.Moved.{Moved}
 use Rattle.migrate_chain.specs.declared.mapper_error.MapperError.{MapperError}
@@ -108,6 +111,11 @@ pub record IsSaved (version : Version) (held : Held) (target : Target) (old new 
   pub version_is : target.version ≡ version
   pub stands : Stands (files_below (directory target) (tree_of new)) held 2
   pub settled : IsSettled new
+
+-- The links were not pointed to the data directory whole: memory was wanting and nothing was done, or the disk failed and a part of it was.
+abbrev pub FallsShort : Target → Option History → Option History → MoveError → Type 0
+FallsShort target before after error =
+    ((error ≡ Memory) × (after ≡ before)) ⊎ ((failure : Failure) × (error ≡ of_failure failure) × Moves before after (Flips target (Err failure)))
 
 -- The store was found, and is on the disk without a journal.
 pub record IsAtHand (start : Start) (history : History) : Type 0 where

@@ -1,5 +1,5 @@
 //! The migrations of a step are carried out.
-ghost use Rattle.std.specs.Prelude.{◌≡◌, ℕ, ◌<◌, length, slice_get, Some, IsTrue, IfOk, IfErr, IsErrOf, OnOk};
+ghost use Rattle.std.specs.Prelude.{◌≡◌, ℕ, ◌<◌, length, slice_get, Some, IsTrue, IfErr, IsErrOf, OnOk};
 ghost use Rattle.std.specs.List.{list_all};
 ghost use Rattle.migrate_chain.specs.Causes.{HasNamedCause};
 ghost use Rattle.migrate_helpers.specs.Kept.{Kept};
@@ -12,6 +12,7 @@ use crate::mapper_error::MapperError;
 use key_names::Text;
 use release_file::{Named, Transition, Work};
 use settings_tree::Held;
+use std::mem;
 
 // The name of this index, from the front or from the end.
 fn name_at(names: &[Text], back: bool, index: usize) -> &Text
@@ -40,18 +41,18 @@ fn work_named<'a>(migrations: &'a [Named], name: &Text) -> &'a Work
     unreachable!()
 }
 
-/// Carries out the migrations of a step: in their order, and on the way back in reverse order.
+/// Carries out the migrations of a step on what is held: in their order, and on the way back in reverse order.
 pub(crate) fn carry_out<M: Mapper>(
     mapper: &mut M,
     migrations: &[Named],
     transition: &Transition,
     back: bool,
-    mut held: Held,
-) -> Result<Held, MapperError>
+    held: &mut Held,
+) -> Result<(), MapperError>
     requires { IsTrue (names_known migrations.now transition.now) }
-    ensures carried { IfOk result (IsCarried (tasks_in migrations.now back transition.now) held (M.mapped mapper.old) (M.mapped mapper.new)) }
+    ensures carried { OnOk result (IsCarried (tasks_in migrations.now back transition.now) held.old (M.mapped mapper.old) (M.mapped mapper.new) held.new) }
     ensures not_refused { OnOk result (M.refused mapper.new ≡ M.refused mapper.old) }
-    ensures stopped { IfErr result (IsStopped (tasks_in migrations.now back transition.now) held
+    ensures stopped { IfErr result (IsStopped (tasks_in migrations.now back transition.now) held.old
         (M.mapped mapper.old) (M.mapped mapper.new) (M.refused mapper.old) (M.refused mapper.new)) }
     ensures carries { OnOk result (M.carries mapper.old mapper.new) }
     ensures stops { IfErr result (λ e. M.stops e mapper.old mapper.new) }
@@ -60,7 +61,8 @@ pub(crate) fn carry_out<M: Mapper>(
     for index in 0..transition.names.len() {
         let name = name_at(&transition.names, back, index);
         let work = work_named(migrations, name);
-        held = mapper.map(name, work, back, &held)?;
+        let made = mapper.map(name, work, back, held)?;
+        drop(mem::replace(held, made));
     }
-    Ok(held)
+    Ok(())
 }

@@ -1,5 +1,5 @@
 //! A store is moved to another version.
-ghost use Rattle.std.specs.Prelude.{◌≡◌, ℕ, List, IsTrue, IfOk, IfErr, OnOk, map};
+ghost use Rattle.std.specs.Prelude.{◌≡◌, ℕ, List, IsTrue, Ok, IfOk, IfErr, OnOk, map};
 ghost use Rattle.std.specs.List.{list_all};
 ghost use Rattle.outside.specs.Told.{Moves};
 ghost use Rattle.outside.specs.Faults.{HasCauseOf};
@@ -8,7 +8,10 @@ ghost use Rattle.settings_tree.specs.declared.held.Held.{Held as World};
 ghost use Rattle.release_file.specs.Release.{names_known};
 ghost use Rattle.migrate_chain.specs.Tasks.{tasks_of};
 ghost use Rattle.migrate_chain.specs.Store.{owing_all, TouchesOthers};
-ghost use Rattle.migrate_chain.specs.Moving.{IsCarried, EndsEarly, Ends, IsSaved, MovesAlong, StopsBy};
+ghost use Rattle.migrate_chain.specs.Moving.{IsCarried, EndsEarly, Ends, IsSaved, FallsShort, MovesAlong, StopsBy};
+ghost use Rattle.outside.specs.declared.disk_error.Failed.{Failed as Failure};
+ghost use Rattle.version_links.specs.Names.{directory};
+ghost use Rattle.version_links.specs.Flip.{Flips};
 
 use crate::carrying::carry_out;
 use crate::copying::copy_owing_all;
@@ -49,10 +52,10 @@ fn copy_reached<D: Disk>(
     ensures held { held.new ≡ held.old }
     ensures cause { HasCauseOf DiskErr.Failed (D.faults disk.old) (D.faults disk.new) result }
 {
-    if !first {
-        copy_owing_all(alloc, disk, version, held)?;
+    if first {
+        return Ok(());
     }
-    Ok(())
+    copy_owing_all(alloc, disk, version, held).and(Ok(()))
 }
 
 // Carries out the migrations of the steps, and saves what they make as the last version, and what is reached on the way
@@ -65,15 +68,15 @@ fn copy_along<D: Disk, M: Mapper>(
     way: &[&Transition],
     back: bool,
     to: &Version,
-    mut held: Held,
+    held: &mut Held,
 ) -> Result<Names, MoveError>
     requires { IsTrue (list_all (names_known migrations.now) (map (λ t. t.now) way.now)) }
     ensures others { Moves (D.told disk.old) (D.told disk.new) TouchesOthers }
-    ensures copied { IfOk result (λ target. (made : World) × IsCarried (tasks_of migrations.now back (map (λ t. t.now) way.now)) held
+    ensures copied { IfOk result (λ target. (made : World) × IsCarried (tasks_of migrations.now back (map (λ t. t.now) way.now)) held.old
         (M.mapped mapper.old) (M.mapped mapper.new) made
         × Moves (D.told disk.old) (D.told disk.new) (IsSaved to.now (owing_all made) target)) }
     ensures not_refused { OnOk result (M.refused mapper.new ≡ M.refused mapper.old) }
-    ensures ends_early { IfErr result (EndsEarly (tasks_of migrations.now back (map (λ t. t.now) way.now)) held
+    ensures ends_early { IfErr result (EndsEarly (tasks_of migrations.now back (map (λ t. t.now) way.now)) held.old
         (M.mapped mapper.old) (M.mapped mapper.new) (M.refused mapper.old) (M.refused mapper.new)) }
     ensures carries { OnOk result (M.carries mapper.old mapper.new) }
     ensures stopped { IfErr result (StopsBy M.carries M.stops mapper.old mapper.new) }
@@ -82,14 +85,35 @@ fn copy_along<D: Disk, M: Mapper>(
 {
     let mut first = true;
     for transition in way {
-        copy_reached(alloc, disk, first, &beginning(back, transition), &mut held)?;
+        copy_reached(alloc, disk, first, &beginning(back, transition), held)?;
         first = false;
-        held = carry_out(mapper, migrations, transition, back, held)?;
+        carry_out(mapper, migrations, transition, back, held)?;
     }
-    Ok(copy_owing_all(alloc, disk, to, &mut held)?)
+    Ok(copy_owing_all(alloc, disk, to, held)?)
 }
 
-// Moves the store along these steps.
+// Points the links to the copy, and answers the move to it.
+fn lead_to_copy<D: Disk>(
+    disk: &mut D,
+    from: &Version,
+    to: &Version,
+    copy: &Names,
+) -> Result<Moved, MoveError>
+    ensures answer { IfOk result (λ moved. (moved.from ≡ from.now) × (moved.to ≡ to.now) × (moved.directory ≡ directory copy.now)) }
+    ensures turned { OnOk result (Moves (D.told disk.old) (D.told disk.new) (Flips {E = Failure} copy.now (Ok tt))) }
+    ensures falls_short { IfErr result (FallsShort copy.now (D.told disk.old) (D.told disk.new)) }
+    ensures cause { HasCauseOf MoveError.Failed (D.faults disk.old) (D.faults disk.new) result }
+{
+    let directory = copy.directory().copy()?;
+    flip(disk, copy)?;
+    Ok(Moved {
+        from: *from,
+        to: *to,
+        directory,
+    })
+}
+
+// Moves the store along these steps. In the start it leaves what they made of what was held.
 pub(crate) fn move_along<D: Disk, M: Mapper>(
     alloc: Global,
     disk: &mut D,
@@ -98,26 +122,28 @@ pub(crate) fn move_along<D: Disk, M: Mapper>(
     way: &[&Transition],
     back: bool,
     to: &Version,
-    start: Start,
+    start: &mut Start,
 ) -> Result<Moved, MoveError>
     requires { IsTrue (list_all (names_known migrations.now) (map (λ t. t.now) way.now)) }
     ensures moves { Moves (D.told disk.old) (D.told disk.new)
-        (MovesAlong start (tasks_of migrations.now back (map (λ t. t.now) way.now)) to.now (M.mapped mapper.old) (M.mapped mapper.new) result) }
+        (MovesAlong start.old (tasks_of migrations.now back (map (λ t. t.now) way.now)) to.now (M.mapped mapper.old) (M.mapped mapper.new) result) }
     ensures not_refused { OnOk result (M.refused mapper.new ≡ M.refused mapper.old) }
-    ensures ends { IfErr result (Ends (tasks_of migrations.now back (map (λ t. t.now) way.now)) start.held
+    ensures ends { IfErr result (Ends (tasks_of migrations.now back (map (λ t. t.now) way.now)) start.old.held
         (M.mapped mapper.old) (M.mapped mapper.new) (M.refused mapper.old) (M.refused mapper.new)) }
     ensures carries { OnOk result (M.carries mapper.old mapper.new) }
     ensures stopped { IfErr result (StopsBy M.carries M.stops mapper.old mapper.new) }
     ensures disk_cause { HasCauseOf MoveError.Failed (D.faults disk.old) (D.faults disk.new) result }
     ensures mapper_cause { HasNamedCause (λ name. MoveError.Spawn name) (M.faults mapper.old) (M.faults mapper.new) result }
 {
-    let from = start.place.version;
-    let names = copy_along(alloc, disk, mapper, migrations, way, back, to, start.held)?;
-    let directory = names.directory().copy()?;
-    flip(disk, &names)?;
-    Ok(Moved {
-        from,
-        to: *to,
-        directory,
-    })
+    let copy = copy_along(
+        alloc,
+        disk,
+        mapper,
+        migrations,
+        way,
+        back,
+        to,
+        &mut start.held,
+    )?;
+    lead_to_copy(disk, &start.place.version, to, &copy)
 }

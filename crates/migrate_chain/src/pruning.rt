@@ -1,8 +1,11 @@
 //! Data directories to which the links don't lead are emptied.
 ghost use Rattle.std.specs.Prelude.{◌≡◌, ◌≢◌, ◌↔◌, ◌∷◌, [], codes, IfOk, IsTrue, OnOk};
-ghost use Rattle.outside.specs.Told.{Moves};
+ghost use Rattle.outside.specs.History.{tree_of};
+ghost use Rattle.outside.specs.Told.{Moves, WhereTold};
 ghost use Rattle.outside.specs.Faults.{HasCause, HasCauseOf};
-ghost use Rattle.migrate_chain.specs.Store.{IsLeftOver};
+ghost use Rattle.version_links.specs.declared.chain.Place.{Place};
+ghost use Rattle.version_links.specs.Chain.{Resolves};
+ghost use Rattle.migrate_chain.specs.Store.{at_place, IsLeftOver};
 ghost use Rattle.migrate_chain.specs.PruningSteps.{IsDirectory, RemovesAll, RemovesOthers};
 ghost use Rattle.migrate_chain.specs.Pruning.{Prunes, SoMany};
 
@@ -78,6 +81,18 @@ fn store_folder(alloc: Global) -> Result<Path, AllocError>
     }
 }
 
+// Syncs, and removes every file below the data directories other than this one.
+fn prune_beside<D: Disk>(alloc: Global, disk: &mut D, directory: &Path) -> Result<u64, PruneError>
+    ensures prunes { (place : Place) → place.directory ≡ directory.now → WhereTold (D.told disk.old) (λ h. Resolves (tree_of h) (at_place place))
+        → Moves (D.told disk.old) (D.told disk.new) (Prunes result) }
+    ensures cause { HasCauseOf PruneError.Failed (D.faults disk.old) (D.faults disk.new) result }
+{
+    let folder = store_folder(alloc)?;
+    disk.sync()?;
+    let paths = disk.list(alloc, &folder)?;
+    Ok(remove_others(disk, directory, &paths)?)
+}
+
 /// Removes every file below the data directories to which the links don't lead, and tells how many they were. Links stay.
 /// It makes one sync, before it removes anything, so that no crash leaves the links where they led before an unsynced
 /// move to this directory. It takes one pass over what is in the folder `store`.
@@ -92,8 +107,5 @@ pub fn prune<D: Disk>(alloc: Global, disk: &mut D) -> Result<u64, PruneError>
     let Some(place) = resolve(alloc, disk)? else {
         return Err(PruneError::NoStore);
     };
-    let folder = store_folder(alloc)?;
-    disk.sync()?;
-    let paths = disk.list(alloc, &folder)?;
-    Ok(remove_others(disk, &place.directory, &paths)?)
+    prune_beside(alloc, disk, &place.directory)
 }

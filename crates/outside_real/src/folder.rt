@@ -1,12 +1,12 @@
 //! The files below a real folder.
 use crate::folders::Folders;
-use crate::places::{KEPT, Kind, Standing, is_own, place_of, remove_file, what_stands};
+use crate::nodes::Nodes;
+use crate::places::{Kind, Standing, is_own, place_of, remove_file, what_stands};
 use crate::unsynced::Unsynced;
 use crate::walk::Walk;
 use crate::work::{Lock, create_anew, place_in_work, take_lock};
-use outside::{Path, PathError};
-use std::alloc::{AllocError, Global};
-use std::collections::BTreeSet;
+use outside::Path;
+use std::alloc::AllocError;
 use std::fs::{self, OpenFile};
 use std::io::{self, ErrorKind, Write};
 use std::rt::Files;
@@ -263,34 +263,37 @@ where
         self.take(Kind::File, path)
     }
 
+    // Writes the file at the place. Its bytes aren't known from then on.
+    fn write_file(&mut self, place: &String, bytes: &[u8]) -> io::Result<()> {
+        let copy = String::from_str(self.rt.alloc(), place.as_str())?;
+        self.unsynced.begin(copy)?;
+        let mut file = fs::create(&self.rt, place.as_str())?;
+        file.write_all(bytes)
+    }
+
+    // Writes the file at the path, and keeps its bytes.
+    fn write_kept(&mut self, path: &Path, bytes: &[u8]) -> io::Result<()> {
+        let place = self.place(Kind::File, path)?;
+        let kept = bytes.to_vec(self.rt.alloc())?;
+        self.write_file(&place, bytes)?;
+        self.unsynced.keep(place, kept)?;
+        Ok(())
+    }
+
     /// Makes the path a file with these bytes, in place.
     pub fn write(&mut self, path: &Path, bytes: &[u8]) -> io::Result<()> {
         self.begin()?;
-        let place = self.place(Kind::File, path)?;
         if !self.make_way(Kind::File, path)? {
             self.note_folder(Kind::File, path)?;
         }
-        let kept = bytes.to_vec(self.rt.alloc())?;
-        let copy = self.place(Kind::File, path)?;
-        self.unsynced.begin(copy)?;
-        let mut file = fs::create(&self.rt, place.as_str())?;
-        file.write_all(bytes)?;
-        self.unsynced.keep(place, kept)?;
+        self.write_kept(path, bytes)?;
         self.take(Kind::Link, path)
     }
 
     // Notes all that earlier programs may have left: the files, and the folders that they lie in.
     fn note_all(&mut self) -> io::Result<()> {
         let mut walk = Walk::new(self.rt.alloc());
-        for below in KEPT {
-            let mut place = String::from_str(self.rt.alloc(), self.root.as_str())?;
-            place.push_str(below)?;
-            walk.add(&self.rt, place)?;
-        }
-        walk.go(&self.rt)?;
-        walk.folders
-            .push(String::from_str(self.rt.alloc(), self.root.as_str())?)
-            .map_err(AllocError::from)?;
+        walk.go_kept(&self.rt, self.root.as_str())?;
         self.unsynced.note_each(walk.folders)?;
         self.unsynced.note_each(walk.files)?;
         Ok(())
@@ -311,47 +314,35 @@ where
         self.put_down()
     }
 
-    // Adds the nodes directly in the folder, and its folders to those that are still to be listed.
-    fn list_folder(
-        &self,
-        place: &str,
-        folder: &Path,
-        folders: &mut Vec<Path>,
-        found: &mut BTreeSet<Path>,
-    ) -> io::Result<()> {
-        for entry in fs::read_dir(&self.rt, place)? {
-            let entry = entry?;
-            let name = entry.file_name().as_bytes();
-            if folder.names().is_empty() && is_own(name) {
-                continue;
-            }
-            let path = child(folder, name)?;
-            match what_stands(&self.rt, entry.path().as_str())? {
-                Standing::Folder => folders.push(path).map_err(AllocError::from)?,
-                _ => {
-                    found.insert(path).map_err(AllocError::from)?;
-                }
-            }
+    // Whether a folder stands where a node of this kind at the path would be. A symbolic link there is an error.
+    fn is_folder(&mut self, kind: Kind, path: &Path) -> io::Result<bool> {
+        let place = self.place(kind, path)?;
+        if !self.has_folders(kind, path)? {
+            return Ok(false);
         }
+        self.folders.stands(&self.rt, place)
+    }
+
+    // Adds what lies directly in the folder.
+    fn list_folder(&mut self, kind: Kind, folder: &Path, nodes: &mut Nodes) -> io::Result<()> {
+        let place = self.first_names(kind, folder, folder.names().len())?;
+        nodes.add_entries(&self.rt, folder, place.as_str())?;
+        self.folders.set(place)?;
         Ok(())
     }
 
     // Adds the nodes of this kind below the path.
-    fn list_kind(&mut self, kind: Kind, path: &Path, found: &mut BTreeSet<Path>) -> io::Result<()> {
-        let place = self.place(kind, path)?;
-        if !self.has_folders(kind, path)? || !self.folders.stands(&self.rt, place)? {
+    fn list_kind(&mut self, kind: Kind, path: &Path, nodes: &mut Nodes) -> io::Result<()> {
+        if !self.is_folder(kind, path)? {
             return Ok(());
         }
-        let mut folders = Vec::new(self.rt.alloc());
-        folders.push(path.copy()?).map_err(AllocError::from)?;
+        nodes.add_folder(path.copy()?)?;
         // A folder that others fill meanwhile may never be listed to its end.
         for _ in 0..u64::MAX {
-            let Some(folder) = folders.pop() else {
+            let Some(folder) = nodes.next_folder() else {
                 break;
             };
-            let place = self.first_names(kind, &folder, folder.names().len())?;
-            self.list_folder(place.as_str(), &folder, &mut folders, found)?;
-            self.folders.set(place)?;
+            self.list_folder(kind, &folder, nodes)?;
         }
         Ok(())
     }
@@ -359,18 +350,9 @@ where
     /// The paths of all nodes strictly below the path, rising. A name that is none of a path is an error.
     pub fn list(&mut self, path: &Path) -> io::Result<Vec<Path>> {
         self.begin()?;
-        let alloc = self.rt.alloc();
-        let mut found = BTreeSet::new(alloc);
-        self.list_kind(Kind::File, path, &mut found)?;
-        self.list_kind(Kind::Link, path, &mut found)?;
-        Ok(found.into_iter().collect(alloc)?)
-    }
-}
-
-fn child(folder: &Path, name: &[u8]) -> io::Result<Path> {
-    match folder.child(name) {
-        Ok(path) => Ok(path),
-        Err(PathError::Memory) => Err(io::Error::from(ErrorKind::OutOfMemory)),
-        Err(_) => Err(io::Error::from(ErrorKind::InvalidFilename)),
+        let mut nodes = Nodes::new(self.rt.alloc());
+        self.list_kind(Kind::File, path, &mut nodes)?;
+        self.list_kind(Kind::Link, path, &mut nodes)?;
+        Ok(nodes.rising(self.rt.alloc())?)
     }
 }

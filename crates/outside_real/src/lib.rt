@@ -11,6 +11,7 @@ mod faults;
 mod folder;
 mod folders;
 mod link;
+mod nodes;
 mod patience;
 mod places;
 mod sink;

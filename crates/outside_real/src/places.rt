@@ -52,6 +52,15 @@ pub fn is_own(name: &[u8]) -> bool {
     matches!(name, b".work" | b".links" | b"api.sock")
 }
 
+// Adds the name behind a slash.
+fn push_name(place: &mut String, name: &[u8]) -> Result<(), AllocError> {
+    place.push('/')?;
+    for byte in name {
+        place.push(char::from(*byte))?;
+    }
+    Ok(())
+}
+
 /// The place of the path's first `count` names, below the root and the kind's folder.
 pub fn place_of(
     alloc: Global,
@@ -63,10 +72,7 @@ pub fn place_of(
     let mut place = String::from_str(alloc, root)?;
     place.push_str(kind.folder())?;
     for name in path.names().iter().take(count) {
-        place.push('/')?;
-        for byte in name.as_slice() {
-            place.push(char::from(*byte))?;
-        }
+        push_name(&mut place, name.as_slice())?;
     }
     Ok(place)
 }

@@ -9,7 +9,7 @@ use outside::{Answer, AskErr, Asker, Failed, Spawner};
 use std::alloc::{AllocError, Global};
 use std::fs;
 use std::io::{self, ErrorKind, Read};
-use std::process::{Command, ExitStatus, Stdio};
+use std::process::{Child, Command, ExitStatus, Stdio};
 use std::rt::{Files, Processes};
 
 /// Runs the programs of the system: the words as they are, with no shell, and nothing to read on standard input.
@@ -94,14 +94,18 @@ impl<R: Files + Processes + AllocGlobal + Drop> RealSpawner<R> {
         Ok(Some(place))
     }
 
-    // Runs the program to its end, with this file as a last word, if there is one.
-    fn read_words(&self, words: &[String], place: Option<&str>, wanted: usize) -> io::Result<Answer>
+    // Starts the program, with this file as a last word, if there is one. What it writes can be read.
+    fn start(&self, words: &[String], place: Option<&str>) -> io::Result<Child<R::Started>> {
+        let mut command = command_of(self.rt.alloc(), words, place)?;
+        command.stdout(Stdio::piped());
+        command.spawn(&self.rt)
+    }
+
+    // Reads what the program writes, and waits for its end.
+    fn read_child(&self, child: &mut Child<R::Started>, wanted: usize) -> io::Result<Answer>
         ensures status { IfOk result (λ answer. answer.status ≤ 256) }
         ensures output { IfOk result (λ answer. length answer.output.items ≤ wanted) }
     {
-        let mut command = command_of(self.rt.alloc(), words, place)?;
-        command.stdout(Stdio::piped());
-        let mut child = command.spawn(&self.rt)?;
         let mut output = Vec::new(self.rt.alloc());
         let read = match child.stdout.take() {
             Some(mut stdout) => read_some(&mut stdout, &mut output, wanted),
@@ -110,6 +114,15 @@ impl<R: Files + Processes + AllocGlobal + Drop> RealSpawner<R> {
         let status = status_of(child.wait()?);
         read?;
         Ok(Answer { status, output })
+    }
+
+    // Runs the program to its end, with this file as a last word, if there is one.
+    fn read_words(&self, words: &[String], place: Option<&str>, wanted: usize) -> io::Result<Answer>
+        ensures status { IfOk result (λ answer. answer.status ≤ 256) }
+        ensures output { IfOk result (λ answer. length answer.output.items ≤ wanted) }
+    {
+        let mut child = self.start(words, place)?;
+        self.read_child(&mut child, wanted)
     }
 
     // The same, with the input in a file that is taken away afterwards.

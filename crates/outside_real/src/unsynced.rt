@@ -107,6 +107,21 @@ impl Unsynced {
         }
     }
 
+    // Puts the place down. At an error it is still to be synced, or it is broken.
+    fn sync_place(&mut self, files: &impl Files, place: String, entry: Entry) -> io::Result<()> {
+        match put_down(files, place.as_str(), &entry) {
+            Ok(true) => Ok(()),
+            Ok(false) => {
+                self.lose(place, entry);
+                Err(io::Error::from(io::ErrorKind::Other))
+            }
+            Err(e) => {
+                self.put_back(place, entry);
+                Err(e)
+            }
+        }
+    }
+
     /// Puts each place down. An error is the first one of the system; what isn't on the disk then is still to be synced,
     /// or it is broken.
     pub fn sync(&mut self, files: &impl Files) -> io::Result<()> {
@@ -114,17 +129,7 @@ impl Unsynced {
             let Some((place, entry)) = self.entries.pop_first() else {
                 break;
             };
-            match put_down(files, place.as_str(), &entry) {
-                Ok(true) => {}
-                Ok(false) => {
-                    self.lose(place, entry);
-                    return Err(io::Error::from(io::ErrorKind::Other));
-                }
-                Err(e) => {
-                    self.put_back(place, entry);
-                    return Err(e);
-                }
-            }
+            self.sync_place(files, place, entry)?;
         }
         Ok(())
     }

@@ -1,5 +1,5 @@
 //! What lies below real folders.
-use crate::places::{Standing, look};
+use crate::places::{KEPT, Standing, look};
 use std::alloc::{AllocError, Global};
 use std::rt::Files;
 use std::{fs, io};
@@ -59,6 +59,33 @@ impl Walk {
             let folder = String::from_str(rt.alloc(), folder.as_str())?;
             self.add_entries(rt, folder.as_str())?;
         }
+        Ok(())
+    }
+
+    // Adds what stands at this place below the root.
+    fn add_below<R: Files + AllocGlobal>(
+        &mut self,
+        rt: &R,
+        root: &str,
+        below: &str,
+    ) -> io::Result<()> {
+        let mut place = String::from_str(rt.alloc(), root)?;
+        place.push_str(below)?;
+        self.add(rt, place)
+    }
+
+    /// Adds all that earlier programs may have left below the root, and the root itself.
+    pub fn go_kept<R: Files + AllocGlobal + Clone + Drop>(
+        &mut self,
+        rt: &R,
+        root: &str,
+    ) -> io::Result<()> {
+        for below in KEPT {
+            self.add_below(rt, root, below)?;
+        }
+        self.go(rt)?;
+        let root = String::from_str(rt.alloc(), root)?;
+        self.folders.push(root).map_err(AllocError::from)?;
         Ok(())
     }
 }

@@ -1,9 +1,9 @@
 -- The change that commits a transaction.
-use Rattle.std.proofs.Common.{◌≡◌, ◌≢◌, ◌++◌, ◌⊎◌, inl, inr, ◌&&◌, ◌||◌, ℕ, List, [], ◌∷◌, slice_index_or, Option, Some, None, IsSome, is_some, Bool, true, false, not, cond, map, filter, refl, sym, ◌∙◌, ap, subst}
+use Rattle.std.proofs.Common.{◌≡◌, ◌≢◌, ◌++◌, ◌⊎◌, inl, inr, ◌&&◌, ◌||◌, ℕ, List, [], ◌∷◌, slice_index_or, Option, Some, None, IsSome, is_some, Bool, true, false, not, cond, map, filter, refl, sym, ◌∙◌, ap, subst, append_assoc}
 use Rattle.std.specs.Prelude.{All, IsTrue, fold}
 use Rattle.std.specs.Ordering.{eq_by_cmp}
 use Rattle.std.specs.Cmp.{eq_by_cmp_equiv}
-use Rattle.std.specs.List.{list_all}
+use Rattle.std.specs.List.{list_all, list_any}
 use Rattle.std.specs.Option.{option_to_list}
 use Rattle.std.specs.FinMap.{FinMap, get, remove, entries, find, get-insert, get-remove, get-entries, is_sorted, contains_key-keys}
 use Rattle.std.specs.FinMap.Entries.{below_all}
@@ -28,7 +28,7 @@ use Rattle.settings_tree.specs.declared.entry.Owed.{Owed}
 use Rattle.settings_tree.specs.declared.held.Held.{Held}
 use Rattle.settings_tree.proofs.LaidAt.{laid-append, weak_set}
 use Rattle.pending_tx.specs.Changes.{Tells, NamesOnlyChanges}
-use Rattle.pending_tx.specs.Entries.{live_entry}
+use Rattle.pending_tx.specs.Entries.{live_entry, CommitAdds}
 use Rattle.settings_maps.specs.KeyList.{has_key, without_keys}
 use Rattle.pending_tx.specs.Transactions.{committed, changes_of, changed_keys, keys_of, differs, with_pending, owing, FitLive}
 use Rattle.pending_tx.proofs.Changing.{all_live_change, all_gone_change, owed_changes, weak_changes}
@@ -252,30 +252,42 @@ pub record CommitsTo (h : Held) (tx : List ℕ) (weak_part : Option Entry) (es :
   pub changes : NamesOnlyChanges h es
 
 -- The entries that were added part by part.
-pub commit_made : (h : Held) (tx : List ℕ) (owed_part weak_part : Option Entry) (ks changed weak : List (List (List ℕ))) (changes : List (List (List ℕ) × Pending)) (none first second third all : List Entry)
-    → IsPending h.pending → IsContent h.live → ks ≡ keys_of h tx → changes ≡ changes_of h tx → changed ≡ changed_keys h tx → weak ≡ h.live.weak
-    → Tells owed_part OwedSet h.owed (owing h.owed changed) → Tells weak_part WeakIs weak (without_keys weak ks)
-    → none ≡ [] → first ≡ none ++ map (λ e. live_entry e.0 e.1) changes → second ≡ first ++ map (λ k. PendGone tx k) ks → third ≡ second ++ option_to_list owed_part → all ≡ third ++ option_to_list weak_part
-    → CommitsTo h tx weak_part all
-commit_made h tx owed_part weak_part ks changed weak changes none first second third all valid content is_keys is_changes is_changed is_weak owed_tells weak_tells is_none is_first is_second is_third is_all =
-    subst (CommitsTo h tx weak_part) (sym whole) (record {
-      once = commit_once h tx owed_part weak_part to_owe to_weaken;
-      bare = commit_bare h tx owed_part weak_part to_owe to_weaken;
-      gives = commit_laid h tx owed_part weak_part to_owe to_weaken valid;
-      rule = commit_rule h tx owed_part weak_part to_owe to_weaken valid;
-      weak = commit_weak h tx owed_part weak_part to_owe to_weaken valid content;
-      told = commit_told h tx owed_part weak_part to_owe to_weaken;
-      strong = commit_strong h tx owed_part weak_part to_owe to_weaken;
-      changes = commit_changes h tx owed_part weak_part to_owe to_weaken;
+pub adds_made : (h : Held) (tx : List ℕ) (owed_part weak_part : Option Entry) (ks changed weak : List (List (List ℕ))) (changes : List (List (List ℕ) × Pending)) (old first second third all : List Entry)
+    → ks ≡ keys_of h tx → changes ≡ changes_of h tx → changed ≡ changed_keys h tx → weak ≡ h.live.weak
+    → Tells owed_part OwedSet h.owed (owing h.owed changed) → Tells weak_part WeakIs weak (without_keys weak ks) → is_some weak_part ≡ list_any (has_key weak) ks
+    → first ≡ old ++ map (λ e. live_entry e.0 e.1) changes → second ≡ first ++ map (λ k. PendGone tx k) ks → third ≡ second ++ option_to_list owed_part → all ≡ third ++ option_to_list weak_part
+    → CommitAdds h tx old all
+adds_made h tx owed_part weak_part ks changed weak changes old first second third all is_keys is_changes is_changed is_weak owed_tells weak_tells is_strong is_first is_second is_third is_all =
+    let lives = map (λ (e : Key × Pending). live_entry e.0 e.1) (changes_of h tx) in
+    let ends = map (λ (k : Key). PendGone tx k) (keys_of h tx) in
+    let owed_list = option_to_list owed_part in
+    let weak_list = option_to_list weak_part in
+    record {
+      owed_part = owed_part;
+      weak_part = weak_part;
+      owed = subst (λ (l : List Key). Tells owed_part OwedSet h.owed (owing h.owed l)) is_changed owed_tells;
+      weak = subst (λ (l : List Key). Tells weak_part WeakIs l (without_keys l (keys_of h tx))) is_weak (subst (λ (l : List Key). Tells weak_part WeakIs weak (without_keys weak l)) is_keys weak_tells);
+      strong = is_strong ∙ ap (λ (l : List Key). list_any (has_key l) ks) is_weak ∙ ap (list_any (has_key h.live.weak)) is_keys;
+      added = is_all ∙ ap (λ (l : List Entry). l ++ weak_list) (is_third ∙ ap (λ (l : List Entry). l ++ owed_list) (is_second
+          ∙ ap (λ (l : List Entry). l ++ map (λ k. PendGone tx k) ks) (is_first ∙ ap (λ (l : List (Key × Pending)). old ++ map (λ (e : Key × Pending). live_entry e.0 e.1) l) is_changes)
+          ∙ ap (λ (l : List Key). (old ++ lives) ++ map (λ k. PendGone tx k) l) is_keys ∙ append_assoc old lives ends)
+          ∙ append_assoc old (lives ++ ends) owed_list)
+          ∙ append_assoc old (lives ++ ends ++ owed_list) weak_list;
+    }
+
+-- The entries of a commit, added to none, commit the transaction.
+pub commit_made : (h : Held) (tx : List ℕ) (none all : List Entry) → IsPending h.pending → IsContent h.live → none ≡ [] → (p : CommitAdds h tx none all) → CommitsTo h tx p.weak_part all
+commit_made h tx none all valid content is_none p =
+    subst (CommitsTo h tx p.weak_part) (sym whole) (record {
+      once = commit_once h tx p.owed_part p.weak_part p.owed p.weak;
+      bare = commit_bare h tx p.owed_part p.weak_part p.owed p.weak;
+      gives = commit_laid h tx p.owed_part p.weak_part p.owed p.weak valid;
+      rule = commit_rule h tx p.owed_part p.weak_part p.owed p.weak valid;
+      weak = commit_weak h tx p.owed_part p.weak_part p.owed p.weak valid content;
+      told = commit_told h tx p.owed_part p.weak_part p.owed p.weak;
+      strong = commit_strong h tx p.owed_part p.weak_part p.owed p.weak;
+      changes = commit_changes h tx p.owed_part p.weak_part p.owed p.weak;
     })
   where
-    to_owe : Tells owed_part OwedSet h.owed (owing h.owed (changed_keys h tx))
-    to_owe = subst (λ (l : List Key). Tells owed_part OwedSet h.owed (owing h.owed l)) is_changed owed_tells
-
-    to_weaken : Tells weak_part WeakIs h.live.weak (without_keys h.live.weak (keys_of h tx))
-    to_weaken = subst (λ (l : List Key). Tells weak_part WeakIs l (without_keys l (keys_of h tx))) is_weak (subst (λ (l : List Key). Tells weak_part WeakIs weak (without_keys weak l)) is_keys weak_tells)
-
-    whole : all ≡ map (λ e. live_entry e.0 e.1) (changes_of h tx) ++ map (λ k. PendGone tx k) (keys_of h tx) ++ option_to_list owed_part ++ option_to_list weak_part
-    whole = is_all ∙ ap (λ (l : List Entry). l ++ option_to_list weak_part) (is_third ∙ ap (λ (l : List Entry). l ++ option_to_list owed_part) (is_second
-        ∙ ap (λ (l : List Entry). l ++ map (λ k. PendGone tx k) ks) (is_first ∙ ap (λ (l : List Entry). l ++ map (λ e. live_entry e.0 e.1) changes) is_none ∙ ap (map (λ (e : Key × Pending). live_entry e.0 e.1)) is_changes)
-        ∙ ap (λ (l : List Key). map (λ (e : Key × Pending). live_entry e.0 e.1) (changes_of h tx) ++ map (λ k. PendGone tx k) l) is_keys))
+    whole : all ≡ commit_entries h tx p.owed_part p.weak_part p.owed p.weak
+    whole = p.added ∙ ap (λ (l : List Entry). l ++ commit_entries h tx p.owed_part p.weak_part p.owed p.weak) is_none

@@ -1,14 +1,18 @@
 -- The entries of which the calls make their changes.
-use Rattle.std.specs.Prelude.{ℕ, Bool, false, not, List, [], ◌∷◌, Option, Some, None, filter, map, if◌then◌else◌}
+use Rattle.std.specs.Prelude.{◌≡◌, ℕ, Bool, false, not, List, [], ◌∷◌, ◌++◌, Option, Some, None, is_some, filter, map, if◌then◌else◌}
+use Rattle.std.specs.List.{list_any}
+use Rattle.std.specs.Option.{option_to_list}
 use Rattle.std.specs.FinMap.{entries}
 use Rattle.json_trees.specs.Equal.{pending_eq}
 use Rattle.json_trees.specs.declared.pending.Pending.{Pending}
 use Rattle.json_trees.specs.declared.pending.Pending.TheVariants.{Put, Gone}
+use Rattle.settings_maps.specs.KeyList.{has_key, without_keys}
 use Rattle.settings_maps.specs.Maps.{value_at}
 use Rattle.settings_tree.specs.declared.entry.Entry.{Entry}
-use Rattle.settings_tree.specs.declared.entry.Entry.TheVariants.{LiveSet, LiveGone, PendSet}
+use Rattle.settings_tree.specs.declared.entry.Entry.TheVariants.{LiveSet, LiveGone, PendSet, PendGone, OwedSet, WeakIs}
 use Rattle.settings_tree.specs.declared.held.Held.{Held}
-use Rattle.pending_tx.specs.Transactions.{last_of}
+use Rattle.pending_tx.specs.Changes.{Tells}
+use Rattle.pending_tx.specs.Transactions.{last_of, changes_of, changed_keys, keys_of, owing}
 
 -- The entry that lays what is pending for a key over its live value.
 abbrev pub live_entry : List (List ℕ) → Pending → Entry
@@ -31,3 +35,13 @@ pend_entry h tx k v = if is_new h tx k v then PendSet tx k v ∷ [] else []
 -- The entries that lay the last pair of each key over the transaction.
 abbrev pub patch_entries : Held → List ℕ → List (List (List ℕ) × Pending) → List Entry
 patch_entries h tx pairs = map (λ e. PendSet tx e.0 e.1) (filter (λ e. is_new h tx e.0 e.1) (entries (last_of pairs)))
+
+-- What a commit adds to some entries: those for the live values, those that end the transaction, and one for the owed and one for the weak keys where these change.
+pub record CommitAdds (h : Held) (tx : List ℕ) (old new : List Entry) : Type 0 where
+  pub owed_part : Option Entry
+  pub weak_part : Option Entry
+  pub owed : Tells owed_part OwedSet h.owed (owing h.owed (changed_keys h tx))
+  pub weak : Tells weak_part WeakIs h.live.weak (without_keys h.live.weak (keys_of h tx))
+  pub strong : is_some weak_part ≡ list_any (has_key h.live.weak) (keys_of h tx)
+  pub added : new
+      ≡ old ++ (map (λ e. live_entry e.0 e.1) (changes_of h tx) ++ map (λ k. PendGone tx k) (keys_of h tx) ++ option_to_list owed_part ++ option_to_list weak_part)

@@ -5,9 +5,11 @@ ghost use Rattle.std.specs.Option.{option_to_list};
 ghost use Rattle.std.specs.FinMap.{get};
 ghost use Rattle.settings_tree.specs.Change.{TheWeak, is_unnamed};
 ghost use Rattle.settings_tree.specs.Laid.{laid, KeepsPrefixRule, NamesWeak, TellsWeak};
+ghost use Rattle.settings_tree.specs.Content.{IsContent};
 ghost use Rattle.pending_tx.specs.Changes.{NamesOnlyChanges};
+ghost use Rattle.pending_tx.specs.Entries.{CommitAdds};
 ghost use Rattle.settings_maps.specs.KeyList.{has_key};
-ghost use Rattle.pending_tx.specs.Transactions.{changed_keys, committed, keys_of, FitLive};
+ghost use Rattle.pending_tx.specs.Transactions.{changed_keys, changes_of, committed, keys_of, FitLive};
 ghost use Rattle.pending_tx.specs.declared.answers.CommitError.TheVariants.{NoPending};
 
 use crate::answers::{Commit, CommitError};
@@ -15,7 +17,8 @@ use crate::ending::end;
 use crate::live_changes::{changed_keys, changes_of, set_live};
 use crate::owing::{owed_entry, weak_entry};
 use crate::reading::{has_tx, keys_of};
-use settings_tree::{Change, Entry, Held, TxName};
+use key_names::Key;
+use settings_tree::{Change, Entry, Held, KeyList, Pending, TxName};
 use std::alloc::{AllocError, Global};
 
 fn push_some(entries: &mut Vec<Entry>, entry: Option<Entry>) -> Result<(), AllocError>
@@ -27,6 +30,29 @@ fn push_some(entries: &mut Vec<Entry>, entry: Option<Entry>) -> Result<(), Alloc
     Ok(())
 }
 
+// Adds the entries of the commit: those that lay the changes over the live values and end the
+// transaction, and one for the owed and one for the weak keys where these change.
+fn push_commit(
+    entries: &mut Vec<Entry>,
+    held: &Held,
+    tx: &TxName,
+    keys: &KeyList,
+    changed: &KeyList,
+    changes: Vec<(Key, Pending)>,
+) -> Result<(), AllocError>
+    requires keys { keys.now ≡ keys_of held.now tx.now }
+    requires changed { changed.now ≡ changed_keys held.now tx.now }
+    requires changes { changes.items ≡ changes_of held.now tx.now }
+    ensures added { OnOk result (CommitAdds held.now tx.now entries.old.items entries.new.items) }
+    ensures valid { OnOk result (IsContent held.now.live) }
+{
+    set_live(entries, changes)?;
+    end(entries, tx, keys)?;
+    push_some(entries, owed_entry(&held.owed, changed)?)?;
+    push_some(entries, weak_entry(held.live.weak(), keys)?)
+}
+
+// The commit of a transaction that there is.
 fn commit_pending(alloc: Global, held: &Held, tx: &TxName) -> Result<Commit, AllocError>
     ensures keys { IfOk result (λ c. c.keys ≡ keys_of held.now tx.now) }
     ensures changed { IfOk result (λ c. c.changed ≡ changed_keys held.now tx.now) }
@@ -41,10 +67,7 @@ fn commit_pending(alloc: Global, held: &Held, tx: &TxName) -> Result<Commit, All
     let changes = changes_of(alloc, held, tx)?;
     let changed = changed_keys(alloc, &changes)?;
     let mut entries = Vec::new(alloc);
-    set_live(&mut entries, changes)?;
-    end(&mut entries, tx, &keys)?;
-    push_some(&mut entries, owed_entry(&held.owed, &changed)?)?;
-    push_some(&mut entries, weak_entry(held.live.weak(), &keys)?)?;
+    push_commit(&mut entries, held, tx, &keys, &changed, changes)?;
     let change = Change::of(entries);
     Ok(Commit {
         keys,

@@ -1,3 +1,4 @@
+pub mod Answered
 pub mod BTreeMaps
 pub mod BareNames
 pub mod CopiedMaps

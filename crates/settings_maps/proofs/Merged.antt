@@ -1,5 +1,5 @@
 -- Two rising lists of keys, merged.
-use Rattle.std.proofs.Common.{◌≡◌, ℕ, List, [], ◌∷◌, ◌||◌, Bool, true, false, refl, sym, ◌∙◌, ap, subst}
+use Rattle.std.proofs.Common.{arith, ◌≡◌, ◌<◌, ◌⊎◌, inl, inr, ℕ, List, [], ◌∷◌, ◌++◌, length, drop, slice_index_or, ◌||◌, Bool, true, false, refl, sym, ◌∙◌, ap, subst, append-nil, append_assoc}
 use Rattle.std.specs.declared.cmp.Ordering.{Ordering}
 use Rattle.std.specs.declared.cmp.Ordering.TheVariants.{Less, Equal, Greater}
 use Rattle.std.specs.Ordering.{eq_by_cmp, ordering_reverse, match_ordering}
@@ -7,7 +7,7 @@ use Rattle.std.specs.List.{AllByRecursion}
 use Rattle.std.specs.List.Sorted.{IsStrictlySortedBy}
 use Rattle.std.specs.Set.{merge_step}
 use Rattle.key_names.specs.Order.{key_cmp, key_total, key_cmp-IsAntisymmetric}
-use Rattle.settings_maps.specs.KeyList.{IsRising, has_key, joined}
+use Rattle.settings_maps.specs.KeyList.{IsRising, IsLeastOf, has_key, joined}
 
 abbrev Keys : Type 0
 Keys = List (List (List ℕ))
@@ -49,6 +49,55 @@ pub merged_rises : (xs ys : List (List (List ℕ))) → IsRising xs → IsRising
 unfolding IsStrictlySortedBy
 merged_rises [] ys first second = second
 merged_rises (x ∷ xs) ys first second = step_rises x xs first (λ zs rises. merged_rises xs zs first.1 rises) ys second
+
+joined_by : (a b x y : List (List ℕ)) (one two : Keys) (r : Ordering) → x ≡ a → y ≡ b → key_cmp x y ≡ r → joined (a ∷ one) (b ∷ two) ≡ match_ordering r (a ∷ joined one (b ∷ two)) (a ∷ joined one two) (b ∷ joined (a ∷ one) two)
+joined_by a b x y one two r first second is = ap (λ s. match_ordering s (a ∷ joined one (b ∷ two)) (a ∷ joined one two) (b ∷ joined (a ∷ one) two)) (ap (λ z. key_cmp z b) (sym first) ∙ ap (key_cmp x) (sym second) ∙ is)
+
+-- The order of the two first keys tells which is the first of both lists merged, and what is left of each.
+pub least_less : (one two : List (List (List ℕ))) (x y k : List (List ℕ)) → 0 < length one → 0 < length two → x ≡ slice_index_or one 0 x → y ≡ slice_index_or two 0 y → k ≡ slice_index_or one 0 k → key_cmp x y ≡ Less → IsLeastOf one two k 1 0
+least_less [] two x y k some others first second here is = absurd (omega arith)
+least_less (a ∷ one) [] x y k some others first second here is = absurd (omega arith)
+least_less (a ∷ one) (b ∷ two) x y k some others first second here is = record {
+  in_first = omega arith;
+  in_second = omega arith;
+  some = omega arith;
+  least = joined_by a b x y one two Less first second is ∙ ap (λ (z : List (List ℕ)). z ∷ joined one (b ∷ two)) (sym here);
+}
+
+pub least_equal : (one two : List (List (List ℕ))) (x y k : List (List ℕ)) → 0 < length one → 0 < length two → x ≡ slice_index_or one 0 x → y ≡ slice_index_or two 0 y → k ≡ slice_index_or one 0 k → key_cmp x y ≡ Equal → IsLeastOf one two k 1 1
+least_equal [] two x y k some others first second here is = absurd (omega arith)
+least_equal (a ∷ one) [] x y k some others first second here is = absurd (omega arith)
+least_equal (a ∷ one) (b ∷ two) x y k some others first second here is = record {
+  in_first = omega arith;
+  in_second = omega arith;
+  some = omega arith;
+  least = joined_by a b x y one two Equal first second is ∙ ap (λ (z : List (List ℕ)). z ∷ joined one two) (sym here);
+}
+
+pub least_greater : (one two : List (List (List ℕ))) (x y k : List (List ℕ)) → 0 < length one → 0 < length two → x ≡ slice_index_or one 0 x → y ≡ slice_index_or two 0 y → k ≡ slice_index_or two 0 k → key_cmp x y ≡ Greater → IsLeastOf one two k 0 1
+least_greater [] two x y k some others first second here is = absurd (omega arith)
+least_greater (a ∷ one) [] x y k some others first second here is = absurd (omega arith)
+least_greater (a ∷ one) (b ∷ two) x y k some others first second here is = record {
+  in_first = omega arith;
+  in_second = omega arith;
+  some = omega arith;
+  least = joined_by a b x y one two Greater first second is ∙ ap (λ (z : List (List ℕ)). z ∷ joined (a ∷ one) two) (sym here);
+}
+
+-- The key that comes first is appended, and what is left of both lists is to be merged behind it.
+pub least_pushed : (done now one two ones twos whole : List (List (List ℕ))) (k : List (List ℕ)) (first second : ℕ) → now ≡ done ++ k ∷ [] → IsLeastOf one two k first second → ones ≡ drop first one → twos ≡ drop second two → done ++ joined one two ≡ whole → now ++ joined ones twos ≡ whole
+least_pushed done now one two ones twos whole k first second pushed least left right is =
+    ap (λ (l : Keys). l ++ joined ones twos) pushed ∙ append_assoc done (k ∷ []) (joined ones twos) ∙ ap (λ (l : Keys). done ++ k ∷ l) (ap (λ (l : Keys). joined l twos) left ∙ ap (joined (drop first one)) right)
+    ∙ sym (ap (λ (l : Keys). done ++ l) least.least) ∙ is
+
+alone : (xs : Keys) → joined xs [] ≡ xs
+alone [] = refl
+alone (x ∷ xs) = refl
+
+-- Where one list is used up, what is left of the other is both merged.
+pub rest_merged : (all done both xs ys : List (List (List ℕ))) → (xs ≡ []) ⊎ (ys ≡ []) → both ≡ (done ++ xs) ++ ys → done ++ joined xs ys ≡ all → both ≡ all
+rest_merged all done both xs ys (inl none) pushed whole = pushed ∙ ap (λ (l : Keys). (done ++ l) ++ ys) none ∙ ap (λ (l : Keys). l ++ ys) (append-nil done) ∙ sym (ap (λ (l : Keys). done ++ joined l ys) none) ∙ whole
+rest_merged all done both xs ys (inr none) pushed whole = pushed ∙ ap (λ (l : Keys). (done ++ xs) ++ l) none ∙ append-nil (done ++ xs) ∙ sym (ap (λ (l : Keys). done ++ joined xs l) none ∙ ap (λ (l : Keys). done ++ l) (alone xs)) ∙ whole
 
 module _ (k : List (List ℕ)) where
   or_none : (b : Bool) → b ≡ (b || false)

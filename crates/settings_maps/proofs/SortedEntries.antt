@@ -302,4 +302,6 @@ no_name es list v after i seen rises is place past_end = record { none = λ q pa
     ahead : (j : ℕ) × (j < length es) × ((d : List ℕ × Scalar) → (slice_index_or es j d).0 ≡ q) → ⊥
     ahead (j, within, here) = (subst (λ (l : Named). IsPlaceAfter l after i) is place).parts.0 j (q, y) (omega arith) (omega arith) (subst (IsPast bytes_cmp after) (sym (here (q, y))) past)
 
+pub ruleset puts = (rises_found, rises_missing, insert_found, insert_missing)
+
 pub ruleset sorted_entries = (names_empty, none_rise, names_is_empty, rises_found, rises_missing, rises_removed, get_found, get_missing, insert_found, insert_missing, remove_found, remove_missing, place_missing, place_first, least_name, no_name)

@@ -1,5 +1,5 @@
 -- Rising lists of keys, as lists and as sets.
-use Rattle.std.specs.Prelude.{ℕ, Bool, true, List, not, filter}
+use Rattle.std.specs.Prelude.{◌≡◌, ◌<◌, ◌≤◌, ◌+◌, ℕ, Bool, true, List, ◌∷◌, length, drop, not, filter}
 use Rattle.std.specs.List.{list_any}
 use Rattle.std.specs.Ordering.{eq_by_cmp}
 use Rattle.std.specs.Set.{sorted_merge}
@@ -25,3 +25,10 @@ without_keys keys others = filter (λ k. not (has_key others k)) keys
 -- The keys of either of two rising lists, rising.
 abbrev pub joined : List (List (List ℕ)) → List (List (List ℕ)) → List (List (List ℕ))
 joined one two = sorted_merge key_cmp true one two
+
+-- The key is the first of both lists joined, and the rest is joined of what these numbers of keys leave of each.
+pub record IsLeastOf (one two : List (List (List ℕ))) (key : List (List ℕ)) (first second : ℕ) : Type 0 where
+  pub in_first : first ≤ length one
+  pub in_second : second ≤ length two
+  pub some : 0 < first + second
+  pub least : joined one two ≡ key ∷ joined (drop first one) (drop second two)

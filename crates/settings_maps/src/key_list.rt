@@ -1,5 +1,5 @@
 //! Lists of keys that rise.
-ghost use Rattle.std.specs.Prelude.{◌≡◌, ◌↔◌, [], IfOk, IsTrue};
+ghost use Rattle.std.specs.Prelude.{◌≡◌, ◌↔◌, ◌++◌, ◌∷◌, [], IfOk, OnOk, IsTrue};
 ghost use Rattle.std.specs.List.{list_all, list_any};
 ghost use Rattle.settings_maps.specs.KeyList.{IsRising, has_key, without_key};
 
@@ -30,10 +30,26 @@ pub fn copy_keys(alloc: Global, keys: &[Key]) -> Result<Vec<Key>, AllocError>
     ensures { IfOk result (λ copies. copies.items ≡ keys.now) }
 {
     let mut copies = Vec::new(alloc);
-    for key in keys {
-        copies.push(key.copy()?)?;
-    }
+    push_copies(&mut copies, keys)?;
     Ok(copies)
+}
+
+/// Appends a copy of the key.
+pub(crate) fn push_copy(all: &mut Vec<Key>, key: &Key) -> Result<(), AllocError>
+    ensures { OnOk result (all.new.items ≡ all.old.items ++ key.now ∷ []) }
+{
+    all.push(key.copy()?)?;
+    Ok(())
+}
+
+/// Appends copies of the keys, in their order.
+pub(crate) fn push_copies(all: &mut Vec<Key>, keys: &[Key]) -> Result<(), AllocError>
+    ensures { OnOk result (all.new.items ≡ all.old.items ++ keys.now) }
+{
+    for key in keys {
+        push_copy(all, key)?;
+    }
+    Ok(())
 }
 
 fn has_key(keys: &[Key], key: &Key) -> bool

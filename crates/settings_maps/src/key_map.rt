@@ -64,8 +64,7 @@ impl<V: Drop> KeyMap<V> {
         ensures err { OnErr result (self.new ≡ self.old) }
         ensures absent { OnErr result (map.get self.old key ≡ None) }
     {
-        self.map.insert(key, value)?;
-        Ok(())
+        tree_maps::put(&mut self.map, key, value)
     }
 
     /// Puts the value over the one that stands at the key. It is logarithmic and takes no memory.
@@ -73,7 +72,7 @@ impl<V: Drop> KeyMap<V> {
         requires { IsSome (map.get self.old key) }
         ensures { self.new ≡ map.insert self.old key value }
     {
-        let put: Result<_, _> = self.map.insert(key, value);
+        let put: Result<_, _> = tree_maps::put(&mut self.map, key, value);
         put.unwrap();
     }
 

@@ -1,47 +1,43 @@
 //! Rising lists of keys, as sets.
-ghost use Rattle.std.specs.Prelude.{◌≡◌, ◌++◌, IfOk, OnOk};
-ghost use Rattle.settings_maps.specs.KeyList.{joined, without_keys};
+ghost use Rattle.std.specs.Prelude.{◌≡◌, ◌++◌, ◌<◌, length, IfOk, OnOk};
+ghost use Rattle.settings_maps.specs.KeyList.{IsLeastOf, joined, without_keys};
 
 use crate::KeyList;
+use crate::key_list::{push_copies, push_copy};
 use key_names::Key;
-use std::alloc::{AllocError, Global};
+use std::alloc::AllocError;
 use std::cmp::Ordering;
 
-fn push_copies(all: &mut Vec<Key>, keys: &[Key]) -> Result<(), AllocError>
-    ensures { OnOk result (all.new.items ≡ all.old.items ++ keys.now) }
+// The lesser of the two first keys, with how many keys of each list are done with once it is taken: two
+// that are equal are taken as one.
+fn least_of<'a>(one: &'a [Key], two: &'a [Key]) -> (&'a Key, usize, usize)
+    requires first { 0 < length one.now }
+    requires second { 0 < length two.now }
+    ensures { IsLeastOf one.now two.now result.0.now result.1 result.2 }
 {
-    for key in keys {
-        all.push(key.copy()?)?;
+    match one[0].cmp(&two[0]) {
+        Ordering::Less => (&one[0], 1, 0),
+        Ordering::Equal => (&one[0], 1, 1),
+        Ordering::Greater => (&two[0], 0, 1),
     }
-    Ok(())
 }
 
-fn merge(alloc: Global, one: &[Key], two: &[Key]) -> Result<Vec<Key>, AllocError>
-    ensures { IfOk result (λ all. all.items ≡ joined one.now two.now) }
+// Appends copies of the keys of either list, which rise.
+fn push_joined(all: &mut Vec<Key>, one: &[Key], two: &[Key]) -> Result<(), AllocError>
+    ensures { OnOk result (all.new.items ≡ all.old.items ++ joined one.now two.now) }
 {
-    let mut all = Vec::new(alloc);
-    let mut i = 0;
-    let mut j = 0;
-    while i < one.len() && j < two.len() {
-        match one[i].cmp(&two[j]) {
-            Ordering::Less => {
-                all.push(one[i].copy()?)?;
-                i += 1;
-            }
-            Ordering::Equal => {
-                all.push(one[i].copy()?)?;
-                i += 1;
-                j += 1;
-            }
-            Ordering::Greater => {
-                all.push(two[j].copy()?)?;
-                j += 1;
-            }
-        }
+    let mut one = one;
+    let mut two = two;
+    while !one.is_empty() && !two.is_empty() {
+        let (least, first, second) = least_of(one, two);
+        push_copy(all, least)?;
+        let (_, ones) = one.split_at(first);
+        let (_, twos) = two.split_at(second);
+        one = ones;
+        two = twos;
     }
-    push_copies(&mut all, &one[i..])?;
-    push_copies(&mut all, &two[j..])?;
-    Ok(all)
+    push_copies(all, one)?;
+    push_copies(all, two)
 }
 
 impl KeyList {
@@ -53,7 +49,7 @@ impl KeyList {
         let mut rest = Vec::new(self.allocator());
         for key in self.as_slice() {
             if !others.contains(key) {
-                rest.push(key.copy()?)?;
+                push_copy(&mut rest, key)?;
             }
         }
         Ok(KeyList::of(rest))
@@ -64,7 +60,8 @@ impl KeyList {
     pub fn joined(&self, others: &KeyList) -> Result<KeyList, AllocError>
         ensures { IfOk result (λ all. all ≡ joined self.now others.now) }
     {
-        let all = merge(self.allocator(), self.as_slice(), others.as_slice())?;
+        let mut all = Vec::new(self.allocator());
+        push_joined(&mut all, self.as_slice(), others.as_slice())?;
         Ok(KeyList::of(all))
     }
 }

@@ -74,8 +74,7 @@ impl Metadata {
     {
         let mut names = NamedValues::new(self.alloc);
         names.put(name, value)?;
-        self.map.insert(key, names)?;
-        Ok(())
+        tree_maps::put(&mut self.map, key, names)
     }
 
     /// Puts the value at the key and the name, over the one that stands there if there is one. The

@@ -1,5 +1,5 @@
 //! Values by name.
-ghost use Rattle.std.specs.Prelude.{◌≡◌, ◌≤◌, IsTrue, IfOk, IfErr, IfSome, IfNone, OnOk, OnErr, IsSome, Some, None, length};
+ghost use Rattle.std.specs.Prelude.{◌≡◌, ◌<◌, ◌≤◌, IsTrue, IfOk, IfErr, IfSome, IfNone, OnOk, OnErr, IsSome, Some, None, length, slice_set};
 ghost use Rattle.std.specs.Option.{option_copied};
 ghost use Rattle.std.specs.FinMap as map;
 ghost use Rattle.key_names.specs.Order.{bytes_cmp};
@@ -68,6 +68,14 @@ fn place_after(entries: &[(Text, Scalar)], after: Option<&[u8]>) -> usize
     }
 }
 
+// Puts the entry at the index, over the one that stands there.
+fn set_entry(entries: &mut Vec<(Text, Scalar)>, index: usize, name: Text, value: Scalar)
+    requires { index < length entries.old.items }
+    ensures { entries.new.items ≡ slice_set entries.old.items index (name, value) }
+{
+    entries[index] = (name, value);
+}
+
 fn copy_entries(
     alloc: Global,
     entries: &[(Text, Scalar)],
@@ -111,6 +119,7 @@ impl NamedValues {
 
     /// Puts the value under the name, over the one that stands there if there is one. The only error
     /// is want of memory, which comes only at a name that the map lacks, and leaves the map unchanged.
+    #[tactic(auto, using(crate::proofs::SortedEntries::puts))]
     pub fn put(&mut self, name: Text, value: Scalar) -> Result<(), AllocError>
         ensures ok { OnOk result (self.new ≡ map.insert self.old name value) }
         ensures err { OnErr result (self.new ≡ self.old) }
@@ -118,7 +127,7 @@ impl NamedValues {
     {
         match search(&self.entries, name.as_str().as_bytes()) {
             Ok(index) => {
-                self.entries[index] = (name, value);
+                set_entry(&mut self.entries, index, name, value);
                 Ok(())
             }
             Err(index) => {
@@ -143,12 +152,13 @@ impl NamedValues {
     }
 
     /// Puts the value over the one that stands under the name. It takes no memory.
+    #[tactic(auto, using(crate::proofs::SortedEntries::puts))]
     pub fn put_over(&mut self, name: Text, value: Scalar)
         requires { IsSome (map.get self.old name) }
         ensures { self.new ≡ map.insert self.old name value }
     {
         if let Ok(index) = search(&self.entries, name.as_str().as_bytes()) {
-            self.entries[index] = (name, value);
+            set_entry(&mut self.entries, index, name, value);
         }
     }
 

@@ -83,8 +83,7 @@ impl Transactions {
     {
         let mut pending = KeyMap::new(self.alloc);
         pending.put(key, value)?;
-        self.map.insert(tx, pending)?;
-        Ok(())
+        tree_maps::put(&mut self.map, tx, pending)
     }
 
     /// Puts what is pending in the transaction for the key, over what stands there if there is
@@ -171,10 +170,10 @@ impl Transactions {
     {
         if keys.is_empty() {
             self.map.remove(&tx);
+            Ok(())
         } else {
-            self.map.insert(tx, keys)?;
+            tree_maps::put(&mut self.map, tx, keys)
         }
-        Ok(())
     }
 
     /// The entry of the transaction's least key that is greater than `after`, or of its least of all

@@ -1,6 +1,6 @@
 //! Steps through a `BTreeMap`, and copies of one.
-ghost use Rattle.std.specs.Prelude.{◌≡◌, OnOk, IfOk, IfSome, IfNone, Some, None};
-ghost use Rattle.std.specs.BTreeMap.{insert_entry};
+ghost use Rattle.std.specs.Prelude.{◌≡◌, OnOk, OnErr, IfOk, IfSome, IfNone, Some, None};
+ghost use Rattle.std.specs.BTreeMap.{insert_entry, get, Updates, IsUnchanged};
 ghost use Rattle.std.specs.Option.{option_copied};
 ghost use Rattle.std.specs.FinMap.{from_entries};
 ghost use Rattle.settings_maps.specs.Maps.{IsLeastAfter, HasNoneAfter, IsLeastFrom, HasNoneFrom, IsLastBefore, HasNoneBefore};
@@ -30,10 +30,7 @@ fn above<'a, K: Ord, V>(map: &'a BTreeMap<K, V>, key: &K) -> Option<(&'a K, &'a 
     ensures least { IfSome result (λ e. IsLeastAfter {R = K.cmp} (from_entries map.now.entries) (Some key.now) e.0.now e.1.now) }
     ensures none { IfNone result (HasNoneAfter {R = K.cmp} (from_entries map.now.entries) (Some key.now)) }
 {
-    match map.range((Bound::Excluded(key), Bound::Unbounded)).next() {
-        Some(entry) => Some(entry),
-        None => None,
-    }
+    map.range((Bound::Excluded(key), Bound::Unbounded)).next()
 }
 
 /// The entry of the least key past the given one, in logarithmic time. It takes no memory.
@@ -55,10 +52,7 @@ pub(crate) fn next_from<'a, K: Ord, V>(map: &'a BTreeMap<K, V>, key: &K) -> Opti
     ensures least { IfSome result (λ e. IsLeastFrom {R = K.cmp} (from_entries map.now.entries) key.now e.0.now e.1.now) }
     ensures none { IfNone result (HasNoneFrom {R = K.cmp} (from_entries map.now.entries) key.now) }
 {
-    match map.range((Bound::Included(key), Bound::Unbounded)).next() {
-        Some(entry) => Some(entry),
-        None => None,
-    }
+    map.range((Bound::Included(key), Bound::Unbounded)).next()
 }
 
 /// The entry of the greatest key below this one, in logarithmic time. It takes no memory.
@@ -66,13 +60,24 @@ pub(crate) fn last_before<'a, K: Ord, V>(map: &'a BTreeMap<K, V>, key: &K) -> Op
     ensures greatest { IfSome result (λ e. IsLastBefore {R = K.cmp} (from_entries map.now.entries) key.now e.0.now e.1.now) }
     ensures none { IfNone result (HasNoneBefore {R = K.cmp} (from_entries map.now.entries) key.now) }
 {
-    match map
-        .range((Bound::Unbounded, Bound::Excluded(key)))
+    map.range((Bound::Unbounded, Bound::Excluded(key)))
         .next_back()
-    {
-        Some(entry) => Some(entry),
-        None => None,
-    }
+}
+
+/// Puts the value at the key, over the one that stands there if there is one. The only error is want
+/// of memory, which comes only at a key that the map lacks, and leaves the map unchanged.
+pub(crate) fn put<K: Ord + Drop, V: Drop>(
+    map: &mut BTreeMap<K, V>,
+    key: K,
+    value: V,
+) -> Result<(), AllocError>
+    ensures updates { OnOk result (Updates K.cmp map.old map.new key (Some value)) }
+    ensures entries { OnOk result (map.new.entries ≡ insert_entry K.cmp map.old.entries key value) }
+    ensures err { OnErr result (IsUnchanged map.old map.new) }
+    ensures absent { OnErr result (get K.cmp map.old key ≡ None) }
+{
+    map.insert(key, value)?;
+    Ok(())
 }
 
 fn put_copy<K: Ord + Copied, V: Copied>(
@@ -82,8 +87,9 @@ fn put_copy<K: Ord + Copied, V: Copied>(
 ) -> Result<(), AllocError>
     ensures { OnOk result (copies.new.entries ≡ insert_entry K.cmp copies.old.entries key.now value.now) }
 {
-    copies.insert(key.copied()?, value.copied()?)?;
-    Ok(())
+    let key = key.copied()?;
+    let value = value.copied()?;
+    put(copies, key, value)
 }
 
 /// A copy of the entries, each key and value copied.

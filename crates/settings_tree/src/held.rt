@@ -115,11 +115,15 @@ impl Held {
     pub fn copy(&self) -> Result<Held, AllocError>
         ensures { IfOk result (λ copy. copy ≡ self.now) }
     {
+        let image = self.image.copy()?;
+        let owed = self.owed.copy()?;
+        let pending = self.pending.copy()?;
+        let live = self.live.copy()?;
         Ok(Held {
-            live: self.live.copy()?,
-            pending: self.pending.copy()?,
-            owed: self.owed.copy()?,
-            image: self.image.copy()?,
+            live,
+            pending,
+            owed,
+            image,
         })
     }
 }

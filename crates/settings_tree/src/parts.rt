@@ -1,13 +1,15 @@
 //! The parts of what is held, without the rules that join them, and the laying of a change.
-ghost use Rattle.std.specs.Prelude.{◌≡◌, ◌≤◌, ◌++◌, ◌∷◌, [], OnOk, OnErr, IfOk, IsTrue, not, length};
+ghost use Rattle.std.specs.Prelude.{◌≡◌, ◌≤◌, ◌++◌, ◌∷◌, [], OnOk, OnErr, IfOk, IsTrue, false, not, length};
+ghost use Rattle.std.specs.FinMap.{insert};
+ghost use Rattle.settings_maps.specs.Maps.{with_value};
 ghost use Rattle.settings_tree.specs.Change.{is_once};
 ghost use Rattle.settings_tree.specs.Laid.{laid, laid_one};
 ghost use Rattle.settings_tree.specs.Rooms.{held_of, IsFullHeld, is_fresh, opened, closed, roomed, closed_if, all_roomed, all_closed, has_rooms};
 
 use crate::entry::{Entry, Owed};
 use json_trees::{Pending, Scalar};
-use key_names::Bytes;
-use settings_maps::{KeyList, KeyMap, Metadata, Transactions};
+use key_names::{Bytes, Key, Text};
+use settings_maps::{KeyList, KeyMap, Metadata, Transactions, TxName};
 use std::alloc::AllocError;
 
 /// What is held, in parts that no rule joins. A change is laid in two passes. The first makes a room,
@@ -21,6 +23,35 @@ pub(crate) struct Parts {
     pub pending: Transactions,
     pub owed: Owed,
     pub image: Bytes,
+}
+
+// Puts a placeholder at the key.
+fn open_value(values: &mut KeyMap<Scalar>, key: &Key) -> Result<(), AllocError>
+    ensures ok { OnOk result (values.new ≡ insert values.old key.now (Scalar.Bool false)) }
+    ensures err { OnErr result (values.new ≡ values.old) }
+{
+    let key = key.copy()?;
+    values.put(key, Scalar::Bool(false))
+}
+
+// Puts a placeholder at the key and the name.
+fn open_metadata(metadata: &mut Metadata, key: &Key, name: &Text) -> Result<(), AllocError>
+    ensures ok { OnOk result (metadata.new ≡ with_value metadata.old key.now name.now (Scalar.Bool false)) }
+    ensures err { OnErr result (metadata.new ≡ metadata.old) }
+{
+    let key = key.copy()?;
+    let name = name.copy()?;
+    metadata.put(key, name, Scalar::Bool(false))
+}
+
+// Puts a placeholder for the transaction at the key.
+fn open_pending(pending: &mut Transactions, tx: &TxName, key: &Key) -> Result<(), AllocError>
+    ensures ok { OnOk result (pending.new ≡ with_value pending.old tx.now key.now Pending.Gone) }
+    ensures err { OnErr result (pending.new ≡ pending.old) }
+{
+    let tx = tx.copy()?;
+    let key = key.copy()?;
+    pending.put(tx, key, Pending::Gone)
 }
 
 #[tactic(auto, using(crate::proofs::RoomsLaid::rooms))]
@@ -45,27 +76,13 @@ impl Parts {
         ensures err { OnErr result (held_of self.new ≡ held_of self.old) }
     {
         match entry {
-            Entry::LiveSet { key, value: _ } => {
-                let key = key.copy()?;
-                self.values.put(key, Scalar::Bool(false))?;
-                Ok(())
-            }
+            Entry::LiveSet { key, value: _ } => open_value(&mut self.values, key),
             Entry::MetaSet {
                 key,
                 name,
                 value: _,
-            } => {
-                let key = key.copy()?;
-                let name = name.copy()?;
-                self.metadata.put(key, name, Scalar::Bool(false))?;
-                Ok(())
-            }
-            Entry::PendSet { tx, key, value: _ } => {
-                let tx = tx.copy()?;
-                let key = key.copy()?;
-                self.pending.put(tx, key, Pending::Gone)?;
-                Ok(())
-            }
+            } => open_metadata(&mut self.metadata, key, name),
+            Entry::PendSet { tx, key, value: _ } => open_pending(&mut self.pending, tx, key),
             _ => Ok(()),
         }
     }

@@ -1,5 +1,5 @@
 -- The sections in which the values of a model stand.
-use Rattle.std.proofs.Common.{◌≡◌, inl, inr, ◌⊎◌, ℕ, List, [], ◌∷◌, codes, Option, Some, None, IsSome, IsTrue, Bool, true, false, cond, refl, sym, ap, subst}
+use Rattle.std.proofs.Common.{◌≡◌, inl, inr, ◌⊎◌, ℕ, List, [], ◌∷◌, codes, Some, None, IsSome, IsTrue, Bool, true, false, cond, refl, sym, subst}
 use Rattle.std.specs.FinMap.{FinMap, empty, get, insert, get-empty, get-insert}
 use Rattle.std.specs.Ordering.{eq_by_cmp}
 use Rattle.key_names.specs.Key.{is_prefix}
@@ -8,7 +8,7 @@ use Rattle.json_trees.specs.declared.scalar.Scalar.{Scalar}
 use Rattle.settings_maps.proofs.NestedMaps.{tied_by}
 use Rattle.settings_tree.specs.Content.{Contents, settings_key}
 use Rattle.model_file.specs.Checks.{section_entries}
-use Rattle.model_file.specs.Contents.{scalars, with_section, with_values}
+use Rattle.model_file.specs.Contents.{scalars, with_values}
 use Rattle.model_file.specs.Model.{Spells}
 use Rattle.model_file.specs.declared.model.Model.{Model}
 use Rattle.store_image.specs.Image.{AreSections}

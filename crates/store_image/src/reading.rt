@@ -3,13 +3,12 @@ ghost use Rattle.std.specs.Prelude.{◌≡◌, ℕ, List, Some, IfOk, IsErrOf};
 ghost use Rattle.outside.specs.History.{tree_of};
 ghost use Rattle.outside.specs.Told.{WhereTold};
 ghost use Rattle.outside.specs.Faults.{HasCauseOf};
-ghost use Rattle.model_file.specs.Model.{Spells, AreKnown, AreTyped};
+ghost use Rattle.model_file.specs.Model.{AreKnown, AreTyped};
 ghost use Rattle.typed_settings.specs.Row.{IsPrefixFree};
-ghost use Rattle.metadata_links.specs.Manifest.{IsManifestOf};
 ghost use Rattle.store_image.specs.Paths.{sources_in, model_path};
-ghost use Rattle.store_image.specs.Image.{IsMadeOf, AreSources, IsImageOf, AreSections};
-ghost use Rattle.store_image.specs.Refused.{IsRefused, missing};
-ghost use Rattle.store_image.specs.Words.{model_file};
+ghost use Rattle.store_image.specs.Image.{AreSources, IsImageOf, AreSections};
+ghost use Rattle.store_image.specs.Reading.{IsLinked, IsBadTemplate, AreThere, AreReadFrom};
+ghost use Rattle.store_image.specs.Refused.{IsRefused};
 
 use crate::bad::no_model;
 use crate::image_text::image_text;
@@ -21,9 +20,9 @@ use crate::templates::templates_of;
 use crate::{Image, ImageError};
 use key_names::Bytes;
 use metadata_links::Manifest;
-use model_file::Model;
 use outside::Disk;
-use std::alloc::{AllocError, Global};
+use std::alloc::Global;
+use template_reader::Templates;
 
 // The text of the model.
 fn read_model<D: Disk>(alloc: Global, disk: &mut D) -> Result<Vec<u8>, ImageError>
@@ -40,35 +39,42 @@ fn read_model<D: Disk>(alloc: Global, disk: &mut D) -> Result<Vec<u8>, ImageErro
     }
 }
 
-// The image with these parts.
-fn image_with(
+// The sources of the manifest's templates, or the first fault of one.
+fn sources_of<D: Disk>(
     alloc: Global,
-    text: &[u8],
-    model: Model,
-    manifest: Manifest,
-    sources: &PathMap<Bytes>,
-) -> Result<Image, AllocError>
-    requires spelled { Spells text.now model }
-    requires linked { IsManifestOf model.content manifest }
-    requires read { AreSources manifest sources.now }
-    requires free { IsPrefixFree model.types }
-    requires known { AreKnown model.types model.content.values }
-    requires typed { AreTyped model.types model.content.values }
-    requires sections { AreSections model.content.values }
-    ensures free { IfOk result (λ image. IsPrefixFree image.model.types) }
-    ensures known { IfOk result (λ image. AreKnown image.model.types image.model.content.values) }
-    ensures typed { IfOk result (λ image. AreTyped image.model.types image.model.content.values) }
-    ensures sections { IfOk result (λ image. AreSections image.model.content.values) }
-    ensures made { IfOk result (λ image. IsMadeOf text.now sources.now image.model image.manifest image.templates image.text) }
+    disk: &mut D,
+    manifest: &Manifest,
+) -> Result<PathMap<Bytes>, ImageError>
+    requires { IsLinked manifest.now }
+    ensures same { D.told disk.new ≡ D.told disk.old }
+    ensures read { IfOk result (AreSources manifest.now) }
+    ensures there { IfOk result (λ sources. WhereTold (D.told disk.old) (AreThere sources)) }
+    ensures bad { (file kind at : List ℕ) → IsErrOf result (ImageError.Bad file kind at) → WhereTold (D.told disk.old) (IsBadTemplate manifest.now file (kind, at)) }
+    ensures cause { HasCauseOf ImageError.Failed (D.faults disk.old) (D.faults disk.new) result }
+    ensures bad_without_fault { (file kind at : List ℕ) → IsErrOf result (ImageError.Bad file kind at) → D.faults disk.new ≡ D.faults disk.old }
 {
-    let templates = templates_of(alloc, &manifest, sources)?;
-    let text = image_text(alloc, text, sources)?;
-    Ok(Image {
-        model,
-        manifest,
-        templates,
-        text,
-    })
+    let paths = template_paths(alloc, manifest)?;
+    read_sources(alloc, disk, &paths)
+}
+
+// The templates of the manifest's files, and the image text with their sources.
+fn read_templates<D: Disk>(
+    alloc: Global,
+    disk: &mut D,
+    model: &[u8],
+    manifest: &Manifest,
+) -> Result<(Templates, Bytes), ImageError>
+    requires { IsLinked manifest.now }
+    ensures same { D.told disk.new ≡ D.told disk.old }
+    ensures ok { IfOk result (λ both. AreReadFrom (D.told disk.old) model.now manifest.now both.0 both.1) }
+    ensures bad { (file kind at : List ℕ) → IsErrOf result (ImageError.Bad file kind at) → WhereTold (D.told disk.old) (IsBadTemplate manifest.now file (kind, at)) }
+    ensures cause { HasCauseOf ImageError.Failed (D.faults disk.old) (D.faults disk.new) result }
+    ensures bad_without_fault { (file kind at : List ℕ) → IsErrOf result (ImageError.Bad file kind at) → D.faults disk.new ≡ D.faults disk.old }
+{
+    let sources = sources_of(alloc, disk, manifest)?;
+    let text = image_text(alloc, model, &sources)?;
+    let templates = templates_of(alloc, manifest, &sources)?;
+    Ok((templates, text))
 }
 
 // The image whose model has this text.
@@ -86,9 +92,13 @@ fn image_of<D: Disk>(alloc: Global, disk: &mut D, text: &[u8]) -> Result<Image, 
     ensures bad_without_fault { (file kind at : List ℕ) → IsErrOf result (ImageError.Bad file kind at) → D.faults disk.new ≡ D.faults disk.old }
 {
     let (model, manifest) = linked(alloc, text)?;
-    let paths = template_paths(alloc, &manifest)?;
-    let sources = read_sources(alloc, disk, &paths)?;
-    Ok(image_with(alloc, text, model, manifest, &sources)?)
+    let (templates, text) = read_templates(alloc, disk, text, &manifest)?;
+    Ok(Image {
+        model,
+        manifest,
+        templates,
+        text,
+    })
 }
 
 /// Reads the image: the model `image/model.toml`, its manifest, and the template of each file below `image/templates/`. It

@@ -18,7 +18,6 @@ use Rattle.store_open.specs.Handing.{HandsDisk, HandsLinkOn}
 use Rattle.outside.proofs.Since.{since_start, since_map, since_both, since_joined}
 use Rattle.outside.proofs.Goes.{since_goes, goes_stay, goes_map, goes_joined, tree_untouched, may_leave_untouched}
 use Rattle.commit_journal.specs.Files.{files_below, IsBelow}
-use Rattle.settings_tree.specs.declared.held.Held.{Held}
 use Rattle.store_files.specs.Stands.{Stands}
 use Rattle.fs_datastore.specs.Saving.{IsEmptyBelow, Saves}
 use Rattle.fs_datastore.proofs.Listing.{each_listed, in_list}
@@ -184,10 +183,9 @@ plain_disk device.Failed f hands = inl hands
 plain_disk device.Memory f hands = inr hands
 
 -- what was saved, under the names that it has here
-pub saved_as : (target : Target) (path : Names) (held : Held) (result : Result Unit DiskErr) (old new : History) → path ≡ directory target → held ≡ new_held
-    → Saves path held result old new → Saves (directory target) new_held result old new
-saved_as target path held result old new at is saves = subst (λ (h : Held). Saves (directory target) h result old new) is
-    (subst (λ (p : Names). Saves p held result old new) at saves)
+pub saved_as : (target : Target) (path : Names) (result : Result Unit DiskErr) (old new : History) → path ≡ directory target
+    → Saves path new_held result old new → Saves (directory target) new_held result old new
+saved_as target path result old new at saves = subst (λ (p : Names). Saves p new_held result old new) at saves
 
 pub nothing_begun : (version : Version) (f : InitError) (h : History) → ((path : Names) → f ≡ refused.BadLink path → Resolves (tree_of h) (bad path))
     → ((other : Version) → f ≡ refused.AlreadyThere other → (path : Names) × Resolves (tree_of h) (found other path)) → Begins version (Err f) h h

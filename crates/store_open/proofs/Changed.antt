@@ -99,7 +99,7 @@ module _ (boot : Bool) (name : List ℕ) (version : Version) (was : Bool) (old m
     pub read_first : IsImageIn (tree_of old) image
     read_first = image_same image (tree_of old) (tree_of mid) (λ p. sym (sources_kept name (next synced old) mid first p)) read
 
-    module _ (result : Result Held DiskErr) (new : History) (lays : Lays dir held after result mid new) where
+    module _ (result : Result Unit DiskErr) (new : History) (lays : Lays dir held after result mid new) where
       whole : Touches (IsBelow dir) (next synced old) new
       whole = goes_joined (IsAtOrSync (IsBelow dir)) (next synced old) mid new first lays.touches
 
@@ -155,13 +155,13 @@ module _ (boot : Bool) (name : List ℕ) (version : Version) (was : Bool) (old m
           → IsNotTaken before old new ⊎ (HasOpened boot (tree_of old) before (tree_of new) × (e ≡ device.Failed))
       failed e is before has = subst (λ (w : World). IsNotTaken w old new ⊎ (HasOpened boot (tree_of old) w (tree_of new) × (e ≡ device.Failed)))
           (sym (the_same before has))
-          (by (subst (λ (x : Result Held DiskErr). OnErr x (IsReadyWith dir held mid
+          (by (subst (λ (x : Result Unit DiskErr). OnErr x (IsReadyWith dir held mid
           → IsKept dir held mid new ⊎ (HoldsIn dir after 2 (tree_of new) × (x ≡ Err device.Failed)))) is lays.failed ready))
         where
-          one_err : ◌≡◌ {A = Result Held DiskErr} (Err e) (Err device.Failed) → e ≡ device.Failed
+          one_err : ◌≡◌ {A = Result Unit DiskErr} (Err e) (Err device.Failed) → e ≡ device.Failed
           one_err same = cc same
 
-          by : IsKept dir held mid new ⊎ (HoldsIn dir after 2 (tree_of new) × (◌≡◌ {A = Result Held DiskErr} (Err e) (Err device.Failed)))
+          by : IsKept dir held mid new ⊎ (HoldsIn dir after 2 (tree_of new) × (◌≡◌ {A = Result Unit DiskErr} (Err e) (Err device.Failed)))
               → IsNotTaken this old new ⊎ (HasOpened boot (tree_of old) this (tree_of new) × (e ≡ device.Failed))
           by (inl kept) = inl (kept_this (subst (λ (w : World). HasWorld w (tree_of old)) (the_same before has) has) kept)
           by (inr (holds, same)) = inr (opened_of (tree_of new) led_now holds, one_err same)
@@ -169,9 +169,9 @@ module _ (boot : Bool) (name : List ℕ) (version : Version) (was : Bool) (old m
       -- the step is made: the disk is at rest in the new world
       pub rests : OnOk result (IsAtRest (record { version = version; directory = dir; format = 2; held = after }) new)
       rests = by result lays.done where
-        by : (x : Result Held DiskErr) → OnOk x (IsReadyWith dir held mid → IsReadyWith dir after new)
+        by : (x : Result Unit DiskErr) → OnOk x (IsReadyWith dir held mid → IsReadyWith dir after new)
             → OnOk x (IsAtRest (record { version = version; directory = dir; format = 2; held = after }) new)
-        by (Ok now) done = let is = done ready in record { links = led_now; means = is.means; ready = is.ready; settled = is.settled }
+        by (Ok made) done = let is = done ready in record { links = led_now; means = is.means; ready = is.ready; settled = is.settled }
         by (Err e) done = tt
 
       pub read_now : IsImageIn (tree_of new) image

@@ -12,19 +12,20 @@ use Rattle.store_files.specs.Stands.{Stands}
 use Rattle.store_image.specs.declared.image.Image.{Image}
 use Rattle.version_links.specs.Names.{store}
 use Rattle.version_links.specs.Chain.{found, Resolves}
+use Rattle.version_links.specs.declared.chain.Place.{Place}
 use Rattle.version_links.specs.declared.version.Version.{Version}
 use Rattle.store_open.specs.World.{World, IsAtRest}
 use Rattle.settings_machine.specs.Typed.{IsTypedHeld}
 use Rattle.store_open.specs.Step.{opened}
 use Rattle.store_open.specs.Opening.{IsImageIn, HasOpened, IsNotTaken, IsStep, Tells, Opens}
 use Rattle.store_open.specs.Handing.{HandsOn}
-use Rattle.store_open.specs.Phases.{Lays}
+use Rattle.store_open.specs.Phases.{AtFault, Lays, Ends, EndsOpen}
 use Rattle.store_open.specs.declared.opened.Opened.{Opened}
 use Rattle.store_open.specs.declared.open_error.OpenError.{OpenError}
 use Rattle.store_open.specs.declared.open_error.OpenError.TheVariants as refused
 use Rattle.store_open.proofs.Recovered.{one_place}
 use Rattle.store_open.proofs.Changed.{the_same, was_there, moments, failed, rests, read_now, changes}
-use Rattle.store_open.proofs.Exits.{in_store}
+use Rattle.store_open.proofs.Exits.{in_store, exit_read}
 
 module _ (boot : Bool) (name : List ℕ) (version : Version) (was : Bool) (old mid : History) (r : Recovers (store name) (Ok was) old mid)
     (links : Resolves (tree_of old) (found version (store name)))
@@ -58,25 +59,25 @@ module _ (boot : Bool) (name : List ℕ) (version : Version) (was : Bool) (old m
       tells device.Failed f hands = subst (λ (x : OpenError). Tells x old new) (sym hands) tt
       tells device.Memory f hands = subst (λ (x : OpenError). Tells x old new) (sym hands) tt
 
-  step_made : (stored : Opened) → stored.place.version ≡ version → stored.place.directory ≡ store name → stored.image ≡ image
-      → Lays (store name) held after (Ok stored.held) mid new → Opens boot (Ok stored) old new
-  step_made stored version_is directory_is image_is lays = record {
-    any_moment = moments boot name version was old mid r links held means image read typed (Ok stored.held) new lays;
+  step_made : (stored : Opened) → stored.place.version ≡ version → stored.place.directory ≡ store name → stored.held ≡ after → stored.image ≡ image
+      → Lays (store name) held after (Ok tt) mid new → Opens boot (Ok stored) old new
+  step_made stored version_is directory_is held_is image_is lays = record {
+    any_moment = moments boot name version was old mid r links held means image read typed (Ok tt) new lays;
     there = (record { version = version; directory = store name; format = 2; held = held }, was_there boot name version was old mid r links held means);
     done = record {
       rest = at_rest;
       image = subst (λ (i : Image). IsImageIn (tree_of new) i) (sym image_is)
-          (read_now boot name version was old mid r links held means image read typed (Ok stored.held) new lays);
+          (read_now boot name version was old mid r links held means image read typed (Ok tt) new lays);
     };
     taken = λ before has. step before (the_same boot name version was old mid r links held means before has);
     refused = tt;
-    others = others (changes boot name version was old mid r links held means image read typed (Ok stored.held) new lays);
+    others = others (changes boot name version was old mid r links held means image read typed (Ok tt) new lays);
     told = tt;
   }
     where
       at_rest : IsAtRest (record { version = stored.place.version; directory = stored.place.directory; format = 2; held = stored.held }) new
-      at_rest = subst (λ (w : World). IsAtRest w new) (λ i. record { version = sym version_is i; directory = sym directory_is i; format = 2; held = sym lays.is i })
-          (rests boot name version was old mid r links held means image read typed (Ok stored.held) new lays)
+      at_rest = subst (λ (w : World). IsAtRest w new) (λ i. record { version = sym version_is i; directory = sym directory_is i; format = 2; held = sym held_is i })
+          (rests boot name version was old mid r links held means image read typed (Ok tt) new lays)
 
       step : (before : World) → before ≡ record { version = version; directory = store name; format = 2; held = held } → IsStep boot before stored
       step before same = record {
@@ -85,28 +86,32 @@ module _ (boot : Bool) (name : List ℕ) (version : Version) (was : Bool) (old m
         version = version_is ∙ sym (ap (λ (w : World). w.version) same);
         directory = directory_is ∙ sym (ap (λ (w : World). w.directory) same);
         format = ap (λ (w : World). w.format) same;
-        held = lays.is ∙ ap (λ (i : Image). opened boot i held) (sym image_is)
+        held = held_is ∙ ap (λ (i : Image). opened boot i held) (sym image_is)
             ∙ ap (opened boot stored.image) (sym (ap (λ (w : World). w.held) same));
       }
 
--- the same for a directory to which the links lead
-module _ (boot : Bool) (directory : Names) (version : Version) (was : Bool) (held : Held) (image : Image) (old mid new : History) where
-  pub exit_step : (e : DiskErr) (f : OpenError) → HandsOn e f → Resolves (tree_of old) (found version directory) → Recovers directory (Ok was) old mid
-      → Stands (files_below directory (tree_of mid)) held 2 → IsImageIn (tree_of mid) image → IsTypedHeld image.model.types held
-      → Lays directory held (opened boot image held) (Err e) mid new → Opens boot (Err f) old new
-  exit_step e f hands links = let at = in_store (tree_of old) version directory links in
-      subst (λ (d : Names). Resolves (tree_of old) (found version d) → Recovers d (Ok was) old mid → Stands (files_below d (tree_of mid)) held 2
-      → IsImageIn (tree_of mid) image → IsTypedHeld image.model.types held → Lays d held (opened boot image held) (Err e) mid new
-      → Opens boot (Err f) old new)
-      (sym at.1) (λ led r means read typed lays. step_fails boot at.0 version was old mid r led held means image read typed new e f hands lays) links
+-- ---- the same for a place to which the links lead
 
-  pub exit_open : (stored : Opened) → stored.place.version ≡ version → stored.place.directory ≡ directory → stored.image ≡ image
-      → Resolves (tree_of old) (found version directory) → Recovers directory (Ok was) old mid → Stands (files_below directory (tree_of mid)) held 2
-      → IsImageIn (tree_of mid) image → IsTypedHeld image.model.types held
-      → Lays directory held (opened boot image held) (Ok stored.held) mid new → Opens boot (Ok stored) old new
-  exit_open stored version_is directory_is image_is links = let at = in_store (tree_of old) version directory links in
-      subst (λ (d : Names). stored.place.directory ≡ d → Resolves (tree_of old) (found version d) → Recovers d (Ok was) old mid
-      → Stands (files_below d (tree_of mid)) held 2 → IsImageIn (tree_of mid) image → IsTypedHeld image.model.types held
-      → Lays d held (opened boot image held) (Ok stored.held) mid new → Opens boot (Ok stored) old new)
-      (sym at.1) (λ is led r means read typed lays. step_made boot at.0 version was old mid r led held means image read typed new stored version_is is image_is lays)
-      directory_is links
+-- what is read there is at fault
+pub ends_read : (boot : Bool) (place : Place) (e : OpenError) (mid new : History) → AtFault place.directory e mid → new ≡ mid → Ends boot place (Err e) mid new
+ends_read boot place e mid new fault same old links to = subst (λ (h : History). Opens boot (Err e) old h) (sym same)
+    (exit_read boot place.directory place.version to.journal e old mid fault to.recovers links)
+
+module _ (boot : Bool) (place : Place) (held : Held) (image : Image) (mid new : History) (means : Stands (files_below place.directory (tree_of mid)) held 2)
+    (read : IsImageIn (tree_of mid) image) (typed : IsTypedHeld image.model.types held) where
+  -- the step failed
+  pub ends_failed : (e : DiskErr) (f : OpenError) → HandsOn e f → Lays place.directory held (opened boot image held) (Err e) mid new → Ends boot place (Err f) mid new
+  ends_failed e f hands lays old links to = let at = in_store (tree_of old) place.version place.directory links in
+      subst (λ (d : Names). Resolves (tree_of old) (found place.version d) → Recovers d (Ok to.journal) old mid → Stands (files_below d (tree_of mid)) held 2
+      → Lays d held (opened boot image held) (Err e) mid new → Opens boot (Err f) old new)
+      (sym at.1) (λ led r stands step. step_fails boot at.0 place.version to.journal old mid r led held stands image read typed new e f hands step)
+      links to.recovers means lays
+
+  -- the step was made
+  pub ends_open : (now : Held) → now ≡ opened boot image held → Lays place.directory held (opened boot image held) (Ok tt) mid new → EndsOpen boot place now image mid new
+  ends_open now made lays stored place_is held_is image_is old links to = let at = in_store (tree_of old) place.version place.directory links in
+      subst (λ (d : Names). stored.place.directory ≡ d → Resolves (tree_of old) (found place.version d) → Recovers d (Ok to.journal) old mid
+      → Stands (files_below d (tree_of mid)) held 2 → Lays d held (opened boot image held) (Ok tt) mid new → Opens boot (Ok stored) old new)
+      (sym at.1) (λ is led r stands step. step_made boot at.0 place.version to.journal old mid r led held stands image read typed new stored
+      (ap (λ (p : Place). p.version) place_is) is (held_is ∙ made) image_is step)
+      (ap (λ (p : Place). p.directory) place_is) links to.recovers means lays

@@ -1,5 +1,5 @@
 -- The opening step by the image that was read: it is the machine's, and what is open fits the image.
-use Rattle.std.proofs.Common.{◌≡◌, ℕ, List, None, Bool, true, false, cond, not, refl, sym, ◌∙◌, ap, subst}
+use Rattle.std.proofs.Common.{arith, ◌≡◌, ℕ, List, [], ◌∷◌, length, None, Bool, true, false, cond, not, refl, sym, ◌∙◌, ap, subst}
 use Rattle.std.specs.FinMap.{get}
 use Rattle.model_file.specs.Model.{AreTyped}
 use Rattle.settings_tree.specs.Laid.{laid}
@@ -18,6 +18,14 @@ use Rattle.store_open.specs.Typed.{FitsImage}
 pub change_opens : (boot : Bool) (i : Image) (h : Held) (change : List Entry) → MakesStep boot i.model.content i.text h change → laid h change ≡ opened boot i h
 unfolding opened
 change_opens boot i h change makes = makes.laid_is (image_of i) refl refl
+
+no_entries : (es : List Entry) → length es ≡ 0 → es ≡ []
+no_entries [] none = refl
+no_entries (e ∷ es) none = absurd (omega arith)
+
+-- Where the change has no entry, the step leaves what is held.
+pub empty_opens : (boot : Bool) (i : Image) (h : Held) (change : List Entry) → length change ≡ 0 → MakesStep boot i.model.content i.text h change → h ≡ opened boot i h
+empty_opens boot i h change none makes = ap (laid h) (sym (no_entries change none)) ∙ change_opens boot i h change makes
 
 -- What is held after the step fits the image.
 pub opened_fits : (i : Image) (h : Held) (boot : Bool) (now : Held) → AreTyped i.model.types i.model.content.values → IsTypedHeld i.model.types h

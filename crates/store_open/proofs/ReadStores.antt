@@ -25,10 +25,9 @@ use Rattle.store_open.specs.declared.open_error.OpenError.{OpenError}
 use Rattle.store_open.specs.declared.open_error.OpenError.TheVariants as refused
 
 -- the image that was read, with what its table is
-pub told_image : (a b : Option History) (i : Image) → b ≡ a → IsTable i.model.types
-    → WhereTold b (λ h. IsImageOf (sources_in (tree_of h)) i.model i.manifest i.templates i.text) → WhereTold a (λ h. IsImageIn (tree_of h) i)
-told_image a b i same table made = subst (λ (t : Option History). WhereTold t (λ h. IsImageIn (tree_of h) i)) same
-    (where_map (λ h is. record { made = is; table = table }) made)
+pub told_image : (a : Option History) (i : Image) → IsTable i.model.types → WhereTold a (λ h. IsImageOf (sources_in (tree_of h)) i.model i.manifest i.templates i.text)
+    → WhereTold a (λ h. IsImageIn (tree_of h) i)
+told_image a i table made = where_map (λ h is. record { made = is; table = table }) made
 
 module _ (dir : Names) (a : Option History) where
   abbrev Fault : OpenError → Type 0

@@ -34,16 +34,14 @@ module _ (dir : Names) (held after : Held) (h : History) where
   pub lays_none : (e : DiskErr) → Lays dir held after (Err e) h h
   lays_none e = record {
     any_moment = either;
-    is = tt;
     done = tt;
     failed = λ ready. inl (record { tree = holds_plain dir held 2 (tree_of h) ready.means; images = stays ready });
     touches = goes_stay (IsAtOrSync (IsBelow dir)) h;
   }
 
-  pub lays_same : (now : Held) → now ≡ after → held ≡ after → Lays dir held after (Ok now) h h
-  lays_same now is same = record {
+  pub lays_same : held ≡ after → Lays dir held after (Ok tt) h h
+  lays_same same = record {
     any_moment = either;
-    is = is;
     done = λ ready. subst (λ (x : Held). IsReadyWith dir x h) same ready;
     failed = tt;
     touches =
@@ -71,10 +69,9 @@ module _ (batch : Changes) (change : List Entry) (follows : Follows change batch
   moments : {E : Type 0} (result : Result Unit E) → Commits batch result old new → IsReadyWith batch.dir held old → EachSince (HoldsEither batch.dir held after) old new
   moments result commits ready = since_map (StandsForEither batch old) (HoldsEither batch.dir held after) old new (either_of ready) (commits.any_moment ready.ready)
 
-  pub lays_made : {E : Type 0} (done : Unit) → Commits {E = E} batch (Ok done) old new → (now : Held) → now ≡ after → Lays batch.dir held after (Ok now) old new
-  lays_made {E = E} done commits now is = record {
+  pub lays_made : {E : Type 0} (done : Unit) → Commits {E = E} batch (Ok done) old new → Lays batch.dir held after (Ok tt) old new
+  lays_made {E = E} done commits = record {
     any_moment = moments {E = E} (Ok done) commits;
-    is = is;
     done = λ ready. let made = commits.done ready.ready in record {
       ready = made.ready;
       means =
@@ -88,7 +85,6 @@ module _ (batch : Changes) (change : List Entry) (follows : Follows change batch
   pub lays_failed : {E : Type 0} (e : E) → Commits {E = E} batch (Err e) old new → Lays batch.dir held after (Err device.Failed) old new
   lays_failed {E = E} e commits = record {
     any_moment = moments {E = E} (Err e) commits;
-    is = tt;
     done = tt;
     failed = λ ready. elim (commits.failed ready.ready) [
       | inl stands ↦ inr (after_of ready (tree_of new) stands, refl)

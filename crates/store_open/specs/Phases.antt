@@ -1,5 +1,5 @@
 -- For private clauses: an opening, part by part.
-use Rattle.std.specs.Prelude.{◌≡◌, ◌⊎◌, ℕ, List, Result, Err, OnOk, OnErr, IfOk, ⊤}
+use Rattle.std.specs.Prelude.{◌≡◌, ◌⊎◌, ℕ, List, Bool, Result, Ok, Err, OnOk, OnErr, ⊤}
 use Rattle.outside.specs.Names.{Names}
 use Rattle.outside.specs.Tree.{Tree}
 use Rattle.outside.specs.History.{History, tree_of, IsSettled}
@@ -7,16 +7,21 @@ use Rattle.outside.specs.Since.{EachSince, Touches}
 use Rattle.outside.specs.declared.disk_error.DiskErr.{DiskErr}
 use Rattle.outside.specs.declared.disk_error.DiskErr.TheVariants as device
 use Rattle.commit_journal.specs.Files.{files_below, IsBelow}
+use Rattle.commit_journal.specs.Recovery.{Recovers}
 use Rattle.commit_journal.specs.Stands.{IsReady}
 use Rattle.settings_tree.specs.declared.held.Held.{Held}
 use Rattle.store_files.specs.Damage.{IsFaultBelow}
 use Rattle.store_files.specs.Stands.{Stands}
 use Rattle.store_image.specs.Paths.{sources_in}
 use Rattle.store_image.specs.Refused.{IsRefused}
+use Rattle.store_image.specs.declared.image.Image.{Image}
 use Rattle.machine_disk.specs.Store.{HoldsIn}
-use Rattle.store_open.specs.Opening.{Means, MeansIllTyped}
+use Rattle.version_links.specs.Chain.{found, Resolves}
+use Rattle.version_links.specs.declared.chain.Place.{Place}
+use Rattle.store_open.specs.Opening.{Means, MeansIllTyped, Opens}
 use Rattle.typed_settings.specs.declared.row.Row.{Row}
 use Rattle.store_open.specs.Typed.{IsIllTyped}
+use Rattle.store_open.specs.declared.opened.Opened.{Opened}
 use Rattle.store_open.specs.declared.open_error.OpenError.{OpenError}
 use Rattle.store_open.specs.declared.open_error.OpenError.TheVariants as refused
 
@@ -48,12 +53,29 @@ pub record IsKept (directory : Names) (held : Held) (old new : History) : Type 0
   pub images : EachSince (HoldsIn directory held 2) old new
 
 -- What is held in the directory becomes this, at once or not at all.
-pub record Lays (directory : Names) (held after : Held) (result : Result Held DiskErr) (old new : History) : Type 0 where
+pub record Lays (directory : Names) (held after : Held) (result : Result (Unit {0}) DiskErr) (old new : History) : Type 0 where
   pub any_moment : IsReadyWith directory held old → EachSince (HoldsEither directory held after) old new
-  pub is : IfOk result (λ now. now ≡ after)
   pub done : OnOk result (IsReadyWith directory held old → IsReadyWith directory after new)
   pub failed : OnErr result (IsReadyWith directory held old → IsKept directory held old new ⊎ (HoldsIn directory after 2 (tree_of new) × (result ≡ Err device.Failed)))
   pub touches : Touches (IsBelow directory) old new
+
+-- The journal of the directory was carried out, if there is one.
+pub record HasRecovered (directory : Names) (old new : History) : Type 0 where
+  pub journal : Bool
+  pub recovers : Recovers directory (Ok journal) old new
+
+-- Where the links led to the place, an opening was refused for this.
+abbrev pub RefusesAt : Place → OpenError → History → History → Type 0
+RefusesAt place e old new = (boot : Bool) → Resolves (tree_of old) (found place.version place.directory) → Opens boot (Err e) old new
+
+-- Where the links led to the place and its journal was carried out, an opening ended with this result.
+abbrev pub Ends : Bool → Place → Result Opened OpenError → History → History → Type 0
+Ends boot place result mid new = (old : History) → Resolves (tree_of old) (found place.version place.directory) → HasRecovered place.directory old mid
+    → Opens boot result old new
+
+-- And it ended with an open store in which this is held, with this image.
+abbrev pub EndsOpen : Bool → Place → Held → Image → History → History → Type 0
+EndsOpen boot place held image mid new = (stored : Opened) → stored.place ≡ place → stored.held ≡ held → stored.image ≡ image → Ends boot place (Ok stored) mid new
 
 -- A refusal for another cause than the disk or memory comes without a failure of the disk.
 abbrev pub IsFaultless : OpenError → ℕ → ℕ → Type 0

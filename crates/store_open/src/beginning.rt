@@ -1,14 +1,17 @@
 //! A store is begun.
-ghost use Rattle.std.specs.Prelude.{◌≡◌};
-ghost use Rattle.outside.specs.Told.{Moves};
+ghost use Rattle.std.specs.Prelude.{◌≡◌, length};
+ghost use Rattle.outside.specs.History.{tree_of};
+ghost use Rattle.outside.specs.Told.{Moves, WhereTold};
 ghost use Rattle.outside.specs.Faults.{HasCauseOf};
+ghost use Rattle.version_links.specs.Chain.{nowhere, Resolves};
+ghost use Rattle.fs_datastore.specs.Saving.{Saves};
 ghost use Rattle.settings_machine.specs.Events.{new_held};
 ghost use Rattle.store_open.specs.Beginning.{Begins, Places};
 
 use crate::InitError;
 use fs_datastore::save_all;
 use key_names::Bytes;
-use outside::Disk;
+use outside::{Disk, DiskErr, Path};
 use settings_tree::{Content, Held, Owed, PendMaps};
 use std::alloc::Global;
 use version_links::{Names, Version, flip, fresh_dir, resolve};
@@ -25,15 +28,34 @@ fn nothing(alloc: Global) -> Held
     }
 }
 
+// Saves what a store begins with into the directory.
+fn save_first<D: Disk>(alloc: Global, disk: &mut D, dir: &Path) -> Result<(), DiskErr>
+    requires { length dir.now ≡ 2 }
+    ensures saves { Moves (D.told disk.old) (D.told disk.new) (Saves dir.now new_held result) }
+    ensures cause { HasCauseOf DiskErr.Failed (D.faults disk.old) (D.faults disk.new) result }
+{
+    let held = nothing(alloc);
+    save_all(alloc, disk, dir, &held)
+}
+
 // Saves the first world into the fresh directory, and points the links there.
 fn put_first<D: Disk>(alloc: Global, disk: &mut D, names: &Names) -> Result<(), InitError>
     ensures places { Moves (D.told disk.old) (D.told disk.new) (Places names.now result) }
     ensures cause { HasCauseOf InitError.Failed (D.faults disk.old) (D.faults disk.new) result }
 {
-    let held = nothing(alloc);
-    save_all(alloc, disk, names.directory(), &held)?;
+    save_first(alloc, disk, names.directory())?;
     flip(disk, names)?;
     Ok(())
+}
+
+// Begins a store of this version where none is.
+fn begin<D: Disk>(alloc: Global, disk: &mut D, version: &Version) -> Result<(), InitError>
+    requires { WhereTold (D.told disk.old) (λ h. Resolves (tree_of h) nowhere) }
+    ensures begins { Moves (D.told disk.old) (D.told disk.new) (Begins version.now result) }
+    ensures cause { HasCauseOf InitError.Failed (D.faults disk.old) (D.faults disk.new) result }
+{
+    let names = fresh_dir(alloc, disk, version)?;
+    put_first(alloc, disk, &names)
 }
 
 /// Begins a store of this version: saves nothing live or pending, all owed and an empty image text into a fresh data
@@ -47,11 +69,10 @@ pub fn init<D: Disk>(alloc: Global, disk: &mut D, version: &Version) -> Result<(
     ensures begins { Moves (D.told disk.old) (D.told disk.new) (Begins version.now result) }
     ensures cause { HasCauseOf InitError.Failed (D.faults disk.old) (D.faults disk.new) result }
 {
-    if let Some(place) = resolve(alloc, disk)? {
-        return Err(InitError::AlreadyThere {
+    match resolve(alloc, disk)? {
+        Some(place) => Err(InitError::AlreadyThere {
             version: place.version,
-        });
+        }),
+        None => begin(alloc, disk, version),
     }
-    let names = fresh_dir(alloc, disk, version)?;
-    put_first(alloc, disk, &names)
 }

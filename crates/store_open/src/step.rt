@@ -1,5 +1,5 @@
 //! The opening step, as one change of a data directory.
-ghost use Rattle.std.specs.Prelude.{◌≡◌, length, IfOk};
+ghost use Rattle.std.specs.Prelude.{◌≡◌, length, IfOk, OnOk};
 ghost use Rattle.outside.specs.Told.{Moves};
 ghost use Rattle.outside.specs.Faults.{HasCauseOf};
 ghost use Rattle.settings_tree.specs.Laid.{laid, KeepsPrefixRule, NamesWeak, TellsWeak};
@@ -21,19 +21,18 @@ use std::alloc::{AllocError, Global};
 use store_image::Image;
 
 // Lays the change over what is held, and writes it down as a batch.
-fn laid(alloc: Global, dir: &Path, held: Held, change: Change) -> Result<(Held, Batch), AllocError>
+fn laid(alloc: Global, dir: &Path, held: &mut Held, change: Change) -> Result<Batch, AllocError>
     requires two_names { length dir.now ≡ 2 }
-    requires rule { KeepsPrefixRule (laid held change) }
-    requires weak { NamesWeak held change }
-    requires told { TellsWeak held change }
-    ensures held { IfOk result (λ both. both.0 ≡ laid held change) }
-    ensures dir { IfOk result (λ both. both.1.dir ≡ dir.now) }
-    ensures follows { IfOk result (λ both. Follows change both.1.entries) }
+    requires rule { KeepsPrefixRule (laid held.old change) }
+    requires weak { NamesWeak held.old change }
+    requires told { TellsWeak held.old change }
+    ensures held { OnOk result (held.new ≡ laid held.old change) }
+    ensures dir { IfOk result (λ batch. batch.dir ≡ dir.now) }
+    ensures follows { IfOk result (λ batch. Follows change batch.entries) }
 {
     let batch = batch_of(alloc, dir, &change)?;
-    let mut held = held;
     held.lay(change)?;
-    Ok((held, batch))
+    Ok(batch)
 }
 
 // Makes the change, on the disk and in what is held. From the first writing call on it takes no memory.
@@ -41,47 +40,50 @@ fn make<D: Disk>(
     alloc: Global,
     disk: &mut D,
     dir: &Path,
-    held: Held,
+    held: &mut Held,
     change: Change,
-) -> Result<Held, DiskErr>
+) -> Result<(), DiskErr>
     requires two_names { length dir.now ≡ 2 }
-    requires rule { KeepsPrefixRule (laid held change) }
-    requires weak { NamesWeak held change }
-    requires told { TellsWeak held change }
-    ensures lays { Moves (D.told disk.old) (D.told disk.new) (Lays dir.now held (laid held change) result) }
-    ensures made { IfOk result (λ now. now ≡ laid held change) }
+    requires rule { KeepsPrefixRule (laid held.old change) }
+    requires weak { NamesWeak held.old change }
+    requires told { TellsWeak held.old change }
+    ensures lays { Moves (D.told disk.old) (D.told disk.new)
+        (Lays dir.now held.old (laid held.old change) result) }
+    ensures made { OnOk result (held.new ≡ laid held.old change) }
     ensures cause { HasCauseOf DiskErr.Failed (D.faults disk.old) (D.faults disk.new) result }
 {
-    let (held, batch) = laid(alloc, dir, held, change)?;
+    let batch = laid(alloc, dir, held, change)?;
     match commit_journal::change(disk, &batch) {
-        Ok(()) => Ok(held),
+        Ok(()) => Ok(()),
         Err(Failed) => Err(DiskErr::Failed),
     }
 }
 
-/// Makes the opening step, as one change of the directory, or none where nothing differs.
+/// Makes the opening step, on the disk and in what is held: as one change of the directory, or none where nothing differs.
 pub fn make_step<D: Disk>(
     alloc: Global,
     disk: &mut D,
     dir: &Path,
     boot: bool,
-    held: Held,
+    held: &mut Held,
     image: &Image,
-) -> Result<Held, DiskErr>
+) -> Result<(), DiskErr>
     requires two_names { length dir.now ≡ 2 }
     requires free { IsPrefixFree image.now.model.types }
     requires known { AreKnown image.now.model.types image.now.model.content.values }
     requires typed { AreTyped image.now.model.types image.now.model.content.values }
     requires sections { AreSections image.now.model.content.values }
-    requires types { IsTypedHeld image.now.model.types held }
+    requires types { IsTypedHeld image.now.model.types held.old }
     ensures lays { Moves (D.told disk.old) (D.told disk.new)
-        (Lays dir.now held (opened boot image.now held) result) }
-    ensures fits { IfOk result (FitsImage image.now.model.types image.now.model.content image.now.text) }
+        (Lays dir.now held.old (opened boot image.now held.old) result) }
+    ensures made { OnOk result (held.new ≡ opened boot image.now held.old) }
+    ensures fits { OnOk result
+        (FitsImage image.now.model.types image.now.model.content image.now.text held.new) }
     ensures cause { HasCauseOf DiskErr.Failed (D.faults disk.old) (D.faults disk.new) result }
 {
-    let change = opening_change(alloc, boot, &image.model.content, &image.text, &held)?;
+    let change = opening_change(alloc, boot, &image.model.content, &image.text, held)?;
     if change.as_slice().is_empty() {
-        return Ok(held);
+        return Ok(());
     }
     make(alloc, disk, dir, held, change)
 }

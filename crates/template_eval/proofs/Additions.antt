@@ -4,7 +4,8 @@ use Rattle.template_eval.specs.declared.render_error.RenderError.{RenderError}
 use Rattle.template_eval.specs.Rendered.{Rendered, onto, both}
 use Rattle.template_eval.specs.Steps.{Adds, Going}
 
-onto-none : (r : Rendered) → r ≡ onto [] r
+-- Nothing before it changes nothing.
+pub onto-none : (r : Rendered) → r ≡ onto [] r
 onto-none (Ok bytes) = refl
 onto-none (Err e) = refl
 
@@ -19,18 +20,6 @@ adds_onto bytes r old mid new first a = record {
   is = ap (onto bytes) a.is;
   added = a.added ∙ ap (λ l. l ++ a.bytes) first ∙ append_assoc old bytes a.bytes;
 }
-
--- What is rendered first, and then what is rendered second.
-pub adds_both : (r s : Rendered) (old mid new : List ℕ) → Adds r old mid → Adds s mid new → Adds (both r s) old new
-adds_both r s old mid new first second = record {
-  bytes = first.bytes ++ second.bytes;
-  is = ap (λ x. both x s) first.is ∙ ap (onto first.bytes) second.is;
-  added = second.added ∙ ap (λ l. l ++ second.bytes) first.added ∙ append_assoc old first.bytes second.bytes;
-}
-
--- A refusal of the second counts behind bytes.
-pub second_fails : (r s : Rendered) (old mid : List ℕ) (e : RenderError) → Adds r old mid → s ≡ Err e → both r s ≡ Err e
-second_fails r s old mid e first fails = ap (λ x. both x s) first.is ∙ ap (onto first.bytes) fails
 
 -- Nothing was added yet.
 pub going_none : (whole : Rendered) (out : List ℕ) → Going whole whole out out

@@ -22,4 +22,4 @@ abbrev mutual
   pub size_one : Branch → ℕ
   size_one (text s) = 0
   size_one (print e) = 0
-  size_one (block h first other) = 3 + size first + size other
+  size_one (block h first other) = 4 + size first + size other

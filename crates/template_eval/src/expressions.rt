@@ -25,19 +25,19 @@ use template_reader::{Expr, Literal, Walk};
 // Adds the text of a node, which has to be a scalar.
 fn push_node(
     inputs: &Inputs<'_>,
-    node: Node<'_>,
+    node: &Node<'_>,
     path: &Walk,
     out: &mut Vec<u8>,
 ) -> Result<(), RenderError>
     ensures ok { OnOk result
-        (Adds (node_text (path_text path.now) (node_in inputs.now node.entry)) out.old.items out.new.items) }
+        (Adds (node_text (path_text path.now) (node_in inputs.now node.now)) out.old.items out.new.items) }
     ensures err { IfErr result (λ e. e ≢ RenderError.Memory
-        → node_text (path_text path.now) (node_in inputs.now node.entry) ≡ Err e) }
+        → node_text (path_text path.now) (node_in inputs.now node.now) ≡ Err e) }
 {
     match node {
         Node::Missing => Err(missing(inputs.alloc, path)),
         Node::Atom(atom) => {
-            push_atom(out, atom)?;
+            push_atom(out, *atom)?;
             Ok(())
         }
         Node::Items(_) => Err(not_scalar(inputs.alloc, path)),
@@ -48,16 +48,16 @@ fn push_node(
 // Adds the text of a node, or of the literal where nothing stands.
 fn push_default(
     inputs: &Inputs<'_>,
-    node: Node<'_>,
+    node: &Node<'_>,
     literal: &Literal,
     path: &Walk,
     out: &mut Vec<u8>,
 ) -> Result<(), RenderError>
     ensures ok { OnOk result
-        (Adds (default_text (literal_text literal.now) (path_text path.now) (node_in inputs.now node.entry))
+        (Adds (default_text (literal_text literal.now) (path_text path.now) (node_in inputs.now node.now))
         out.old.items out.new.items) }
     ensures err { IfErr result (λ e. e ≢ RenderError.Memory
-        → default_text (literal_text literal.now) (path_text path.now) (node_in inputs.now node.entry)
+        → default_text (literal_text literal.now) (path_text path.now) (node_in inputs.now node.now)
         ≡ Err e) }
 {
     match node {
@@ -113,18 +113,18 @@ fn push_decoded_atom(
 // Adds the bytes of which the text of a node is the base64.
 fn push_decoded_node(
     inputs: &Inputs<'_>,
-    node: Node<'_>,
+    node: &Node<'_>,
     path: &Walk,
     out: &mut Vec<u8>,
 ) -> Result<(), RenderError>
     ensures ok { OnOk result
-        (Adds (decode_text (path_text path.now) (node_in inputs.now node.entry)) out.old.items out.new.items) }
+        (Adds (decode_text (path_text path.now) (node_in inputs.now node.now)) out.old.items out.new.items) }
     ensures err { IfErr result (λ e. e ≢ RenderError.Memory
-        → decode_text (path_text path.now) (node_in inputs.now node.entry) ≡ Err e) }
+        → decode_text (path_text path.now) (node_in inputs.now node.now) ≡ Err e) }
 {
     match node {
         Node::Missing => Err(missing(inputs.alloc, path)),
-        Node::Atom(atom) => push_decoded_atom(inputs.alloc, atom, path, out),
+        Node::Atom(atom) => push_decoded_atom(inputs.alloc, *atom, path, out),
         Node::Items(_) => Err(not_scalar(inputs.alloc, path)),
         Node::Children(_) => Err(not_scalar(inputs.alloc, path)),
     }
@@ -133,21 +133,21 @@ fn push_decoded_node(
 // Adds the texts of the items of a list, joined.
 fn push_array(
     inputs: &Inputs<'_>,
-    node: Node<'_>,
+    node: &Node<'_>,
     joiner: &Text,
     path: &Walk,
     out: &mut Vec<u8>,
 ) -> Result<(), RenderError>
     ensures ok { OnOk result
-        (Adds (join_array_text joiner.now (path_text path.now) (node_in inputs.now node.entry))
+        (Adds (join_array_text joiner.now (path_text path.now) (node_in inputs.now node.now))
         out.old.items out.new.items) }
     ensures err { IfErr result (λ e. e ≢ RenderError.Memory
-        → join_array_text joiner.now (path_text path.now) (node_in inputs.now node.entry) ≡ Err e) }
+        → join_array_text joiner.now (path_text path.now) (node_in inputs.now node.now) ≡ Err e) }
 {
     match node {
         Node::Missing => Err(missing(inputs.alloc, path)),
         Node::Items(items) => {
-            push_items(items, joiner.as_str().as_bytes(), out)?;
+            push_items(*items, joiner.as_str().as_bytes(), out)?;
             Ok(())
         }
         Node::Atom(_) => Err(not_list(inputs.alloc, path)),
@@ -166,7 +166,7 @@ struct MapForm<'a> {
 // Adds the children of a map, joined.
 fn push_map(
     inputs: &Inputs<'_>,
-    node: Node<'_>,
+    node: &Node<'_>,
     form: MapForm<'_>,
     path: &Walk,
     out: &mut Vec<u8>,
@@ -174,11 +174,11 @@ fn push_map(
     ensures ok { OnOk result
         (Adds (join_map_text (pair_of inputs.now form.entry.joiner.now path.now)
         form.entry.separator.now
-        form.entry.fail (path_text path.now) (node_in inputs.now node.entry)) out.old.items out.new.items) }
+        form.entry.fail (path_text path.now) (node_in inputs.now node.now)) out.old.items out.new.items) }
     ensures err { IfErr result (λ e. e ≢ RenderError.Memory
         → join_map_text (pair_of inputs.now form.entry.joiner.now path.now)
         form.entry.separator.now
-        form.entry.fail (path_text path.now) (node_in inputs.now node.entry) ≡ Err e) }
+        form.entry.fail (path_text path.now) (node_in inputs.now node.now) ≡ Err e) }
 {
     match node {
         Node::Missing => {
@@ -190,7 +190,7 @@ fn push_map(
         }
         Node::Children(places) => push_children(
             inputs,
-            places,
+            *places,
             form.joiner.as_str().as_bytes(),
             form.separator.as_str().as_bytes(),
             path,
@@ -205,13 +205,13 @@ fn push_map(
 fn push_print(
     inputs: &Inputs<'_>,
     expr: &Expr,
-    node: Node<'_>,
+    node: &Node<'_>,
     out: &mut Vec<u8>,
 ) -> Result<(), RenderError>
     ensures ok { OnOk result
-        (Adds (printing inputs.now expr.now (node_in inputs.now node.entry)) out.old.items out.new.items) }
+        (Adds (printing inputs.now expr.now (node_in inputs.now node.now)) out.old.items out.new.items) }
     ensures err { IfErr result (λ e. e ≢ RenderError.Memory
-        → printing inputs.now expr.now (node_in inputs.now node.entry) ≡ Err e) }
+        → printing inputs.now expr.now (node_in inputs.now node.now) ≡ Err e) }
 {
     match expr {
         Expr::Plain { path } => push_node(inputs, node, path, out),
@@ -248,5 +248,5 @@ pub fn push_expr(
         → expression inputs.now (seen here.entry) expr.now ≡ Err e) }
 {
     let place = place_at(here, expr.path())?;
-    push_print(inputs, expr, node(inputs.content, inputs.os, &place), out)
+    push_print(inputs, expr, &node(inputs.content, inputs.os, &place), out)
 }

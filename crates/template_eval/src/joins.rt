@@ -3,7 +3,7 @@ ghost use Rattle.std.specs.Prelude.{◌≡◌, ◌≢◌, ◌++◌, map, IfErr, 
 ghost use Rattle.std.specs.List.{join_by};
 ghost use Rattle.template_eval.specs.Place.{last_name};
 ghost use Rattle.template_eval.specs.Written.{item_text};
-ghost use Rattle.template_eval.specs.Rendered.{led, joined};
+ghost use Rattle.template_eval.specs.Rendered.{onto, joined};
 ghost use Rattle.template_eval.specs.Render.{name_of};
 ghost use Rattle.template_eval.specs.Kept.{Keeps};
 ghost use Rattle.template_eval.specs.Steps.{Adds};
@@ -88,30 +88,24 @@ fn push_child(
     }
 }
 
-// Adds the children, each behind the separator.
-fn push_led(
+// Adds a child behind what leads it.
+fn push_behind(
     inputs: &Inputs<'_>,
-    places: Places<'_>,
+    place: &Place<'_>,
+    lead: &[u8],
     joiner: &[u8],
-    separator: &[u8],
     path: &Walk,
     out: &mut Vec<u8>,
 ) -> Result<(), RenderError>
+    requires { Keeps inputs.now.content.now place.now }
     ensures ok { OnOk result
-        (Adds (led separator.now
-        (map (pair_of inputs.now joiner.now path.now) (places_in inputs.now places.entry)))
+        (Adds (onto lead.now (pair_of inputs.now joiner.now path.now (place_of place.now)))
         out.old.items out.new.items) }
     ensures err { IfErr result (λ e. e ≢ RenderError.Memory
-        → led separator.now
-        (map (pair_of inputs.now joiner.now path.now) (places_in inputs.now places.entry)) ≡ Err e) }
+        → pair_of inputs.now joiner.now path.now (place_of place.now) ≡ Err e) }
 {
-    let mut rest = places;
-    while let Some(split) = rest.split_first(inputs.content)? {
-        out.extend_from_slice(separator)?;
-        push_child(inputs, &split.first, joiner, path, out)?;
-        rest = split.rest;
-    }
-    Ok(())
+    out.extend_from_slice(lead)?;
+    push_child(inputs, place, joiner, path, out)
 }
 
 /// Adds the children, joined by the separator: each its name and its text, joined by the joiner.
@@ -131,11 +125,12 @@ pub fn push_children(
         → joined separator.now
         (map (pair_of inputs.now joiner.now path.now) (places_in inputs.now places.entry)) ≡ Err e) }
 {
-    match places.split_first(inputs.content)? {
-        Some(split) => {
-            push_child(inputs, &split.first, joiner, path, out)?;
-            push_led(inputs, split.rest, joiner, separator, path, out)
-        }
-        None => Ok(()),
+    let mut rest = places;
+    let mut lead: &[u8] = &[];
+    while let Some(split) = rest.split_first(inputs.content)? {
+        push_behind(inputs, &split.first, lead, joiner, path, out)?;
+        lead = separator;
+        rest = split.rest;
     }
+    Ok(())
 }

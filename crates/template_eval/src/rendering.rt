@@ -1,20 +1,24 @@
 //! Templates rendered, node by node.
-ghost use Rattle.std.specs.Prelude.{◌≡◌, ◌≢◌, length, IfErr, IfOk, OnOk, Ok, Err, None};
+ghost use Rattle.std.specs.Prelude.{◌≡◌, ◌≢◌, length, IfErr, IfOk, OnOk, Ok, Err, None, Some};
 ghost use Rattle.template_reader.specs.Forest.{tree_of, tree_in, branch_of};
 ghost use Rattle.template_reader.specs.Spans.{RiseWithin, spans_of};
-ghost use Rattle.template_eval.specs.Render.{render, is_first};
+ghost use Rattle.settings_tree.specs.Content.{Contents};
+ghost use Rattle.template_eval.specs.Place as spots;
+ghost use Rattle.template_eval.specs.Written.{path_text};
+ghost use Rattle.template_eval.specs.Rendered.{Rendered};
+ghost use Rattle.template_eval.specs.Render.{render, is_first, each_of, each_text};
 ghost use Rattle.template_eval.specs.Node.{is_true};
 ghost use Rattle.template_eval.specs.Lies.{Lies, LiesOne};
-ghost use Rattle.template_eval.specs.Kept.{KeepsHere};
+ghost use Rattle.template_eval.specs.Kept.{Keeps, KeepsHere};
 ghost use Rattle.template_eval.specs.Steps.{Adds};
-ghost use Rattle.template_eval.specs.Views.{places_in, seen, found, rendering, rendering_one, each_rendering, places_rendering, firsts_rendering};
+ghost use Rattle.template_eval.specs.Views.{node_of, place_of, places_of, places_in, seen, found, rendering, rendering_one, each_rendering, places_rendering, firsts_rendering};
 
 use crate::RenderError;
 use crate::expressions::push_expr;
 use crate::inputs::Inputs;
 use crate::node::Node as Found;
 use crate::nodes::node;
-use crate::place::{Here, place_at};
+use crate::place::{Here, Place, place_at};
 use crate::places::Places;
 use crate::refusals::{missing, not_list};
 use crate::scalars::is_true;
@@ -36,6 +40,23 @@ fn is_first(
     let place = place_at(here, path)?;
     let truth = is_true(inputs.content, node(inputs.content, inputs.os, &place));
     Ok(if unless { !truth } else { truth })
+}
+
+// The items of a list or the children of a map, of which an each needs one.
+fn listed<'a>(alloc: Global, node: Found<'a>, path: &Walk) -> Result<Places<'a>, RenderError>
+    ensures ok { (content : Contents) (first : spots.Here → Rendered) (other : Rendered) → IfOk result
+        (λ places. each_text (path_text path.now) first other (node_of content node.entry)
+        ≡ each_of first other (places_of content places)) }
+    ensures err { (content : Contents) (first : spots.Here → Rendered) (other : Rendered) → IfErr result
+        (λ e. e ≢ RenderError.Memory
+        → each_text (path_text path.now) first other (node_of content node.entry) ≡ Err e) }
+{
+    match node {
+        Found::Missing => Err(missing(alloc, path)),
+        Found::Atom(_) => Err(not_list(alloc, path)),
+        Found::Items(items) => Ok(Places::Items(items)),
+        Found::Children(places) => Ok(places),
+    }
 }
 
 // The nodes, one after another.
@@ -118,12 +139,8 @@ fn push_each(
         (seen here.entry) ≡ Err e) }
 {
     let place = place_at(here, path)?;
-    match node(inputs.content, inputs.os, &place) {
-        Found::Missing => Err(missing(inputs.alloc, path)),
-        Found::Atom(_) => Err(not_list(inputs.alloc, path)),
-        Found::Items(items) => push_places(inputs, Places::Items(items), first, other, here, out),
-        Found::Children(places) => push_places(inputs, places, first, other, here, out),
-    }
+    let places = listed(inputs.alloc, node(inputs.content, inputs.os, &place), path)?;
+    push_places(inputs, places, first, other, here, out)
 }
 
 #[cycle(render)]
@@ -152,6 +169,28 @@ fn push_places(
     }
 }
 
+// The first part of an each, for the place at this index.
+#[cycle(render)]
+fn push_first(
+    inputs: &Inputs<'_>,
+    place: Place<'_>,
+    index: usize,
+    first: &Nodes,
+    out: &mut Vec<u8>,
+) -> Result<(), RenderError>
+    requires lies { Lies (length inputs.now.source.now) (tree_in first.now) }
+    requires kept { Keeps inputs.now.content.now place }
+    ensures ok { OnOk result
+        (Adds (rendering inputs.now (tree_in first.now)
+        (Some (record { this = place_of place.entry; index = index }))) out.old.items out.new.items) }
+    ensures err { IfErr result (λ e. e ≢ RenderError.Memory
+        → rendering inputs.now (tree_in first.now)
+        (Some (record { this = place_of place.entry; index = index })) ≡ Err e) }
+{
+    let here = Here { this: place, index };
+    push_nodes(inputs, first.as_slice(), Some(&here), out)
+}
+
 // The first part of an each, for each of these places.
 #[cycle(render)]
 fn push_firsts(
@@ -170,11 +209,7 @@ fn push_firsts(
     let mut rest = places;
     let mut index: usize = 0;
     while let Some(split) = rest.split_first(inputs.content)? {
-        let here = Here {
-            this: split.first,
-            index,
-        };
-        push_nodes(inputs, first.as_slice(), Some(&here), out)?;
+        push_first(inputs, split.first, index, first, out)?;
         rest = split.rest;
         // More places than an index counts don't fit in memory.
         index = index.checked_add(1).ok_or(AllocError)?;

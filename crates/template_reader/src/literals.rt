@@ -19,15 +19,12 @@ fn is_quoted(word: &[u8]) -> bool
     word.len() >= 2 && word.starts_with(b"\"") && word.ends_with(b"\"")
 }
 
+// Quotable bytes are ASCII, so they are text.
 fn quotable_text(alloc: Global, bytes: &[u8]) -> Result<Text, AllocError>
     requires { IsTrue (list_all is_quotable bytes.now) }
     ensures { IfOk result (λ text. text ≡ bytes.now) }
 {
-    let mut text = String::new(alloc);
-    for b in bytes {
-        text.push(char::from(*b))?;
-    }
-    Ok(Text::of(text))
+    Text::from_str(alloc, str::from_utf8(bytes).unwrap())
 }
 
 /// The text that the word is, if it is one: printable ASCII in double quotes. The only error is want of

@@ -1,5 +1,5 @@
 //! The words that texts spell.
-ghost use Rattle.std.specs.Prelude.{◌≡◌, ◌≢◌, ◌↔◌, ◌++◌, ℕ, ℤ, List, codes, false, IsTrue, IfOk, IfSome, MatchOption, Ok, None};
+ghost use Rattle.std.specs.Prelude.{◌≡◌, ◌≢◌, ◌↔◌, ◌++◌, [], ℕ, ℤ, List, codes, false, IsTrue, IfOk, IfSome, MatchOption, Ok, None};
 ghost use Rattle.typed_settings.specs.Word.{SpellsItemWord, SpellsWord, has_parts, bounds_text, SpellsBounds, SpellsChoices};
 ghost use Rattle.typed_settings.specs.declared.item_word.ItemWord.{ItemWord};
 ghost use Rattle.typed_settings.specs.declared.word.Word.{Word};
@@ -72,22 +72,36 @@ fn bounds(alloc: Global, text: &str) -> Result<Option<(i64, i64)>, AllocError>
     Ok(Some((low, high)))
 }
 
+// Appends the names that the text spells, with bars between them, and tells whether it spells some.
+fn push_names(names: &mut Choices, text: &str) -> Result<bool, AllocError>
+    requires { names.old ≡ [] }
+    ensures spelled { IfOk result (λ told. IsTrue told → SpellsChoices text.now names.new) }
+    ensures refused { IfOk result
+        (λ told. told ≡ false → (others : List (List ℕ)) → ¬ SpellsChoices text.now others) }
+{
+    for name in text.split('|') {
+        if !is_identifier(name.as_bytes()) {
+            return Ok(false);
+        }
+        if names.contains(name) {
+            return Ok(false);
+        }
+        names.push(name)?;
+    }
+    Ok(true)
+}
+
 // The names that the text spells, with bars between them.
 fn choices(alloc: Global, text: &str) -> Result<Option<Choices>, AllocError>
     ensures some { IfOk result (λ o. IfSome o (SpellsChoices text.now)) }
     ensures none { result ≡ Ok None → (names : List (List ℕ)) → ¬ SpellsChoices text.now names }
 {
     let mut names = Choices::new(alloc);
-    for name in text.split('|') {
-        if !is_identifier(name.as_bytes()) {
-            return Ok(None);
-        }
-        if names.contains(name) {
-            return Ok(None);
-        }
-        names.push(name)?;
+    if push_names(&mut names, text)? {
+        Ok(Some(names))
+    } else {
+        Ok(None)
     }
-    Ok(Some(names))
 }
 
 // The word `int` with these parts.

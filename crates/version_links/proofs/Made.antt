@@ -47,25 +47,15 @@ module _ (a b c id : ℕ) (fits_a : a < 2 ^ 64) (fits_b : b < 2 ^ 64) (major min
       pub named_last : IsTrue (is_name last)
       named_last = valid a (b ∷ c ∷ id ∷ []) (omega arith) (fits_a, (fits_b, (fits_c, (fits_id, tt)))) last last_name_is
 
-      -- The parts of a data directory's names.
-      pub are_names : (path : Names) (one two three four : Link) → path ≡ store last → IsLink one patch last → IsLink two minor patch → IsLink three major minor → IsLink four (name_of []) major → AreNames (record { version = record { major = a; minor = b; patch = c }; id = id }) path one two three four
-      are_names path one two three four path_is one_is two_is three_is four_is = record {
+      -- The parts of a data directory's names, by their texts as they are passed on.
+      pub are_names : (first : List ℕ) → first ≡ extended [] 118 a → (path : Names) (one two three four : Link) → path ≡ store last
+          → IsLink one patch (extended patch 95 id) → IsLink two minor (extended minor 46 c) → IsLink three major (extended major 46 b) → IsLink four (name_of []) first
+          → AreNames (record { version = record { major = a; minor = b; patch = c }; id = id }) path one two three four
+      are_names first first_is path one two three four path_is one_is two_is three_is four_is = record {
         fits = record { version = record { major = fits_a; minor = fits_b; patch = fits_c }; id = fits_id };
         path_is = path_is ∙ ap store last_name_is;
-        patch_is = record { path_is = one_is.path_is ∙ ap store patch_name_is; text_is = one_is.text_is ∙ last_name_is };
-        minor_is = record { path_is = two_is.path_is ∙ ap store minor_name_is; text_is = two_is.text_is ∙ patch_name_is };
-        major_is = record { path_is = three_is.path_is ∙ ap store major_is; text_is = three_is.text_is ∙ minor_name_is };
-        current_is = record { path_is = four_is.path_is; text_is = four_is.text_is ∙ major_is };
+        patch_is = record { path_is = one_is.path_is ∙ ap store patch_name_is; text_is = one_is.text_is ∙ ap (λ (l : List ℕ). extended l 95 id) patch_name_is };
+        minor_is = record { path_is = two_is.path_is ∙ ap store minor_name_is; text_is = two_is.text_is ∙ ap (λ (l : List ℕ). extended l 46 c) minor_name_is };
+        major_is = record { path_is = three_is.path_is ∙ ap store major_is; text_is = three_is.text_is ∙ ap (λ (l : List ℕ). extended l 46 b) major_is };
+        current_is = record { path_is = four_is.path_is; text_is = four_is.text_is ∙ first_is };
       }
-
--- The same, from the texts that were passed on.
-pub made : (a b c id : ℕ) → a < 2 ^ 64 → b < 2 ^ 64 → c < 2 ^ 64 → id < 2 ^ 64
-    → (major minor patch last : List ℕ) (first second third fourth fifth sixth seventh : List ℕ)
-    → first ≡ major → second ≡ minor → third ≡ patch → fourth ≡ last → fifth ≡ patch → sixth ≡ minor → seventh ≡ major
-    → major ≡ extended [] 118 a → minor ≡ extended first 46 b → patch ≡ extended second 46 c → last ≡ extended third 95 id
-    → (path : Names) (one two three four : Link) → path ≡ store fourth → IsLink one fifth last → IsLink two sixth patch → IsLink three seventh minor → IsLink four (name_of []) major
-    → AreNames (record { version = record { major = a; minor = b; patch = c }; id = id }) path one two three four
-made a b c id fits_a fits_b fits_c fits_id major minor patch last first second third fourth fifth sixth seventh e1 e2 e3 e4 e5 e6 e7 major_is minor_is patch_is last_is path one two three four path_is one_is two_is three_is four_is =
-    are_names a b c id fits_a fits_b major minor major_is (minor_is ∙ ap (λ (l : List ℕ). extended l 46 b) e1)
-    fits_c patch (patch_is ∙ ap (λ (l : List ℕ). extended l 46 c) e2) fits_id last (last_is ∙ ap (λ (l : List ℕ). extended l 95 id) e3)
-    path one two three four (path_is ∙ ap store e4) (subst (λ (l : List ℕ). IsLink one l last) e5 one_is) (subst (λ (l : List ℕ). IsLink two l patch) e6 two_is) (subst (λ (l : List ℕ). IsLink three l minor) e7 three_is) four_is

@@ -1,9 +1,7 @@
 -- Where the links lead, by the links that were read.
 use Rattle.std.proofs.Common.{◌≡◌, ◌≢◌, ℕ, ◌<◌, ◌^◌, List, [], ◌∷◌, ◌++◌, length, codes, Option, Some, None, refl, sym, ◌∙◌, ap, subst, arith}
 use Rattle.outside.specs.Names.{Names}
-use Rattle.std.specs.Prelude.{Vec, option_map}
-use Rattle.std.specs.declared.alloc.Global.{Global}
-use Rattle.outside.specs.Tree.{link_in, Tree, node_at}
+use Rattle.outside.specs.Tree.{Tree}
 use Rattle.outside.specs.History.{History, tree_of}
 use Rattle.outside.specs.Told.{WhereTold}
 use Rattle.outside.proofs.Told.{where_map, where_both}
@@ -17,7 +15,7 @@ module _ (tree : Tree) (from : List ℕ) (name : List ℕ) (is : name ≡ name_o
   led_more : (text : List ℕ) (n : ℕ) → text ≡ name_of (from ++ n ∷ []) → n < 2 ^ 64 → Leads tree [] from → link_at tree name ≡ Some text → Leads tree [] (from ++ n ∷ [])
   led_more text n text_is fits led there = let step : HasStep tree from n = record { text = ap (λ (l : List ℕ). link_at tree l) (sym is) ∙ there ∙ ap Some text_is; fits = fits } in led-append tree [] from (n ∷ []) led (step, tt)
 
-  -- None.
+  -- Where no step is made, the link is bad.
   stuck_at : (mark : ℕ) → ((n : ℕ) → name_of (from ++ n ∷ []) ≡ extended name mark n) → length from < 4 → link_at tree (codes "current") ≢ None → (path : Names) → path ≡ store name → Leads tree [] from → IsStuck tree name mark → Resolves tree (bad path)
   stuck_at mark extends short some path path_is led stuck = (
     some,
@@ -65,23 +63,6 @@ module _ (t0 : Option History) (first : List ℕ) (a : ℕ) (fits_a : a < 2 ^ 64
       found_all t3 same last id fits_id last_is there_three path path_is =
           let last_name : last ≡ name_of (a ∷ b ∷ c ∷ id ∷ []) = last_is ∙ ap (λ (l : List ℕ). extended l 95 id) third_name in
           where_map (λ h both. (id, led_more (tree_of h) (a ∷ b ∷ c ∷ []) third third_name last id last_name fits_id both.0 both.1, path_is ∙ ap store last_name)) (where_both led_third (subst (λ t. WhereTold t (λ h. link_at (tree_of h) third ≡ Some last)) (same ∙ same_two ∙ same_one) there_three))
-
--- Where no number follows the `v`, `current` is bad.
-pub bad_current : (t0 : Option History) (first : List ℕ) → WhereTold t0 (λ h. link_at (tree_of h) (codes "current") ≡ Some first) → ((n : ℕ) → n < 2 ^ 64 → first ≢ extended [] 118 n) → (path : Names) → path ≡ store (codes "current") → WhereTold t0 (λ h. Resolves (tree_of h) (bad path))
-bad_current t0 first there other path path_is = where_map (λ h here. (
-  λ none. let e : None ≡ Some first = sym none ∙ here in cc,
-  record {
-    from = [];
-    short = omega arith;
-    led = tt;
-    path_is = path_is;
-    ends = λ n step. let same : Some first ≡ Some (name_of (n ∷ [])) = sym here ∙ step.text in other n step.fits (let e : first ≡ name_of (n ∷ []) = cc in e);
-  },
-)) there
-
--- What was read of `current`.
-pub there_now : (t0 : Option History) (seen : Option (Vec ℕ Global)) (path : Names) (text : Vec ℕ Global) → WhereTold t0 (λ h. option_map (λ v. v.items) seen ≡ link_in (node_at (tree_of h) path)) → seen ≡ Some text → path ≡ store (codes "current") → (first : List ℕ) → first ≡ text.items → WhereTold t0 (λ h. link_at (tree_of h) (codes "current") ≡ Some first)
-there_now t0 seen path text tells some path_is first first_is = where_map (λ h is. ap (λ (p : Names). link_in (node_at (tree_of h) p)) (sym path_is) ∙ sym is ∙ ap (λ (o : Option (Vec ℕ Global)). option_map (λ v. v.items) o) some ∙ ap Some (sym first_is)) tells
 
 -- A text that was read, as it is passed on.
 pub seen_as : (t : Option History) (name text passed : List ℕ) → passed ≡ text → WhereTold t (λ h. link_at (tree_of h) name ≡ Some text) → WhereTold t (λ h. link_at (tree_of h) name ≡ Some passed)

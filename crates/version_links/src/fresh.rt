@@ -19,7 +19,7 @@ fn is_text(found: Option<Vec<u8>>, text: &[u8]) -> bool
 }
 
 // Whether the data directory is free.
-fn is_free<D: Disk>(alloc: Global, disk: &mut D, names: &Names) -> Result<bool, DiskErr>
+fn are_free<D: Disk>(alloc: Global, disk: &mut D, names: &Names) -> Result<bool, DiskErr>
     ensures free { IfOk result (λ free. WhereTold (D.told disk.old) (λ h. IsTrue free ↔ IsFree (tree_of h) names.now)) }
     ensures same { D.told disk.new ≡ D.told disk.old }
     ensures cause { HasCauseOf DiskErr.Failed (D.faults disk.old) (D.faults disk.new) result }
@@ -27,6 +27,36 @@ fn is_free<D: Disk>(alloc: Global, disk: &mut D, names: &Names) -> Result<bool, 
     let below = disk.list(alloc, names.directory())?;
     let named = disk.read_link(alloc, &names.patch.path)?;
     Ok(below.is_empty() && !is_text(named, &names.patch.text))
+}
+
+// Whether the data directory of the version with this id is free.
+fn is_free<D: Disk>(
+    alloc: Global,
+    disk: &mut D,
+    version: &Version,
+    id: u64,
+) -> Result<bool, DiskErr>
+    ensures free { IfOk result (λ free. WhereTold (D.told disk.old) (λ h. IsTrue free ↔ IsFree (tree_of h) (record { version = version.now; id = id }))) }
+    ensures same { D.told disk.new ≡ D.told disk.old }
+    ensures cause { HasCauseOf DiskErr.Failed (D.faults disk.old) (D.faults disk.new) result }
+{
+    let names = Names::of(alloc, version, id)?;
+    are_free(alloc, disk, &names)
+}
+
+// The least id with which the data directory of the version is free.
+fn first_free<D: Disk>(alloc: Global, disk: &mut D, version: &Version) -> Result<u64, DiskErr>
+    ensures first { IfOk result (λ id. WhereTold (D.told disk.old) (λ h. IsFirstFree (tree_of h) (record { version = version.now; id = id }))) }
+    ensures same { D.told disk.new ≡ D.told disk.old }
+    ensures cause { HasCauseOf DiskErr.Failed (D.faults disk.old) (D.faults disk.new) result }
+{
+    for id in 0..u64::MAX {
+        let free = is_free(alloc, disk, version, id)?;
+        if free {
+            return Ok(id);
+        }
+    }
+    Err(DiskErr::Memory)
 }
 
 /// The names of a new data directory of the version: the one with the least id such that no path is below the
@@ -40,12 +70,6 @@ pub fn fresh_dir<D: Disk>(alloc: Global, disk: &mut D, version: &Version) -> Res
     ensures same { D.told disk.new ≡ D.told disk.old }
     ensures cause { HasCauseOf DiskErr.Failed (D.faults disk.old) (D.faults disk.new) result }
 {
-    for id in 0..u64::MAX {
-        let names = Names::of(alloc, version, id)?;
-        let free = is_free(alloc, disk, &names)?;
-        if free {
-            return Ok(names);
-        }
-    }
-    Err(DiskErr::Memory)
+    let id = first_free(alloc, disk, version)?;
+    Ok(Names::of(alloc, version, id)?)
 }

@@ -2,7 +2,9 @@
 ghost use Rattle.std.specs.Prelude.{IfOk, IsTrue};
 ghost use Rattle.outside.specs.Names.{is_name};
 ghost use Rattle.version_links.specs.Links.{IsLink};
+ghost use Rattle.version_links.specs.Steps.{extended};
 
+use crate::printing::with_number;
 use crate::store_path::store_path;
 use outside::Path;
 use std::alloc::{AllocError, Global};
@@ -23,4 +25,13 @@ pub fn link_of(alloc: Global, name: &[u8], text: Vec<u8>) -> Result<Link, AllocE
 {
     let path = store_path(alloc, name)?;
     Ok(Link { path, text })
+}
+
+/// The link with this name, whose text is the name with the mark and the number behind it.
+pub fn numbered_link(alloc: Global, name: &[u8], mark: u8, n: u64) -> Result<Link, AllocError>
+    requires { IsTrue (is_name name.now) }
+    ensures { IfOk result (λ link. IsLink link name.now (extended name.now mark n)) }
+{
+    let text = with_number(alloc, name, mark, n)?;
+    link_of(alloc, name, text)
 }

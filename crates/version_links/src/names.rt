@@ -3,7 +3,7 @@ ghost use Rattle.std.specs.Prelude.{◌≡◌, IfOk};
 ghost use Rattle.version_links.specs.Names.{IsTarget, directory};
 
 use crate::Version;
-use crate::link::{Link, link_of};
+use crate::link::{Link, link_of, numbered_link};
 use crate::printing::with_number;
 use crate::store_path::store_path;
 use outside::Path;
@@ -42,18 +42,19 @@ impl Names {
         ensures { IfOk result (λ names. names ≡ record { version = version.now; id = id }) }
     {
         let (a, b, c) = (version.major, version.minor, version.patch);
-        let major = with_number(alloc, b"", b'v', a)?;
-        let minor = with_number(alloc, &major, b'.', b)?;
-        let patch = with_number(alloc, &minor, b'.', c)?;
-        let directory = with_number(alloc, &patch, b'_', id)?;
+        let first = with_number(alloc, b"", b'v', a)?;
+        let current = link_of(alloc, b"current", first)?;
+        let major = numbered_link(alloc, &current.text, b'.', b)?;
+        let minor = numbered_link(alloc, &major.text, b'.', c)?;
+        let patch = numbered_link(alloc, &minor.text, b'_', id)?;
         Ok(Names {
             version: *version,
             id,
-            directory: store_path(alloc, &directory)?,
-            patch: link_of(alloc, &patch, directory)?,
-            minor: link_of(alloc, &minor, patch)?,
-            major: link_of(alloc, &major, minor)?,
-            current: link_of(alloc, b"current", major)?,
+            directory: store_path(alloc, &patch.text)?,
+            patch,
+            minor,
+            major,
+            current,
         })
     }
 

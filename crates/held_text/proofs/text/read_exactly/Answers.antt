@@ -1,7 +1,8 @@
-use Rattle.std.proofs.Common.{rules, ◌≡◌, ◌≢◌, ◌∙◌, Some, option_map, sym, ap}
+use Rattle.std.proofs.Common.{◌≡◌, ◌∙◌, Some, option_map, sym, ap}
 use Rattle.serde_json.specs.View.{view}
 use Rattle.json_trees.specs.Json.{data_of}
-use Rattle.held_text.proofs.HeldReadings.{unprinted, value_read, other_text}
+use Rattle.held_text.specs.HeldText.{held_text}
+use Rattle.held_text.proofs.HeldReadings.{unprinted, value_read, err_read}
 use Rattle.held_text.proofs.Readings.{err_reads}
 use Rattle.held_text.proofs.text.read_exactly.Goals as goal
 
@@ -14,13 +15,13 @@ returns-in_err-held-clause-exact c =
     value_read c.args.text.now (view c.in-Some.value) _ read
     (err_reads _ _ _ _ c.from_residual-in_err-held.result c.from_residual-in_err-held.ensures.1 (λ h valid is e gives. gives ∙ c.in_err-held.ensures.finds h valid is))
 
-pub returns-else-eq-clause-exact : goal.returns-else-eq-clause-exact
-returns-else-eq-clause-exact c =
+pub returns-in_err-expect_text-clause-exact : goal.returns-in_err-expect_text-clause-exact
+returns-in_err-expect_text-clause-exact c =
     let read : data_of c.args.text.now ≡ Some (view c.in-Some.value) = sym c.in_ok-value.ensures ∙ ap (option_map view) c.in-Some.is in
-    let differs : c.in_ok-print.field-0 ≢ c.args.text.now = search rules in
-    λ h is prints. absurd (other_text c.args.text.now c.in_ok-print.field-0 c.in_ok-held.held h c.in_ok-print.ensures.text differs (value_read c.args.text.now (view c.in-Some.value) _ read c.in_ok-held.ensures) is prints)
+    λ h is prints. err_read h _ c.from_residual-in_err-expect_text.result c.from_residual-in_err-expect_text.ensures.1
+    (λ e gives wrong. c.in_err-expect_text.ensures.err (λ memory. wrong (gives ∙ memory)) (ap held_text (value_read c.args.text.now (view c.in-Some.value) _ read c.in_ok-held.ensures h is prints) ∙ prints))
 
-pub returns-then-eq-clause-exact : goal.returns-then-eq-clause-exact
-returns-then-eq-clause-exact c =
+pub returns-clause-exact : goal.returns-clause-exact
+returns-clause-exact c =
     let read : data_of c.args.text.now ≡ Some (view c.in-Some.value) = sym c.in_ok-value.ensures ∙ ap (option_map view) c.in-Some.is in
     value_read c.args.text.now (view c.in-Some.value) _ read c.in_ok-held.ensures

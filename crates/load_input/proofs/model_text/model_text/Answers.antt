@@ -5,8 +5,5 @@ use Rattle.load_input.specs.Image.{type_lines, service_lines, setting_lines}
 use Rattle.load_input.proofs.Counting.{lists_more}
 use Rattle.load_input.proofs.model_text.model_text.Goals as goal
 
-pub loop-j-preserved : goal.loop-j-preserved
-loop-j-preserved c = grind (arith, lists_more service_lines type_lines c.loop-j.j)
-
 pub loop-i-preserved : goal.loop-i-preserved
 loop-i-preserved c = grind (arith, lists_more setting_lines (type_lines ++ flat_map service_lines (below 10)) c.loop-i.i)

@@ -11,31 +11,31 @@ pub work_named-work-requires : goal.work_named-work-requires
 work_named-work-requires g c =
     known_at (is_known c.args.migrations.now) c.args.back c.args.transition.now.names.items c.deref.result.now c.loop-index.index c.name_at-name.result.now c.requires c.deref.ensures.value c.name_at-name.ensures
 
-pub returns-in_err-held-clause-stopped : goal.returns-in_err-held-clause-stopped
-returns-in_err-held-clause-stopped g c =
-    handed_on c.from_residual.result c.in_err-held.field-0.0 _ c.from_residual.ensures.1
-    (stopped_at c.args.migrations.now c.args.back (names_in_order c.args.back c.args.transition.now.names.items) c.loop-index.index c.name_at-name.result.now c.work_named-work.result.now c.args.held _ _ _ _ _ c.loop-index.held c.in_err-held.field-0.0
+pub returns-in_err-made-clause-stopped : goal.returns-in_err-made-clause-stopped
+returns-in_err-made-clause-stopped g c =
+    handed_on c.from_residual.result c.in_err-made.field-0.0 _ c.from_residual.ensures.1
+    (stopped_at c.args.migrations.now c.args.back (names_in_order c.args.back c.args.transition.now.names.items) c.loop-index.index c.name_at-name.result.now c.work_named-work.result.now c.args.held.now _ _ _ _ _ c.loop-index.held c.in_err-made.field-0.0
     (subst (λ names. slice_get (names_in_order c.args.back names) c.loop-index.index ≡ Some c.name_at-name.result.now) c.deref.ensures.value c.name_at-name.ensures)
-    c.work_named-work.ensures c.loop-index.invariant.carried c.in_err-held.ensures.not_mapped (c.in_err-held.ensures.refused ∙ ap (λ l. with_more l (refusals_of (task_of c.name_at-name.result.now c.work_named-work.result.now c.args.back) c.loop-index.held c.in_err-held.field-0.0)) c.loop-index.invariant.refused) c.in_err-held.ensures.of_task)
+    c.work_named-work.ensures c.loop-index.invariant.carried c.in_err-made.ensures.not_mapped (c.in_err-made.ensures.refused ∙ ap (λ l. with_more l (refusals_of (task_of c.name_at-name.result.now c.work_named-work.result.now c.args.back) c.loop-index.held c.in_err-made.field-0.0)) c.loop-index.invariant.refused) c.in_err-made.ensures.of_task)
 
 pub loop-index-preserved : goal.loop-index-preserved
 loop-index-preserved g c = record {
-  carried = carried_more c.args.migrations.now c.args.back (names_in_order c.args.back c.args.transition.now.names.items) c.loop-index.index c.name_at-name.result.now c.work_named-work.result.now c.args.held _ _ _ c.loop-index.held c.in_ok-held.held
+  carried = rw c.replace.ensures.after (carried_more c.args.migrations.now c.args.back (names_in_order c.args.back c.args.transition.now.names.items) c.loop-index.index c.name_at-name.result.now c.work_named-work.result.now c.args.held.now _ _ _ c.loop-index.held c.in_ok-made.made
       (subst (λ names. slice_get (names_in_order c.args.back names) c.loop-index.index ≡ Some c.name_at-name.result.now) c.deref.ensures.value c.name_at-name.ensures)
-      c.work_named-work.ensures c.loop-index.invariant.carried c.in_ok-held.ensures.mapped c.in_ok-held.ensures.made;
-  carries = g.met.M.Mapper.carries_more _ _ _ c.loop-index.invariant.carries c.in_ok-held.ensures.carries;
-  refused = c.in_ok-held.ensures.not_refused ∙ c.loop-index.invariant.refused;
-  faults = c.in_ok-held.ensures.cause.kept ∙ c.loop-index.invariant.faults;
+      c.work_named-work.ensures c.loop-index.invariant.carried c.in_ok-made.ensures.mapped c.in_ok-made.ensures.made);
+  carries = g.met.M.Mapper.carries_more _ _ _ c.loop-index.invariant.carries c.in_ok-made.ensures.carries;
+  refused = c.in_ok-made.ensures.not_refused ∙ c.loop-index.invariant.refused;
+  faults = c.in_ok-made.ensures.cause.kept ∙ c.loop-index.invariant.faults;
 }
 
 pub returns-clause-carried : goal.returns-clause-carried
 returns-clause-carried g c =
-    carried_all c.args.migrations.now c.args.back c.args.transition.now.names.items c.loop-index.index c.args.held _ _ c.loop-index.held (omega arith) c.loop-index.invariant.carried
+    carried_all c.args.migrations.now c.args.back c.args.transition.now.names.items c.loop-index.index c.args.held.now _ _ c.loop-index.held (omega arith) c.loop-index.invariant.carried
 
-pub returns-in_err-held-clause-cause : goal.returns-in_err-held-clause-cause
-returns-in_err-held-clause-cause g c =
-    cause_task c.from_residual.result c.in_err-held.field-0.0 c.name_at-name.result.now _ _ _ c.loop-index.invariant.faults c.from_residual.ensures.1 c.in_err-held.ensures.named c.in_err-held.ensures.cause
+pub returns-in_err-made-clause-cause : goal.returns-in_err-made-clause-cause
+returns-in_err-made-clause-cause g c =
+    cause_task c.from_residual.result c.in_err-made.field-0.0 c.name_at-name.result.now _ _ _ c.loop-index.invariant.faults c.from_residual.ensures.1 c.in_err-made.ensures.named c.in_err-made.ensures.cause
 
-pub returns-in_err-held-clause-stops : goal.returns-in_err-held-clause-stops
-returns-in_err-held-clause-stops g c =
-    handed_on c.from_residual.result c.in_err-held.field-0.0 _ c.from_residual.ensures.1 (g.met.M.Mapper.stops_later _ _ _ _ c.loop-index.invariant.carries c.in_err-held.ensures.stops)
+pub returns-in_err-made-clause-stops : goal.returns-in_err-made-clause-stops
+returns-in_err-made-clause-stops g c =
+    handed_on c.from_residual.result c.in_err-made.field-0.0 _ c.from_residual.ensures.1 (g.met.M.Mapper.stops_later _ _ _ _ c.loop-index.invariant.carries c.in_err-made.ensures.stops)

@@ -11,7 +11,7 @@ use Rattle.migrate_chain.proofs.moving.copy_along.Goals as goal
 use Rattle.outside.proofs.Results.{handed_on}
 
 pub loop-transition-init : goal.loop-transition-init
-loop-transition-init g c = record { carried = carried_none c.args.held _; carries = g.met.M.Mapper.carries_none _; refused = refl; others = none_saved _; disk_faults = refl; mapper_faults = refl }
+loop-transition-init g c = record { carried = carried_none c.args.held.now _; carries = g.met.M.Mapper.carries_none _; refused = refl; others = none_saved _; disk_faults = refl; mapper_faults = refl }
 
 pub returns-in_err-copy_reached-clause-others : goal.returns-in_err-copy_reached-clause-others
 returns-in_err-copy_reached-clause-others g c = saved_then _ _ _ c.loop-transition.invariant.others c.in_err-copy_reached.ensures.others
@@ -19,33 +19,33 @@ returns-in_err-copy_reached-clause-others g c = saved_then _ _ _ c.loop-transiti
 pub returns-in_err-copy_reached-clause-ends_early : goal.returns-in_err-copy_reached-clause-ends_early
 returns-in_err-copy_reached-clause-ends_early g c =
     handed_on c.from_residual.result (of_disk c.in_err-copy_reached.field-0.0) _ c.from_residual.ensures.1
-    (inl (c.in_err-copy_reached.field-0.0, refl, steps_partly (λ t. t.now) c.args.migrations.now c.args.back c.args.way.now c.loop-transition.transition-index c.args.held _ _ c.loop-transition.held c.loop-transition.invariant.carried, c.loop-transition.invariant.refused))
+    (inl (c.in_err-copy_reached.field-0.0, refl, steps_partly (λ t. t.now) c.args.migrations.now c.args.back c.args.way.now c.loop-transition.transition-index c.args.held.now _ _ c.loop-transition.held c.loop-transition.invariant.carried, c.loop-transition.invariant.refused))
 
 pub carry_out-requires : goal.carry_out-requires
 carry_out-requires g c = step_known (λ t. t.now) c.args.migrations.now c.args.back c.args.way.now c.loop-transition.transition-index (names_known c.args.migrations.now) c.transition-item.result c.requires c.loop-transition-test.true c.transition-item.is
 
-pub returns-in_err-held-clause-others : goal.returns-in_err-held-clause-others
-returns-in_err-held-clause-others g c = saved_then _ _ _ c.loop-transition.invariant.others c.in_ok-copy_reached.ensures.others
+pub returns-in_err-carry_out-clause-others : goal.returns-in_err-carry_out-clause-others
+returns-in_err-carry_out-clause-others g c = saved_then _ _ _ c.loop-transition.invariant.others c.in_ok-copy_reached.ensures.others
 
-pub returns-in_err-held-clause-ends_early : goal.returns-in_err-held-clause-ends_early
-returns-in_err-held-clause-ends_early g c =
-    handed_on c.from_residual-in_err-held.result (of_mapper c.in_err-held.field-0.0) _ c.from_residual-in_err-held.ensures.1
+pub returns-in_err-carry_out-clause-ends_early : goal.returns-in_err-carry_out-clause-ends_early
+returns-in_err-carry_out-clause-ends_early g c =
+    handed_on c.from_residual-in_err-carry_out.result (of_mapper c.in_err-carry_out.field-0.0) _ c.from_residual-in_err-carry_out.ensures.1
     (inr (
-      c.in_err-held.field-0.0,
+      c.in_err-carry_out.field-0.0,
       refl,
-      step_stopped (λ t. t.now) c.args.migrations.now c.args.back c.args.way.now c.loop-transition.transition-index c.transition-item.result c.args.held _ _ _ _ _ _ c.loop-transition.held c.in_err-held.field-0.0 c.loop-transition-test.true c.transition-item.is c.loop-transition.invariant.refused c.loop-transition.invariant.carried
-          (subst (λ h. IsStopped (tasks_in c.args.migrations.now c.args.back c.transition-item.result.now) h (g.M.Mapper.mapped c.loop-transition.mapper) (g.M.Mapper.mapped c.carry_out.new.mapper) (g.M.Mapper.refused c.loop-transition.mapper) (g.M.Mapper.refused c.carry_out.new.mapper) c.in_err-held.field-0.0) c.in_ok-copy_reached.ensures.held c.in_err-held.ensures.stopped),
+      step_stopped (λ t. t.now) c.args.migrations.now c.args.back c.args.way.now c.loop-transition.transition-index c.transition-item.result c.args.held.now _ _ _ _ _ _ c.loop-transition.held c.in_err-carry_out.field-0.0 c.loop-transition-test.true c.transition-item.is c.loop-transition.invariant.refused c.loop-transition.invariant.carried
+          (subst (λ h. IsStopped (tasks_in c.args.migrations.now c.args.back c.transition-item.result.now) h (g.M.Mapper.mapped c.loop-transition.mapper) (g.M.Mapper.mapped c.carry_out.new.mapper) (g.M.Mapper.refused c.loop-transition.mapper) (g.M.Mapper.refused c.carry_out.new.mapper) c.in_err-carry_out.field-0.0) c.in_ok-copy_reached.ensures.held c.in_err-carry_out.ensures.stopped),
     ))
 
 pub loop-transition-preserved : goal.loop-transition-preserved
 loop-transition-preserved g c = record {
-  carried = step_carried (λ t. t.now) c.args.migrations.now c.args.back c.args.way.now c.loop-transition.transition-index c.transition-item.result c.args.held _ _ _ c.loop-transition.held c.in_ok-held.held c.loop-transition-test.true c.transition-item.is c.loop-transition.invariant.carried
-      (subst (λ h. IsCarried (tasks_in c.args.migrations.now c.args.back c.transition-item.result.now) h (g.M.Mapper.mapped c.loop-transition.mapper) (g.M.Mapper.mapped c.carry_out.new.mapper) c.in_ok-held.held) c.in_ok-copy_reached.ensures.held c.in_ok-held.ensures.carried);
-  carries = g.met.M.Mapper.carries_more _ _ _ c.loop-transition.invariant.carries c.in_ok-held.ensures.carries;
-  refused = c.in_ok-held.ensures.not_refused ∙ c.loop-transition.invariant.refused;
+  carried = step_carried (λ t. t.now) c.args.migrations.now c.args.back c.args.way.now c.loop-transition.transition-index c.transition-item.result c.args.held.now _ _ _ c.loop-transition.held c.carry_out.new.held c.loop-transition-test.true c.transition-item.is c.loop-transition.invariant.carried
+      (subst (λ h. IsCarried (tasks_in c.args.migrations.now c.args.back c.transition-item.result.now) h (g.M.Mapper.mapped c.loop-transition.mapper) (g.M.Mapper.mapped c.carry_out.new.mapper) c.carry_out.new.held) c.in_ok-copy_reached.ensures.held c.in_ok-carry_out.ensures.carried);
+  carries = g.met.M.Mapper.carries_more _ _ _ c.loop-transition.invariant.carries c.in_ok-carry_out.ensures.carries;
+  refused = c.in_ok-carry_out.ensures.not_refused ∙ c.loop-transition.invariant.refused;
   others = saved_then _ _ _ c.loop-transition.invariant.others c.in_ok-copy_reached.ensures.others;
   disk_faults = c.in_ok-copy_reached.ensures.cause.kept ∙ c.loop-transition.invariant.disk_faults;
-  mapper_faults = c.in_ok-held.ensures.cause.kept ∙ c.loop-transition.invariant.mapper_faults;
+  mapper_faults = c.in_ok-carry_out.ensures.cause.kept ∙ c.loop-transition.invariant.mapper_faults;
 }
 
 pub returns-in_err-copy_owing_all-clause-others : goal.returns-in_err-copy_owing_all-clause-others
@@ -54,7 +54,7 @@ returns-in_err-copy_owing_all-clause-others g c = saved_then _ _ _ c.loop-transi
 pub returns-in_err-copy_owing_all-clause-ends_early : goal.returns-in_err-copy_owing_all-clause-ends_early
 returns-in_err-copy_owing_all-clause-ends_early g c =
     handed_on c.from_residual-in_err-copy_owing_all.result (of_disk c.in_err-copy_owing_all.field-0.0) _ c.from_residual-in_err-copy_owing_all.ensures.1
-    (inl (c.in_err-copy_owing_all.field-0.0, refl, steps_partly (λ t. t.now) c.args.migrations.now c.args.back c.args.way.now c.loop-transition.transition-index c.args.held _ _ c.loop-transition.held c.loop-transition.invariant.carried, c.loop-transition.invariant.refused))
+    (inl (c.in_err-copy_owing_all.field-0.0, refl, steps_partly (λ t. t.now) c.args.migrations.now c.args.back c.args.way.now c.loop-transition.transition-index c.args.held.now _ _ c.loop-transition.held c.loop-transition.invariant.carried, c.loop-transition.invariant.refused))
 
 pub returns-clause-others : goal.returns-clause-others
 returns-clause-others g c = saved_then _ _ _ c.loop-transition.invariant.others (copies_others _ _ _ _ _ c.in_ok-copy_owing_all.ensures.copies)
@@ -62,13 +62,13 @@ returns-clause-others g c = saved_then _ _ _ c.loop-transition.invariant.others 
 pub returns-clause-copied : goal.returns-clause-copied
 returns-clause-copied g c = (
   c.loop-transition.held,
-  steps_carried (λ t. t.now) c.args.migrations.now c.args.back c.args.way.now c.loop-transition.transition-index c.args.held _ _ c.loop-transition.held c.loop-transition-test.false c.loop-transition.invariant.carried,
+  steps_carried (λ t. t.now) c.args.migrations.now c.args.back c.args.way.now c.loop-transition.transition-index c.args.held.now _ _ c.loop-transition.held c.loop-transition-test.false c.loop-transition.invariant.carried,
   copy_saved c.args.to.now (owing_all c.loop-transition.held) c.in_ok-copy_owing_all.field-0 _ _ _ c.loop-transition.invariant.others c.in_ok-copy_owing_all.ensures.copies,
 )
 
-pub returns-in_err-held-clause-mapper_cause : goal.returns-in_err-held-clause-mapper_cause
-returns-in_err-held-clause-mapper_cause g c =
-    cause_mapped c.from_residual-in_err-held.result c.in_err-held.field-0.0 _ _ _ c.loop-transition.invariant.mapper_faults c.from_residual-in_err-held.ensures.1 c.in_err-held.ensures.cause
+pub returns-in_err-carry_out-clause-mapper_cause : goal.returns-in_err-carry_out-clause-mapper_cause
+returns-in_err-carry_out-clause-mapper_cause g c =
+    cause_mapped c.from_residual-in_err-carry_out.result c.in_err-carry_out.field-0.0 _ _ _ c.loop-transition.invariant.mapper_faults c.from_residual-in_err-carry_out.ensures.1 c.in_err-carry_out.ensures.cause
 
 pub returns-in_err-copy_reached-clause-mapper_cause : goal.returns-in_err-copy_reached-clause-mapper_cause
 returns-in_err-copy_reached-clause-mapper_cause g c =
@@ -85,10 +85,10 @@ pub returns-in_err-copy_reached-clause-stopped : goal.returns-in_err-copy_reache
 returns-in_err-copy_reached-clause-stopped g c =
     handed_on c.from_residual.result (of_disk c.in_err-copy_reached.field-0.0) _ c.from_residual.ensures.1 (inl (disk_quiet c.in_err-copy_reached.field-0.0, c.loop-transition.invariant.carries))
 
-pub returns-in_err-held-clause-stopped : goal.returns-in_err-held-clause-stopped
-returns-in_err-held-clause-stopped g c =
-    handed_on c.from_residual-in_err-held.result (of_mapper c.in_err-held.field-0.0) _ c.from_residual-in_err-held.ensures.1
-    (inr (c.in_err-held.field-0.0, refl, g.met.M.Mapper.stops_later _ _ _ _ c.loop-transition.invariant.carries c.in_err-held.ensures.stops))
+pub returns-in_err-carry_out-clause-stopped : goal.returns-in_err-carry_out-clause-stopped
+returns-in_err-carry_out-clause-stopped g c =
+    handed_on c.from_residual-in_err-carry_out.result (of_mapper c.in_err-carry_out.field-0.0) _ c.from_residual-in_err-carry_out.ensures.1
+    (inr (c.in_err-carry_out.field-0.0, refl, g.met.M.Mapper.stops_later _ _ _ _ c.loop-transition.invariant.carries c.in_err-carry_out.ensures.stops))
 
 pub returns-in_err-copy_owing_all-clause-stopped : goal.returns-in_err-copy_owing_all-clause-stopped
 returns-in_err-copy_owing_all-clause-stopped g c =

@@ -1,8 +1,35 @@
+use Rattle.std.proofs.Common.{map}
+use Rattle.std.proofs.lemmas.Result.{err_from_is_err_and}
 use Rattle.template_eval.specs.Views.{places_of, pair_of}
-use Rattle.template_eval.proofs.Entries.{joined_first}
+use Rattle.template_eval.proofs.Entries.{behind_begins, behind_next, behind_fails, behind_done}
 use Rattle.template_eval.proofs.joins.push_children.Goals as goal
 
-pub returns-in_ok-push_child-in-Some-clause-ok : goal.returns-in_ok-push_child-in-Some-clause-ok
-returns-in_ok-push_child-in-Some-clause-ok c =
-    joined_first c.args.inputs.now.content.now c.push_led.result c.args.separator.now (pair_of c.args.inputs.now c.args.joiner.now c.args.path.now) (places_of c.args.inputs.now.content.now c.args.places) c.in_ok-split.field-0 c.in-Some.split
-    c.args.out.now.items c.push_child.new.out.items c.push_led.new.out.items c.in_ok-split.ensures.parts c.in-Some.is c.in_ok-push_child-in-Some.ensures.ok c.push_led.ensures.ok
+pub loop-split-init : goal.loop-split-init
+loop-split-init c =
+    let pair = pair_of c.args.inputs.now c.args.joiner.now c.args.path.now in
+    behind_begins c.args.separator.now (map pair (places_of c.args.inputs.now.content.now c.args.places)) c.args.out.now.items
+
+pub loop-split-preserved-in_ok-push_behind : goal.loop-split-preserved-in_ok-push_behind
+loop-split-preserved-in_ok-push_behind c =
+    let pair = pair_of c.args.inputs.now c.args.joiner.now c.args.path.now in
+    behind_next c.args.inputs.now.content.now _ _ c.args.separator.now pair (places_of c.args.inputs.now.content.now c.loop-split.rest) c.in_ok-split.field-0 c.in-Some.split
+    c.args.out.now.items c.loop-split.out.items c.push_behind.new.out.items c.in_ok-split.ensures.parts c.in-Some.is c.loop-split.invariant c.in_ok-push_behind.ensures.ok
+
+pub loop-split-preserved : goal.loop-split-preserved
+loop-split-preserved c =
+    let pair = pair_of c.args.inputs.now c.args.joiner.now c.args.path.now in
+    behind_next c.args.inputs.now.content.now _ _ c.args.separator.now pair (places_of c.args.inputs.now.content.now c.loop-split.rest) c.in_ok-split.field-0 c.in-Some.split
+    c.args.out.now.items c.loop-split.out.items c.push_behind.new.out.items c.in_ok-split.ensures.parts c.in-Some.is c.loop-split.invariant c.in_ok-push_behind.ensures.ok
+
+pub returns-in_err-push_behind-clause-err : goal.returns-in_err-push_behind-clause-err
+returns-in_err-push_behind-clause-err c =
+    let x = err_from_is_err_and c.from_residual-in_err-push_behind.result c.from_residual-in_err-push_behind.ensures.1 in
+    let pair = pair_of c.args.inputs.now c.args.joiner.now c.args.path.now in
+    rw (x.1, x.2) (λ k. behind_fails c.args.inputs.now.content.now _ _ c.args.separator.now pair (places_of c.args.inputs.now.content.now c.loop-split.rest) c.in_ok-split.field-0 c.in-Some.split
+    c.args.out.now.items c.loop-split.out.items _ c.in_ok-split.ensures.parts c.in-Some.is c.loop-split.invariant (c.in_err-push_behind.ensures.err k))
+
+pub returns-clause-ok : goal.returns-clause-ok
+returns-clause-ok c =
+    let pair = pair_of c.args.inputs.now c.args.joiner.now c.args.path.now in
+    behind_done c.args.inputs.now.content.now _ _ c.args.separator.now pair (places_of c.args.inputs.now.content.now c.loop-split.rest) c.in_ok-split.field-0
+    c.args.out.now.items c.loop-split.out.items c.in_ok-split.ensures.parts c.in_default.is c.loop-split.invariant

@@ -15,13 +15,16 @@ abbrev pub decreases-push_node : goal.decreases-push_node
 decreases-push_node l = size_one (branch_of l.node.now) + 1
 
 abbrev pub decreases-push_each : goal.decreases-push_each
-decreases-push_each l = size (tree_in l.first.now) + size (tree_in l.other.now) + 3
+decreases-push_each l = size (tree_in l.first.now) + size (tree_in l.other.now) + 4
 
 abbrev pub decreases-push_places : goal.decreases-push_places
-decreases-push_places l = size (tree_in l.first.now) + size (tree_in l.other.now) + 2
+decreases-push_places l = size (tree_in l.first.now) + size (tree_in l.other.now) + 3
 
 abbrev pub decreases-push_firsts : goal.decreases-push_firsts
-decreases-push_firsts l = size (tree_in l.first.now) + 1
+decreases-push_firsts l = size (tree_in l.first.now) + 2
+
+abbrev pub decreases-push_first : goal.decreases-push_first
+decreases-push_first l = size (tree_in l.first.now) + 1
 
 abbrev pub invariant-push_nodes-loop-node : goal.invariant-push_nodes-loop-node
 invariant-push_nodes-loop-node l = record {
