@@ -1,6 +1,7 @@
 //! Each shape of body, and each refusal.
-use crate::texts::{said, says, tx, whole};
+use crate::texts::{said, says, whole};
 use api_http::Answer;
+use example_hosts::tx;
 use example_texts::{key, same};
 use json_trees::{flatten, flatten_patch};
 use key_names::{Key, Text};

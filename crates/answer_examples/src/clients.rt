@@ -1,35 +1,18 @@
 //! What a machine in memory replies to clients.
-ghost use Rattle.std.specs.Prelude.{◌≡◌, IfOk, All, true};
-ghost use Rattle.key_names.specs.Key.{is_prefix};
 ghost use Rattle.model_file.specs.Model.{AreTyped};
 ghost use Rattle.opening_step.specs.Step.{AreSettings};
 ghost use Rattle.settings_machine.specs.Typed.{IsTypedHeld};
-ghost use Rattle.settings_tree.specs.Content.{settings_key};
 ghost use Rattle.typed_settings.specs.Order.{IsTable};
 
-use crate::host::{image, ready, turns};
-use crate::texts::{said, tx};
+use crate::image::FILES;
+use crate::texts::said;
+use example_hosts::{image_of, pairs_of, ready, turns, tx};
 use example_texts::{key, same};
-use json_trees::flatten_patch;
-use key_names::Key;
 use machine_answers::{JobShown, MachineReply, job_text};
 use pending_tx::CommitError;
-use plain_machine::{OpeningAnswer, PlainImage, PlainMachine, are_settings};
-use settings_tree::Pending;
+use plain_machine::{OpeningAnswer, PlainImage, PlainMachine};
 use std::alloc::{AllocError, Global};
 use std::test::Fail;
-
-// The pairs of the patch that the text is, below `settings`.
-fn pairs_of(alloc: Global, text: &str) -> Result<Vec<(Key, Pending)>, Fail>
-    ensures { IfOk result (λ pairs. All (λ e. is_prefix settings_key e.0 ≡ true) pairs.items) }
-{
-    let settings = key(alloc, "settings")?;
-    let pairs = flatten_patch(alloc, &settings, text.as_bytes())?;
-    if !are_settings(&pairs) {
-        return Err(Fail::new("a key beside settings"));
-    }
-    Ok(pairs)
-}
 
 // A patch of the default transaction.
 fn patch(
@@ -136,7 +119,7 @@ fn ask(
         "value" => value(alloc, machine, rest),
         "weak" => Ok(weak(alloc, machine)?),
         _ => {
-            turns(alloc, image, machine)?;
+            turns(alloc, image, machine, 0)?;
             Ok(String::new(alloc))
         }
     }
@@ -176,7 +159,7 @@ fn goes_with(alloc: Global, image: &PlainImage, rows: &[Row]) -> Result<(), Fail
 
 // A machine that is ready answers these rows so.
 fn goes(alloc: Global, rows: &[Row]) -> Result<(), Fail> {
-    let image = image(alloc)?;
+    let image = image_of(alloc, FILES)?;
     goes_with(alloc, &image, rows)
 }
 

@@ -7,6 +7,6 @@ mod bodies;
 #[cfg(test)]
 mod clients;
 #[cfg(test)]
-mod host;
+mod image;
 #[cfg(test)]
 mod texts;

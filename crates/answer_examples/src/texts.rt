@@ -4,17 +4,8 @@ ghost use Rattle.machine_answers.specs.Replies.{MayNest};
 use api_http::{Answer, print_reply};
 use example_texts::same;
 use machine_answers::MachineReply;
-use settings_tree::TxName;
 use std::alloc::{AllocError, Global};
 use std::test::Fail;
-
-/// The name of a transaction.
-pub fn tx(alloc: Global, name: &str) -> Result<TxName, Fail> {
-    match TxName::read(alloc, name.as_bytes())? {
-        Some(tx) => Ok(tx),
-        None => Err(Fail::new("no name of a transaction")),
-    }
-}
 
 /// The bytes of the whole answer.
 pub fn whole(alloc: Global, answer: &Answer) -> Result<String, AllocError> {

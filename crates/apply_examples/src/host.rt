@@ -1,12 +1,11 @@
 //! A small host: three services with a file each, and four commands.
 use disk_memory::{MemoryDisk, MemorySpawner};
-use example_texts::{bytes, put};
-use outside::{Disk, Path};
+use example_hosts::VERSION;
+use example_texts::{bytes, disk_of};
+use outside::Path;
 use plain_machine::{PlainImage, PlainMachine};
 use std::alloc::Global;
 use std::test::Fail;
-use store_image::read_image;
-use version_links::Version;
 
 const HOST: &str = "[types]
 \"settings.motd\" = \"line\"
@@ -41,8 +40,8 @@ motd = \"Welcome\"
 ntp.time-servers = [\"a\", \"b\"]
 ";
 
-// The files that stand there at first.
-const FILES: &[(&str, &str)] = &[
+/// The files that stand there at first, those of the image among them.
+pub const FILES: &[(&str, &str)] = &[
     ("image/templates/motd", "{{settings.motd}}"),
     (
         "image/templates/chrony",
@@ -57,40 +56,6 @@ const FILES: &[(&str, &str)] = &[
     ("etc/motd", "old"),
     ("etc/sysctl", "old"),
 ];
-
-// Puts the files on the disk, and syncs it.
-fn fill(alloc: Global, disk: &mut MemoryDisk) -> Result<(), Fail> {
-    for (path, text) in FILES {
-        put(alloc, disk, path, text)?;
-    }
-    Ok(disk.sync()?)
-}
-
-// The disk of the host, synced.
-fn disk_of(alloc: Global) -> Result<MemoryDisk, Fail> {
-    let mut disk = MemoryDisk::new(alloc)?;
-    fill(alloc, &mut disk)?;
-    Ok(disk)
-}
-
-// The image that stands on the disk.
-fn image_on(alloc: Global, disk: &mut MemoryDisk) -> Result<PlainImage, Fail> {
-    let image = read_image(alloc, disk)?;
-    Ok(PlainImage {
-        types: image.model.types,
-        os: image.model.os,
-        defaults: image.model.content,
-        manifest: image.manifest,
-        templates: image.templates,
-        text: image.text,
-    })
-}
-
-/// The image of the host.
-pub fn image_of(alloc: Global) -> Result<PlainImage, Fail> {
-    let mut disk = disk_of(alloc)?;
-    image_on(alloc, &mut disk)
-}
 
 /// The configuration files.
 pub const WRITTEN: &[&str] = &["/etc/chrony.conf", "/etc/motd", "/etc/sysctl"];
@@ -114,12 +79,7 @@ fn begin(alloc: Global, image: &PlainImage, machine: &mut PlainMachine) -> Resul
 
 // The machine with the old files, which owes all and runs a job of it.
 fn machine_of(alloc: Global, image: &PlainImage) -> Result<PlainMachine, Fail> {
-    let version = Version {
-        major: 1,
-        minor: 5,
-        patch: 2,
-    };
-    let mut machine = PlainMachine::new(alloc, version);
+    let mut machine = PlainMachine::new(alloc, VERSION);
     begin(alloc, image, &mut machine)?;
     Ok(machine)
 }
@@ -138,7 +98,7 @@ pub struct Host {
 /// The host with the old files, which owes all. The machine runs a job of it, and the programs end with these.
 pub fn host_of(alloc: Global, image: &PlainImage, statuses: &[Option<u16>]) -> Result<Host, Fail> {
     let statuses = statuses.to_vec(alloc)?;
-    let disk = disk_of(alloc)?;
+    let disk = disk_of(alloc, FILES)?;
     Ok(Host {
         machine: machine_of(alloc, image)?,
         disk,

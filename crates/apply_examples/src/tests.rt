@@ -1,8 +1,9 @@
 //! A job of all that fails at each call of the disk and of the spawner, and is stopped after each.
 use crate::driving::drive;
-use crate::host::{Host, host_of, image_of};
+use crate::host::{FILES, Host, host_of};
 use crate::shown::files_of;
 use disk_memory::{Bytes, MemoryDisk, Pick};
+use example_hosts::image_of;
 use example_texts::same;
 use plain_machine::PlainImage;
 use std::alloc::{AllocError, Global};
@@ -73,7 +74,7 @@ fn goes(alloc: Global, image: &PlainImage, row: Row) -> Result<(), Fail> {
 
 #[test]
 fn turns_as_the_machine(rt: HostRuntime) -> Result<(), Fail> {
-    let image = image_of(rt.alloc())?;
+    let image = image_of(rt.alloc(), FILES)?;
     for row in ROWS {
         goes(rt.alloc(), &image, *row)?;
     }
@@ -145,7 +146,7 @@ fn leaves(alloc: Global, image: &PlainImage, stop: Stop) -> Result<(), Fail> {
 
 #[test]
 fn leaves_what_is_due(rt: HostRuntime) -> Result<(), Fail> {
-    let image = image_of(rt.alloc())?;
+    let image = image_of(rt.alloc(), FILES)?;
     for stop in STOPS {
         leaves(rt.alloc(), &image, *stop)?;
     }

@@ -2,6 +2,7 @@
 
 mod checks;
 mod host;
+mod loads;
 mod moves;
 mod runs;
 mod stores;

@@ -7,11 +7,12 @@ ghost use Rattle.opening_step.specs.Step.{AreSettings};
 ghost use Rattle.settings_machine.specs.Typed.{IsTypedHeld};
 ghost use Rattle.typed_settings.specs.Order.{IsTable};
 
-use crate::host::{VERSION, image};
+use crate::host::FILES;
 use crate::texts::{ask_of, held_line, job_line, reply_line};
 use api_http::{Ask, print_reply};
+use example_hosts::{image_of, ready};
 use machine_answers::{JobShown, MachineReply};
-use plain_machine::{OpeningAnswer, PlainImage, PlainMachine, TurnAnswer};
+use plain_machine::{PlainImage, PlainMachine, TurnAnswer};
 use settings_machine::Job;
 use std::alloc::{AllocError, Global};
 use std::test::Fail;
@@ -52,42 +53,6 @@ fn turn(alloc: Global, image: &PlainImage, machine: &mut PlainMachine) -> Result
     ensures { IsTypedHeld image.now.types machine.new.held }
 {
     machine.turn(alloc, image, TurnAnswer::Fine { status: 0 })
-}
-
-// The turns of the job: the file, the program, and the end.
-fn turns(alloc: Global, image: &PlainImage, machine: &mut PlainMachine) -> Result<(), AllocError>
-    requires { IsTypedHeld image.now.types machine.old.held }
-    ensures { IsTypedHeld image.now.types machine.new.held }
-{
-    for _ in 0..3 {
-        turn(alloc, image, machine)?;
-    }
-    Ok(())
-}
-
-// Opens the store of the machine, and applies all.
-fn begin(alloc: Global, image: &PlainImage, machine: &mut PlainMachine) -> Result<(), AllocError>
-    requires table { IsTable image.now.types }
-    requires defaults { AreTyped image.now.types image.now.defaults.values }
-    requires settings { AreSettings image.now.defaults.values }
-    requires typed { IsTypedHeld image.now.types machine.old.held }
-    ensures { IsTypedHeld image.now.types machine.new.held }
-{
-    machine.open_store(alloc, image, false, OpeningAnswer::Succeeded)?;
-    machine.apply(alloc, image)?;
-    turns(alloc, image, machine)
-}
-
-// The machine of the host, of which all was applied.
-fn ready_machine(alloc: Global, image: &PlainImage) -> Result<PlainMachine, AllocError>
-    requires table { IsTable image.now.types }
-    requires defaults { AreTyped image.now.types image.now.defaults.values }
-    requires settings { AreSettings image.now.defaults.values }
-    ensures { IfOk result (λ machine. IsTypedHeld image.now.types machine.held) }
-{
-    let mut machine = PlainMachine::new(alloc, VERSION);
-    begin(alloc, image, &mut machine)?;
-    Ok(machine)
 }
 
 // The machine makes the request, and replies.
@@ -206,12 +171,12 @@ fn stages_of(alloc: Global, image: &PlainImage) -> Result<Vec<Stage>, Fail>
     requires defaults { AreTyped image.now.types image.now.defaults.values }
     requires settings { AreSettings image.now.defaults.values }
 {
-    let mut machine = ready_machine(alloc, image)?;
+    let mut machine = ready(alloc, image)?;
     stages_with(alloc, image, &mut machine)
 }
 
 /// What comes of the lines of the script, one after another.
 pub fn stages(alloc: Global) -> Result<Vec<Stage>, Fail> {
-    let image = image(alloc)?;
+    let image = image_of(alloc, FILES)?;
     stages_of(alloc, &image)
 }

@@ -10,6 +10,7 @@ use disk_memory::{MemoryDisk, Node};
 use example_texts::repeated;
 use outside::Path;
 use std::alloc::{AllocError, Global};
+use std::mem;
 use std::test::Fail;
 
 // The reply to the request.
@@ -91,7 +92,8 @@ fn restart(alloc: Global, host: &mut Host, disk: MemoryDisk) -> Result<(), Fail>
     requires { IsSound host.old.core }
     ensures { IsSound host.new.core }
 {
-    *host = open(alloc, disk)?;
+    let mut begun = Box::new(alloc, open(alloc, disk)?)?;
+    mem::swap(host, &mut *begun);
     Ok(())
 }
 

@@ -2,7 +2,7 @@
 ghost use Rattle.std.specs.Prelude.{◌≡◌, ◌<◌, ◌-◌, ◌^◌, false, IfOk};
 ghost use Rattle.outside_real.specs.Door.{state_of, unused};
 
-use crate::folder::{new_folder, remove_folder};
+use example_texts::{new_folder, remove_folder};
 use outside::{Door, Link};
 use outside_real::{RealDoor, RealLink};
 use std::alloc::{AllocError, Global};

@@ -4,8 +4,6 @@
 #[cfg(test)]
 mod doors;
 #[cfg(test)]
-mod folder;
-#[cfg(test)]
 mod programs;
 #[cfg(test)]
 mod sinks;

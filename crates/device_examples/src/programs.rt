@@ -1,5 +1,5 @@
 //! The real spawner.
-use crate::folder::{new_folder, remove_folder};
+use example_texts::{new_folder, remove_folder};
 use outside::{Asker, Spawner};
 use outside_real::RealSpawner;
 use std::alloc::{AllocError, Global};

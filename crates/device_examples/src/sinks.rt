@@ -1,5 +1,5 @@
 //! The real sink.
-use crate::folder::{new_folder, remove_folder};
+use example_texts::{new_folder, remove_folder};
 use outside::Sink;
 use outside_real::RealSink;
 use std::fs;

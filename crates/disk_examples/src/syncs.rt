@@ -9,8 +9,7 @@ use std::test::Fail;
 
 // Calls of one program, each with the lines that the file system writes down. A change of kind puts all down that is
 // unsynced before the old node goes; folders go with the last file in them, and give way to files.
-fn script() -> &'static str {
-    "> write store/a
+const SCRIPT: &str = "> write store/a
 mkdir /.work
 mkdir /store
 write /store/a
@@ -54,13 +53,11 @@ write /store/b
 > sync store
 sync /store
 sync /store/b
-"
-}
+";
 
 // What the next program puts down first.
-fn all_that_is_there() -> &'static str {
-    "sync /\nsync /.links\nsync /.links/store\nsync /.links/store/a\nsync /store\nsync /store/b\nsync /store/w\n"
-}
+const ALL_THAT_IS_THERE: &str =
+    "sync /\nsync /.links\nsync /.links/store\nsync /.links/store/a\nsync /store\nsync /store/b\nsync /store/w\n";
 
 // Makes a call at the path; whether it succeeded.
 fn call_at(disk: &mut RealDisk<Watched>, call: &str, place: &Path) -> bool {
@@ -83,7 +80,7 @@ fn make(disk: &mut RealDisk<Watched>, watched: &Watched, words: &str) -> Result<
 // Makes the calls of the script and writes each down; how many of them failed.
 fn make_all(disk: &mut RealDisk<Watched>, watched: &Watched) -> Result<u64, Fail> {
     let mut failed = 0u64;
-    for line in script().lines() {
+    for line in SCRIPT.lines() {
         if let Some(words) = line.strip_prefix("> ") {
             watched.write_down(line)?;
             if !make(disk, watched, words)? {
@@ -113,8 +110,8 @@ fn syncs_next(watched: &Watched) -> Result<bool, Fail> {
 #[test]
 fn each_call_asks_what_it_should(rt: HostRuntime) -> Result<(), Fail> {
     let watched = Watched::new(&rt, "trace")?;
-    assert!(rt; failures(&watched)? == 0 && has_trace(&watched, script()));
-    assert!(rt; syncs_next(&watched)? && has_trace(&watched, all_that_is_there()));
+    assert!(rt; failures(&watched)? == 0 && has_trace(&watched, SCRIPT));
+    assert!(rt; syncs_next(&watched)? && has_trace(&watched, ALL_THAT_IS_THERE));
     watched.end()
 }
 

@@ -1,4 +1,5 @@
 //! A file system that writes down what it is asked to change or to put on the disk, and fails where it is told to.
+use example_texts::new_folder;
 use outside::Path;
 use outside_real::{Lock, RealDisk};
 use std::alloc::{Alloc, AllocError, Allocator, Global};
@@ -8,22 +9,10 @@ use std::io::{self, ErrorKind, Read, Seek, SeekFrom, Write};
 use std::rc::Rc;
 use std::rt::Files;
 use std::test::Fail;
-use std::{env, process};
 
 /// The path that the text spells.
 pub fn path(alloc: Global, text: &str) -> Result<Path, Fail> {
     Ok(Path::read(alloc, text.as_bytes())?)
-}
-
-// A new folder for this test.
-fn new_folder(rt: &HostRuntime, name: &str) -> io::Result<String> {
-    let base = env::temp_dir(rt)?;
-    let base = base.as_str();
-    let id = process::id(rt.process());
-    let folder = format!(in rt.alloc(); "{base}/settings_{name}_{id}")?;
-    let _ = fs::remove_dir_all(rt, folder.as_str());
-    fs::create_dir(rt, folder.as_str())?;
-    Ok(folder)
 }
 
 /// The calls to the system below a folder.

@@ -22,3 +22,19 @@ pub fn holds(alloc: Global, disk: &MemoryDisk, path: &str, bytes: &str) -> Resul
         _ => same("no file", bytes, path),
     }
 }
+
+// Puts these files, each at its path, and syncs the disk.
+fn put_all(alloc: Global, disk: &mut MemoryDisk, files: &[(&str, &str)]) -> Result<(), Fail> {
+    for (path, bytes) in files {
+        put(alloc, disk, path, bytes)?;
+    }
+    Ok(disk.sync()?)
+}
+
+/// A disk in memory with these files, each a path and its bytes, which is synced. It fails where a text is no path, and where the
+/// disk refuses.
+pub fn disk_of(alloc: Global, files: &[(&str, &str)]) -> Result<MemoryDisk, Fail> {
+    let mut disk = MemoryDisk::new(alloc)?;
+    put_all(alloc, &mut disk, files)?;
+    Ok(disk)
+}

@@ -86,7 +86,7 @@ fn refuses(
 }
 
 #[test]
-fn prints_the_refusals_of_bytes(rt: HostRuntime) -> Result<(), Fail> {
+fn prints_the_refusals_of_heads(rt: HostRuntime) -> Result<(), Fail> {
     let alloc = rt.alloc();
     refuses(
         alloc,
@@ -115,7 +115,12 @@ fn prints_the_refusals_of_bytes(rt: HostRuntime) -> Result<(), Fail> {
         400,
         "Bad Request",
         "{\"error\":\"query\"}",
-    )?;
+    )
+}
+
+#[test]
+fn prints_the_refusals_of_bodies(rt: HostRuntime) -> Result<(), Fail> {
+    let alloc = rt.alloc();
     refuses(
         alloc,
         Refusal::Length,

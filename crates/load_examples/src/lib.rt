@@ -1,4 +1,4 @@
-//! Tests alone: the lines of load runs, and the texts of their requests.
+//! Tests alone: the texts of the requests of a load run.
 #![tactic(auto)]
 
 #[cfg(test)]

@@ -1,27 +1,7 @@
-//! The lines of load runs, row for row, and requests of one.
-ghost use Rattle.std.specs.Prelude.{◌≤◌};
-
+//! Requests of a load run, by their places in it.
 use key_names::Bytes;
 use load_input::requests;
-use load_run::load;
-use std::alloc::Global;
 use std::test::Fail;
-
-// Whether the run for so many settings tells these lines.
-fn tells(alloc: Global, count: u32, wanted: &str) -> bool
-    requires some { 1 ≤ count }
-    requires most { count ≤ 10000 }
-{
-    load(alloc, count).is_ok_and(|lines| lines.as_slice() == wanted.as_bytes())
-}
-
-#[test]
-fn runs_tell_their_lines(rt: HostRuntime) {
-    let three = "requests 11\nok 7\nrefused 4\nkeys 3\nfiles 10\nwritten 10\nruns 10\n";
-    let hundred = "requests 109\nok 108\nrefused 1\nkeys 100\nfiles 10\nwritten 20\nruns 20\n";
-    assert!(rt; tells(rt.alloc(), 3, three));
-    assert!(rt; tells(rt.alloc(), 100, hundred));
-}
 
 const REQUESTS: &[(usize, &str)] = &[
     (

@@ -2,8 +2,6 @@
 #![tactic(auto)]
 
 #[cfg(test)]
-mod host;
-#[cfg(test)]
 mod image;
 #[cfg(test)]
 mod rows;

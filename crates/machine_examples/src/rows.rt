@@ -4,9 +4,9 @@ ghost use Rattle.opening_step.specs.Step.{AreSettings};
 ghost use Rattle.settings_machine.specs.Typed.{IsTypedHeld};
 ghost use Rattle.typed_settings.specs.Order.{IsTable};
 
-use crate::host::ready;
-use crate::image::image;
+use crate::image::FILES;
 use crate::steps::make;
+use example_hosts::{image_of, ready};
 use example_texts::same;
 use plain_machine::{PlainImage, PlainMachine};
 use std::alloc::Global;
@@ -41,7 +41,7 @@ fn goes_with(alloc: Global, image: &PlainImage, rows: &[(&str, &str)]) -> Result
 
 // A machine that is ready answers each step so.
 fn goes(alloc: Global, rows: &[(&str, &str)]) -> Result<(), Fail> {
-    let image = image(alloc)?;
+    let image = image_of(alloc, FILES)?;
     goes_with(alloc, &image, rows)
 }
 

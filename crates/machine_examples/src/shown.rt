@@ -1,5 +1,5 @@
 //! What stands in a machine, as texts.
-use crate::texts::tx;
+use example_hosts::tx;
 use key_names::{Key, Text};
 use outside::Path;
 use plain_machine::{PlainMachine, Ran};

@@ -1,32 +1,15 @@
 //! Steps of a machine, as texts.
-ghost use Rattle.std.specs.Prelude.{◌≡◌, IfOk, All, true};
-ghost use Rattle.key_names.specs.Key.{is_prefix};
 ghost use Rattle.settings_machine.specs.Typed.{IsTypedHeld};
-ghost use Rattle.settings_tree.specs.Content.{settings_key};
 ghost use Rattle.typed_settings.specs.Order.{IsTable};
 
-use crate::host::turns;
 use crate::shown::{file, job, key_line, pending, refused_line, runs};
-use crate::texts::{parts, tx};
-use json_trees::flatten_patch;
-use key_names::Key;
+use crate::texts::parts;
+use example_hosts::{pairs_of, turns, tx};
 use pending_tx::CommitError;
-use plain_machine::{PlainImage, PlainMachine, TurnAnswer, are_settings};
-use settings_tree::{KeyList, Pending};
+use plain_machine::{PlainImage, PlainMachine, TurnAnswer};
+use settings_tree::KeyList;
 use std::alloc::{AllocError, Global};
 use std::test::Fail;
-
-// The pairs of the patch that the text is, below `settings`.
-fn pairs_of(alloc: Global, text: &str) -> Result<Vec<(Key, Pending)>, Fail>
-    ensures { IfOk result (λ pairs. All (λ e. is_prefix settings_key e.0 ≡ true) pairs.items) }
-{
-    let settings = Key::read(alloc, b"settings")?;
-    let pairs = flatten_patch(alloc, &settings, text.as_bytes())?;
-    if !are_settings(&pairs) {
-        return Err(Fail::new("a key beside settings"));
-    }
-    Ok(pairs)
-}
 
 // A patch of a transaction, and the first refused pair.
 fn patch(

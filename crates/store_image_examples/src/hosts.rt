@@ -1,8 +1,9 @@
 //! The images of small hosts: their texts, and the coverage of their files.
-use crate::disks::{MOTD, disk_of};
-use depend_check::{Coverage, covered};
+use crate::coverage::line;
+use crate::motd::MOTD;
+use depend_check::covered;
 use disk_memory::MemoryDisk;
-use example_texts::same;
+use example_texts::{disk_of, same};
 use std::alloc::{AllocError, Global};
 use std::test::Fail;
 use store_image::{Image, read_image};
@@ -28,8 +29,8 @@ fn have_text(alloc: Global, files: &[(&str, &str)], wanted: &str) -> Result<(), 
 #[test]
 fn image_text_of_a_host(rt: HostRuntime) -> Result<(), Fail> {
     let files = [
-        ("model.toml", MOTD),
-        ("templates/motd", "{{settings.motd}}\n"),
+        ("image/model.toml", MOTD),
+        ("image/templates/motd", "{{settings.motd}}\n"),
     ];
     let wanted =
         "model W3R5cGVzXQoic2V0dGluZ3MubW90ZCIgPSAibGluZSIKW3NlcnZpY2VzLm1vdGRdCmNvbmZpZ3VyYXRpb24tZmlsZXMgPSBbIm1vdGQiXQpyZXN0YXJ0LWNvbW1hbmRzID0gW10KW2NvbmZpZ3VyYXRpb24tZmlsZXMubW90ZF0KcGF0aCA9ICIvZXRjL21vdGQiCnRlbXBsYXRlLXBhdGggPSAibW90ZCIKW21ldGFkYXRhLnNldHRpbmdzLm1vdGRdCmFmZmVjdGVkLXNlcnZpY2VzID0gWyJtb3RkIl0K
@@ -45,9 +46,9 @@ const SHARED: &str =
 #[test]
 fn image_text_has_each_template_once(rt: HostRuntime) -> Result<(), Fail> {
     let files = [
-        ("model.toml", SHARED),
-        ("templates/b-c", "x"),
-        ("templates/b/c", "yz"),
+        ("image/model.toml", SHARED),
+        ("image/templates/b-c", "x"),
+        ("image/templates/b/c", "yz"),
     ];
     let wanted =
         "model W2NvbmZpZ3VyYXRpb24tZmlsZXMuYV0KcGF0aCA9ICcvZXRjL2EnCnRlbXBsYXRlLXBhdGggPSAnYi9jJwpbY29uZmlndXJhdGlvbi1maWxlcy5kXQpwYXRoID0gJy9ldGMvZCcKdGVtcGxhdGUtcGF0aCA9ICdiL2MnCltjb25maWd1cmF0aW9uLWZpbGVzLmVdCnBhdGggPSAnL2V0Yy9lJwp0ZW1wbGF0ZS1wYXRoID0gJ2ItYycK
@@ -109,30 +110,12 @@ const SYSCTL: &str = "{{#if settings.kernel.sysctl}}
 // The disk of the host with this model, and this template of chrony.
 fn host<'a>(alloc: Global, model: &'a str, chrony: &'a str) -> Result<MemoryDisk, Fail> {
     let files = [
-        ("model.toml", model),
-        ("templates/chrony", chrony),
-        ("templates/motd", "{{settings.motd}}\n"),
-        ("templates/sysctl", SYSCTL),
+        ("image/model.toml", model),
+        ("image/templates/chrony", chrony),
+        ("image/templates/motd", "{{settings.motd}}\n"),
+        ("image/templates/sysctl", SYSCTL),
     ];
     disk_of(alloc, &files)
-}
-
-fn shown(alloc: Global, coverage: &Coverage) -> Result<String, AllocError> {
-    match coverage {
-        Coverage::Covered => String::from_str(alloc, "covered"),
-        Coverage::NoService => String::from_str(alloc, "no service"),
-        Coverage::NotInModel { path } => {
-            let path = path.print()?;
-            let path = path.as_str();
-            format!(in alloc; "not in model {path}")
-        }
-        Coverage::Uncovered { path, at, service } => {
-            let path = path.print()?;
-            let at = at.print()?;
-            let (path, at, service) = (path.as_str(), at.as_str(), service.as_str());
-            format!(in alloc; "uncovered {path} {at} {service}")
-        }
-    }
 }
 
 // What is said of the coverage of the image's file.
@@ -143,7 +126,7 @@ fn coverage(alloc: Global, image: &Image, file: &str) -> Result<String, AllocErr
     };
     let types = &image.model.types;
     let coverage = covered(alloc, &image.manifest, types, parsed.template, file)?;
-    shown(alloc, &coverage)
+    line(alloc, &coverage)
 }
 
 fn are_covered(alloc: Global, image: &Image, rows: &[(&str, &str)]) -> Result<(), Fail> {

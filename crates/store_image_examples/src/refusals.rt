@@ -1,7 +1,7 @@
 //! Each kind of bad image with the least files that show it, and what is told of two faults.
-use crate::disks::{MOTD, disk_of};
+use crate::motd::MOTD;
 use disk_memory::MemoryDisk;
-use example_texts::same;
+use example_texts::{disk_of, same};
 use std::alloc::{AllocError, Global};
 use std::test::Fail;
 use store_image::{ImageError, read_image};
@@ -39,7 +39,7 @@ fn tells(alloc: Global, files: &[(&str, &str)], wanted: &str) -> Result<(), Fail
 // Each model is refused so.
 fn refuse_models(alloc: Global, rows: &[(&str, &str)]) -> Result<(), Fail> {
     for (model, wanted) in rows {
-        tells(alloc, &[("model.toml", model)], wanted)?;
+        tells(alloc, &[("image/model.toml", model)], wanted)?;
     }
     Ok(())
 }
@@ -47,7 +47,10 @@ fn refuse_models(alloc: Global, rows: &[(&str, &str)]) -> Result<(), Fail> {
 // The model with one file `motd` is refused so, with each of these templates of the file.
 fn refuse_templates(alloc: Global, rows: &[(&str, &str)]) -> Result<(), Fail> {
     for (template, wanted) in rows {
-        let files = [("model.toml", MOTD), ("templates/motd", *template)];
+        let files = [
+            ("image/model.toml", MOTD),
+            ("image/templates/motd", *template),
+        ];
         tells(alloc, &files, wanted)?;
     }
     Ok(())
@@ -146,7 +149,7 @@ fn refuses_missing_files(rt: HostRuntime) -> Result<(), Fail> {
     tells(rt.alloc(), &[], "model.toml missing -")?;
     tells(
         rt.alloc(),
-        &[("model.toml", MOTD)],
+        &[("image/model.toml", MOTD)],
         "templates/motd missing -",
     )
 }
@@ -171,9 +174,9 @@ fn tells_the_first_fault(rt: HostRuntime) -> Result<(), Fail> {
     refuse_models(alloc, &rows)?;
     // the templates by the names of their paths
     let files = [
-        ("model.toml", FILES),
-        ("templates/a-b", "{{"),
-        ("templates/a/z", "x{{"),
+        ("image/model.toml", FILES),
+        ("image/templates/a-b", "{{"),
+        ("image/templates/a/z", "x{{"),
     ];
     tells(alloc, &files, "templates/a/z unclosed 1")
 }
@@ -181,7 +184,10 @@ fn tells_the_first_fault(rt: HostRuntime) -> Result<(), Fail> {
 // The call of the disk with this number fails, and so does the reading.
 fn call_fails(alloc: Global, call: u64) -> Result<(), Fail> {
     let which = vec![in alloc; call]?;
-    let mut disk = disk_of(alloc, &[("model.toml", MOTD), ("templates/motd", "")])?;
+    let mut disk = disk_of(
+        alloc,
+        &[("image/model.toml", MOTD), ("image/templates/motd", "")],
+    )?;
     disk.fail_calls(which);
     is_told(alloc, &mut disk, "failed", "a call")
 }
@@ -189,7 +195,7 @@ fn call_fails(alloc: Global, call: u64) -> Result<(), Fail> {
 #[test]
 fn each_disk_call_fails(rt: HostRuntime) -> Result<(), Fail> {
     for call in 1..3u64 {
-        call_fails(rt.alloc(), 2 + call)?;
+        call_fails(rt.alloc(), 3 + call)?;
     }
     Ok(())
 }

@@ -1,6 +1,7 @@
 //! The command `check`.
-use crate::commands::runs::{disk_of, run_over, runs};
+use crate::commands::runs::{run_over, runs};
 use disk_memory::{MemoryDisk, MemorySink};
+use example_texts::disk_of;
 use std::alloc::Global;
 use std::test::Fail;
 

@@ -1,9 +1,8 @@
 //! The commands `migrate` and `prune`.
 use crate::commands::host::{HELLO, IMAGE, RENAME, TWO, WEAK};
-use crate::commands::runs::disk_of;
 use crate::commands::stores::{Step, steps};
 use disk_memory::MemoryDisk;
-use example_texts::put;
+use example_texts::{disk_of, put};
 use std::alloc::Global;
 use std::test::Fail;
 

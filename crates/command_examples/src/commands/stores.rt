@@ -1,7 +1,7 @@
 //! The commands `init` and `get`, over whole stores, and releases that `migrate` refuses.
-use crate::commands::runs::{disk_of, remove, runs};
+use crate::commands::runs::{remove, runs};
 use disk_memory::MemoryDisk;
-use example_texts::put;
+use example_texts::{disk_of, put};
 use std::alloc::{AllocError, Global};
 use std::test::Fail;
 

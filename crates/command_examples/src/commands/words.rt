@@ -1,6 +1,7 @@
 //! Words that spell no command, and commands that want a store.
-use crate::commands::runs::{disk_of, runs};
+use crate::commands::runs::runs;
 use disk_memory::MemoryDisk;
+use example_texts::disk_of;
 use std::alloc::Global;
 use std::test::Fail;
 

@@ -1,6 +1,6 @@
 //! A host in memory whose release asks programs.
 use disk_memory::{MemoryDisk, MemoryDoor, MemorySink, MemorySpawner};
-use example_texts::{put, words_of};
+use example_texts::{ended_with, put, words_of};
 use outside::{Answer, Disk};
 use settings_run::run;
 use std::alloc::{AllocError, Global};
@@ -33,25 +33,6 @@ words = \"mig on\"
 kind = \"program\"
 words = \"mig-off\"
 ";
-
-// Compares the status with which the words ended, and what they printed.
-fn ended_with(
-    alloc: Global,
-    line: &str,
-    ended: u8,
-    out: &MemorySink,
-    status: u8,
-    printed: &str,
-) -> Result<(), Fail> {
-    let text = String::from_utf8_lossy(alloc, out.written())?;
-    if ended == status && text.as_str() == printed {
-        return Ok(());
-    }
-    Err(Fail::new(format_args!(
-        "`{line}` ended with {ended}, not {status}, and printed {}",
-        text.as_str()
-    )))
-}
 
 /// Runs the words of the line, and compares the status and what was printed.
 pub fn runs(

@@ -1,4 +1,4 @@
-//! A machine in memory that is ready.
+//! Machines in memory that are ready.
 ghost use Rattle.std.specs.Prelude.{IfOk};
 ghost use Rattle.model_file.specs.Model.{AreTyped};
 ghost use Rattle.opening_step.specs.Step.{AreSettings};
@@ -9,7 +9,17 @@ use plain_machine::{OpeningAnswer, PlainImage, PlainMachine, TurnAnswer};
 use std::alloc::{AllocError, Global};
 use version_links::Version;
 
-/// Nine turns, in which each program ends with the status. No job of the rows takes more.
+/// The version of the machine's store.
+pub const VERSION: Version = Version {
+    major: 1,
+    minor: 5,
+    patch: 2,
+};
+
+// No job of the tests takes more turns.
+const MOST_TURNS: u32 = 9;
+
+/// All turns of a job, in which each program ends with the status. The only error is want of memory.
 pub fn turns(
     alloc: Global,
     image: &PlainImage,
@@ -19,7 +29,7 @@ pub fn turns(
     requires { IsTypedHeld image.now.types machine.old.held }
     ensures { IsTypedHeld image.now.types machine.new.held }
 {
-    for _ in 0..9 {
+    for _ in 0..MOST_TURNS {
         machine.turn(alloc, image, TurnAnswer::Fine { status })?;
     }
     Ok(())
@@ -40,19 +50,15 @@ fn begin(alloc: Global, image: &PlainImage, machine: &mut PlainMachine) -> Resul
     Ok(())
 }
 
-/// A machine whose store is opened, with all paid that was owed.
+/// A machine of `VERSION` whose store was opened, and on which nothing is owed. No run of a program is noted. The only error is want
+/// of memory.
 pub fn ready(alloc: Global, image: &PlainImage) -> Result<PlainMachine, AllocError>
     requires table { IsTable image.now.types }
     requires defaults { AreTyped image.now.types image.now.defaults.values }
     requires settings { AreSettings image.now.defaults.values }
     ensures { IfOk result (λ machine. IsTypedHeld image.now.types machine.held) }
 {
-    let version = Version {
-        major: 1,
-        minor: 5,
-        patch: 2,
-    };
-    let mut machine = PlainMachine::new(alloc, version);
+    let mut machine = PlainMachine::new(alloc, VERSION);
     begin(alloc, image, &mut machine)?;
     Ok(machine)
 }

@@ -1,5 +1,5 @@
 use Rattle.settings_machine.specs.Typed.{IsTypedHeld}
-use Rattle.machine_examples.proofs.host.turns.Given as goal
+use Rattle.example_hosts.proofs.machines.turns.Given as goal
 
 -- what is held is typed
 abbrev pub invariant-loop : goal.invariant-loop

@@ -105,8 +105,8 @@ fn types(alloc: Global) -> Result<Types, Fail> {
     Ok(Types::of_rows(alloc, &rows)?)
 }
 
-// The coverage as a line of words.
-fn line(alloc: Global, coverage: &Coverage) -> Result<String, AllocError> {
+/// The coverage as a line of words.
+pub fn line(alloc: Global, coverage: &Coverage) -> Result<String, AllocError> {
     match coverage {
         Coverage::Covered => String::from_str(alloc, "covered"),
         Coverage::NoService => String::from_str(alloc, "no service"),
