@@ -1,4 +1,4 @@
-# `make first-run` and `make test` are the set-up; `make install` lays the programs, their manual pages and the unit of the system.
+# `make try` shows the program with nothing proved; `make first-run` and `make test` are the set-up; `make install` lays the programs, their manual pages and the unit of the system.
 
 PREFIX = /usr/local
 DESTDIR =
@@ -12,20 +12,23 @@ SETTINGSCTL ?= crates/settingsctl/out/settingsctl
 # Builds the program and makes the first run on the least host, in a folder of its own.
 first-run:
 	rm -f crates/settings/out/settings
-	cd crates/settings && { rt run > /dev/null || test -x out/settings; }
+	tools/build settings
 	rm -rf out/first-run && mkdir -p out/first-run && cp -r examples/motd out/first-run/image
 	cd out/first-run && ../../crates/settings/out/settings init --version 1.0.0
 	cd out/first-run && ../../crates/settings/out/settings set 'settings.motd="hi"'
 	cat out/first-run/etc/motd
 
-# Builds the programs, which `rt run` does only once all of them is proved. Earlier builds go first, so what is there was proved now.
-# The runs without words are refused (status 2) and touch nothing; whether the build went well shows in the programs that it leaves.
+# Builds the programs, once all that they stand on is proved, with every processor. Earlier builds go first, so what is there was proved now.
 programs:
 	rm -f crates/settings/out/settings crates/settingsctl/out/settingsctl
-	cd crates/settings && { rt run > /dev/null || test -x out/settings; }
-	cd crates/settingsctl && { rt run > /dev/null || test -x out/settingsctl; }
+	tools/build settings settingsctl
 
-# Every proof, edit, test and program.
+# Runs the program with nothing proved: a generated run, and a tour over a disk in memory, each step with what it comes to. It is no way to build it.
+try:
+	cd crates/settings && rt try -- load 3
+	cd crates/rows_runs && rt try -- --show data/tour.rows
+
+# Every proof, mutant of the gate, row and program.
 test:
 	rt ci
 
@@ -51,4 +54,4 @@ uninstall:
 	rm -f "$(DESTDIR)$(LIBDIR)/systemd/system/settings.service"
 	rm -f "$(DESTDIR)$(LIBDIR)/sysusers.d/settings.conf" "$(DESTDIR)$(LIBDIR)/tmpfiles.d/settings.conf"
 
-.PHONY: first-run programs test install uninstall
+.PHONY: first-run programs try test install uninstall

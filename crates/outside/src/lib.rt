@@ -25,6 +25,3 @@ pub use path::Path;
 pub use path_error::PathError;
 pub use sink::Sink;
 pub use spawner::{Answer, AskErr, Asker, Spawner};
-
-#[cfg(test)]
-mod tests;

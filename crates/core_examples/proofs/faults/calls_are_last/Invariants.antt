@@ -1,6 +1,0 @@
-use Rattle.api_core.specs.Cores.{IsSound}
-use Rattle.core_examples.proofs.faults.calls_are_last.Given as goal
-
--- the core is sound
-abbrev pub invariant-loop-made : goal.invariant-loop-made
-invariant-loop-made l = IsSound l.host.core

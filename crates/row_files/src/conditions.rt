@@ -1,0 +1,73 @@
+//! Where a line holds: `@1-32`, `@40-`, `@33,39`, `@48/new`, and in a loop within a loop `@3/old:5/new`, `@:5`.
+
+/// A turn of a loop: the number of the call that fails or is the last one, and what a crash leaves.
+#[derive(Clone, Copy)]
+pub struct Turn<'a> {
+    /// The number.
+    pub number: u64,
+    /// What the crash leaves; empty where there is none.
+    pub kind: &'a str,
+}
+
+/// Where a step is made: in which turn of the loop around it, and of the loop within that.
+#[derive(Clone, Copy)]
+pub struct At<'a> {
+    /// The turn of the loop.
+    pub outer: Turn<'a>,
+    /// The turn of the loop within it.
+    pub inner: Turn<'a>,
+}
+
+impl<'a> Turn<'a> {
+    /// No loop.
+    pub const NONE: Turn<'static> = Turn {
+        number: 0,
+        kind: "",
+    };
+}
+
+impl<'a> At<'a> {
+    /// In no loop.
+    pub const ONCE: At<'static> = At {
+        outer: Turn::NONE,
+        inner: Turn::NONE,
+    };
+}
+
+fn is_in(range: &str, number: u64) -> bool {
+    match range.split_once('-') {
+        Some((first, last)) => {
+            first.parse::<u64>().unwrap_or(0) <= number
+                && number <= last.parse::<u64>().unwrap_or(u64::MAX)
+        }
+        None => range.parse::<u64>().unwrap_or(u64::MAX) == number,
+    }
+}
+
+// Whether `RANGE` or `RANGE/KIND` says this turn; an empty text says each.
+fn says(part: &str, turn: Turn<'_>) -> bool {
+    match part.split_once('/') {
+        Some((range, kind)) => kind == turn.kind && is_in(range, turn.number),
+        None => part.is_empty() || is_in(part, turn.number),
+    }
+}
+
+fn part_holds(part: &str, at: At<'_>) -> bool {
+    match part.split_once(':') {
+        Some((outer, inner)) => says(outer, at.outer) && says(inner, at.inner),
+        None => says(part, at.outer),
+    }
+}
+
+/// Whether a line with this condition holds here.
+pub fn holds(when: &str, at: At<'_>) -> bool {
+    if when.is_empty() {
+        return true;
+    }
+    for part in when.split(',') {
+        if part_holds(part, at) {
+            return true;
+        }
+    }
+    false
+}

@@ -1,0 +1,165 @@
+//! The steps of a text.
+use crate::conditions::{At, holds};
+use crate::escapes::unescaped;
+use crate::subject::Given;
+use std::alloc::{AllocError, Global};
+
+/// A line of what a step comes to.
+#[derive(Drop)]
+pub struct Wanted {
+    /// Where it holds; everywhere, where it is empty.
+    pub when: String,
+    /// Its bytes, with the line feed.
+    pub bytes: Vec<u8>,
+    /// Whether anything may stand from here on: the line is `...`.
+    pub open: bool,
+}
+
+/// A step.
+#[derive(Drop)]
+pub struct Step {
+    /// The number of its line, from 1.
+    pub line: usize,
+    /// The first word of the line.
+    pub word: String,
+    /// The bytes behind it.
+    pub text: Vec<u8>,
+    /// What is given in lines below it; none where there are no such lines.
+    pub lines: Option<Vec<u8>>,
+    /// What it is to come to.
+    pub wanted: Vec<Wanted>,
+    // Where the lines hold that follow.
+    when: String,
+}
+
+impl Step {
+    /// What is given to it.
+    pub fn given(&self) -> Given<'_> {
+        Given {
+            text: &self.text,
+            lines: self.lines.as_deref(),
+        }
+    }
+
+    /// The bytes that it is to come to here, and whether more may follow.
+    pub fn wanted_at(&self, alloc: Global, at: At<'_>) -> Result<(Vec<u8>, bool), AllocError> {
+        let mut bytes = Vec::new(alloc);
+        for wanted in &self.wanted {
+            if holds(wanted.when.as_str(), at) {
+                if wanted.open {
+                    return Ok((bytes, true));
+                }
+                bytes.extend_from_slice(&wanted.bytes)?;
+            }
+        }
+        Ok((bytes, false))
+    }
+}
+
+// The bytes of a text, which may have escapes.
+fn bytes_of(alloc: Global, text: &str) -> Result<Vec<u8>, AllocError> {
+    if text == "(esc)" {
+        return Ok(Vec::new(alloc));
+    }
+    match text.strip_suffix(" (esc)") {
+        Some(text) => unescaped(alloc, text),
+        None => text.as_bytes().to_vec(alloc),
+    }
+}
+
+// The bytes of a line.
+fn line_bytes(alloc: Global, line: &str) -> Result<Vec<u8>, AllocError> {
+    match line.strip_suffix(" (no-eol)") {
+        Some(text) => bytes_of(alloc, text),
+        None => {
+            let mut bytes = bytes_of(alloc, line)?;
+            bytes.push(b'\n')?;
+            Ok(bytes)
+        }
+    }
+}
+
+fn wanted_line(alloc: Global, when: &str, line: &str) -> Result<Wanted, AllocError> {
+    Ok(Wanted {
+        when: String::from_str(alloc, when)?,
+        bytes: line_bytes(alloc, line)?,
+        open: line == "...",
+    })
+}
+
+// Adds a line to what the step is to come to: a condition alone holds for the lines that follow, and one before a text for this line.
+fn want(alloc: Global, step: &mut Step, line: &str) -> Result<(), AllocError> {
+    let added = match line.strip_prefix('@') {
+        Some(rest) => match rest.split_once(' ') {
+            Some((when, text)) => wanted_line(alloc, when, text)?,
+            None => {
+                step.when = String::from_str(alloc, rest)?;
+                return Ok(());
+            }
+        },
+        None => wanted_line(alloc, step.when.as_str(), line)?,
+    };
+    step.wanted.push(added)?;
+    Ok(())
+}
+
+fn step_of(alloc: Global, number: usize, line: &str) -> Result<Step, AllocError> {
+    let (word, rest) = line.split_once(' ').unwrap_or((line, ""));
+    Ok(Step {
+        line: number,
+        word: String::from_str(alloc, word)?,
+        text: bytes_of(alloc, rest)?,
+        lines: None,
+        wanted: Vec::new(alloc),
+        when: String::new(alloc),
+    })
+}
+
+// Adds a line to what is given.
+fn give(alloc: Global, step: &mut Step, line: &str) -> Result<(), AllocError> {
+    let line = line_bytes(alloc, line.strip_prefix(' ').unwrap_or(line))?;
+    let mut lines = step.lines.take().unwrap_or(Vec::new(alloc));
+    lines.extend_from_slice(&line)?;
+    step.lines = Some(lines);
+    Ok(())
+}
+
+// Adds the line to the last step, or as a step.
+fn add(alloc: Global, steps: &mut Vec<Step>, number: usize, line: &str) -> Result<(), AllocError> {
+    if line.is_empty() || line.starts_with('#') {
+        return Ok(());
+    }
+    if let Some(step) = steps.last_mut() {
+        if let Some(rest) = line.strip_prefix("  ") {
+            return want(alloc, step, rest);
+        }
+        if let Some(rest) = line.strip_prefix('>') {
+            return give(alloc, step, rest);
+        }
+    }
+    steps.push(step_of(alloc, number, line)?)?;
+    Ok(())
+}
+
+// How many comparisons the step says that the file makes, where it is the line that says so.
+fn rows_of(step: &Step) -> Option<u64> {
+    if step.word.as_str() != "rows" {
+        return None;
+    }
+    str::from_utf8(&step.text).ok()?.parse::<u64>().ok()
+}
+
+/// The steps of the text, and how many comparisons its last line says that it makes, 0 where that line is missing. The only error is out of memory.
+pub fn steps_of(alloc: Global, text: &str) -> Result<(Vec<Step>, u64), AllocError> {
+    let mut steps = Vec::new(alloc);
+    let mut number = 0usize;
+    for line in text.lines() {
+        number = number.saturating_add(1);
+        add(alloc, &mut steps, number, line)?;
+    }
+    let rows = steps.last().and_then(rows_of);
+    if rows.is_some() {
+        steps.pop();
+    }
+    Ok((steps, rows.unwrap_or(0)))
+}

@@ -1,0 +1,82 @@
+//! `rows_machine FILE ..`: rows of the machine in memory, which answers requests and makes turns as the product does.
+//!
+//! - `put PATH` puts a file of the image, of the lines below. `boot` reads the image, and begins a machine of the version 1.5.2 whose store was opened at a
+//!   boot, so that all is owed.
+//! - `GET PATH`, `PATCH PATH BODY`, `POST PATH` and `DELETE PATH` come to the status of the reply and its body, and `whole REQUEST` to all its bytes.
+//! - `turn HOW` makes a turn, and `turns HOW` nine of them: a program ends with the status HOW, or it is `no-room`, `no-spawn`, `file-fault`, `sync-fault`
+//!   or `owed-fault`.
+//! - `open HOW` opens the store again, `at-boot` or `later`, or the disk fails the opening, which is `taken` or `untaken`.
+//! - `file PATH` tells a configuration file, `weak` the weak keys, and `runs` the programs that were run since it told them last.
+//! - `values KEY JSON` and `pairs JSON` come to the replies of the server's own with these values below the key, and this patch of the settings.
+#![tactic(auto)]
+
+mod host;
+mod opening;
+mod replies;
+mod requests;
+mod shown;
+mod turning;
+
+use crate::host::Host;
+use disk_memory::MemoryDisk;
+use outside::{Disk, Path};
+use row_files::{Given, Subject, all_go};
+use std::alloc::Global;
+use std::io::{self, ErrorKind};
+use std::process::ExitCode;
+
+#[derive(Drop)]
+struct Rows {
+    disk: MemoryDisk,
+    host: Option<Box<Host>>,
+}
+
+impl Rows {
+    // Puts a file of the image.
+    fn put(&mut self, alloc: Global, path: &str, bytes: &[u8]) -> io::Result<Vec<u8>> {
+        let path = Path::read(alloc, path.as_bytes())
+            .ok()
+            .ok_or(requests::bad())?;
+        self.disk.replace(&path, bytes).ok().ok_or(requests::bad())?;
+        Ok(Vec::new(alloc))
+    }
+
+    // What the step comes to.
+    fn shown(&mut self, alloc: Global, word: &str, given: Given<'_>) -> io::Result<Vec<u8>> {
+        let text = str::from_utf8(given.text).ok().ok_or(requests::bad())?;
+        match word {
+            "put" => self.put(alloc, text, given.lines.unwrap_or(b"")),
+            "boot" => {
+                let host = opening::booted(alloc, &mut self.disk)?;
+                self.host = Some(Box::new(alloc, host)?);
+                Ok(Vec::new(alloc))
+            }
+            "values" | "pairs" => replies::shown(alloc, word, text),
+            _ => match &mut self.host {
+                Some(host) => host.shown(alloc, word, text),
+                None => Err(requests::bad()),
+            },
+        }
+    }
+}
+
+impl Subject for Rows {
+    fn begin(&mut self, alloc: Global) -> io::Result<()> {
+        self.disk = MemoryDisk::new(alloc)?;
+        self.host = None;
+        Ok(())
+    }
+
+    fn make(&mut self, alloc: Global, word: &str, given: Given<'_>) -> io::Result<Option<Vec<u8>>> {
+        match self.shown(alloc, word, given) {
+            Ok(shown) => Ok(Some(shown)),
+            Err(error) if error.kind() == ErrorKind::InvalidInput => Ok(None),
+            Err(error) => Err(error),
+        }
+    }
+}
+
+fn main(rt: HostRuntime) -> io::Result<ExitCode> {
+    let disk = MemoryDisk::new(rt.alloc())?;
+    all_go(&rt, &mut Rows { disk, host: None })
+}
