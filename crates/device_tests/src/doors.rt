@@ -2,7 +2,7 @@
 ghost use Rattle.std.specs.Prelude.{◌≡◌, ◌<◌, ◌-◌, ◌^◌, false, IfOk};
 ghost use Rattle.outside_real.specs.Door.{state_of, unused};
 
-use test_support::{new_folder, remove_folder};
+use client_framing::Framing;
 use outside::{Door, Link};
 use outside_real::{RealDoor, RealLink};
 use std::alloc::{AllocError, Global};
@@ -11,12 +11,27 @@ use std::os::unix::fs::MetadataExt;
 use std::process::Abort;
 use std::test::Fail;
 use std::time::{Clock, Instant};
+use test_support::{new_folder, remove_folder};
+
+// A client is heard once its bytes end in a full stop.
+#[derive(Drop)]
+struct Sentences;
+
+impl Framing for Sentences {
+    fn wanted(&self, bytes: &[u8]) -> usize {
+        if bytes.ends_with(b".") {
+            0
+        } else {
+            bytes.len().saturating_add(1)
+        }
+    }
+}
 
 // A door at the socket in this folder.
-fn door_at(rt: &HostRuntime, root: &str) -> Result<RealDoor<HostRuntime>, AllocError>
+fn door_at(rt: &HostRuntime, root: &str) -> Result<RealDoor<HostRuntime, Sentences>, AllocError>
     ensures { IfOk result (λ door. state_of door.clients ≡ unused) }
 {
-    RealDoor::new(rt.clone()?, root)
+    RealDoor::new(rt.clone()?, root, Sentences)
 }
 
 // A link to the socket in this folder.
@@ -30,12 +45,13 @@ fn vanish(rt: &HostRuntime, root: &str) -> Result<(), Fail> {
     Ok(link.connect()?)
 }
 
-// The link connects, and the door takes its connection and ends it.
+// The link connects and asks, and the door takes its connection and ends it.
 fn take_client<N: Door, L: Link>(rt: &impl Abort, door: &mut N, link: &mut L) -> Result<(), Fail>
     requires idle { (N.state door.old).busy ≡ false }
     requires room { (N.state door.old).accepted < 2 ^ 32 - 1 }
 {
     link.connect()?;
+    assert!(rt; link.write(b"now.") == Ok(4));
     assert!(rt; door.accept()?);
     door.finish();
     Ok(())
@@ -48,9 +64,6 @@ fn a_door_outlives_a_client_that_vanished(rt: HostRuntime) -> Result<(), Fail> {
     let mut door = door_at(&rt, folder.as_str())?;
     assert!(rt; door.listen().is_ok());
     vanish(&rt, folder.as_str())?;
-    assert!(rt; door.accept()?);
-    assert!(rt; door.write(b"yes").is_err());
-    door.finish();
     take_client(&rt, &mut door, &mut next)?;
     remove_folder(&rt, folder.as_str())
 }
@@ -79,7 +92,7 @@ fn answer<N: Door, L: Link>(rt: &impl Abort, door: &mut N, link: &mut L) -> Resu
     requires { N.state door.old ≡ unused }
 {
     link.connect()?;
-    assert!(rt; link.write(b"hi and more") == Ok(11));
+    assert!(rt; link.write(b"hi and more.") == Ok(12));
     let mut room = [0u8; 2];
     assert!(rt; door.accept()?);
     assert!(rt; door.read(&mut room) == Ok(2) && room == *b"hi");
@@ -107,37 +120,56 @@ fn many_bytes(alloc: Global) -> Result<Vec<u8>, Fail> {
     Ok(vec![in alloc; 0u8; count]?)
 }
 
-// The door gives up an idle client at a read, and at the writes after it.
-fn give_up_client<N: Door, L: Link>(
+// Seconds since then.
+fn seconds(rt: &impl Clock, began: Instant) -> Result<u64, Fail> {
+    Ok(began.elapsed(rt)?.as_secs())
+}
+
+// The next client is answered at once, though one before it is silent, and one reads nothing of a long answer.
+fn answer_past<N: Door, L: Link>(
     rt: &(impl Abort + Clock),
     door: &mut N,
-    idle: &mut L,
+    links: &mut [L; 3],
     piece: &[u8],
 ) -> Result<(), Fail>
     requires { N.state door.old ≡ unused }
 {
-    idle.connect()?;
     let began = Instant::now(rt)?;
+    let [silent, deaf, next] = links;
+    silent.connect()?;
+    deaf.connect()?;
+    assert!(rt; deaf.write(b"all.") == Ok(4));
     assert!(rt; door.accept()?);
-    assert!(rt; door.read(&mut [0u8; 2]).is_err());
-    assert!(rt; door.write(piece) != Ok(piece.len()));
-    assert!(rt; door.write(piece).is_err());
+    let taken = door.write(piece)?;
+    assert!(rt; door.write(&piece[taken..]) == Ok(piece.len() - taken));
     door.finish();
-    let seconds = began.elapsed(rt)?.as_secs();
-    assert!(rt; (20..50).contains(&seconds), "{seconds}");
+    next.connect()?;
+    assert!(rt; next.write(b"now.") == Ok(4));
+    assert!(rt; door.accept()?);
+    assert!(rt; door.write(b"yes") == Ok(3));
+    door.finish();
+    assert!(rt; next.read(&mut [0u8; 4]) == Ok(3));
+    assert!(rt; seconds(rt, began)? < 5);
     Ok(())
 }
 
-// It sends nothing, and then it reads nothing: each is borne for ten seconds.
 #[test]
-fn no_client_holds_a_door(rt: HostRuntime) -> Result<(), Fail> {
+fn no_client_holds_another(rt: HostRuntime) -> Result<(), Fail> {
     let folder = new_folder(&rt, "idle")?;
     let piece = many_bytes(rt.alloc())?;
-    let mut idle = link_at(&rt, folder.as_str())?;
-    let mut door = door_at(&rt, folder.as_str())?;
+    let root = folder.as_str();
+    let mut links = [
+        link_at(&rt, root)?,
+        link_at(&rt, root)?,
+        link_at(&rt, root)?,
+    ];
+    let mut door = door_at(&rt, root)?;
     assert!(rt; door.listen().is_ok());
-    give_up_client(&rt, &mut door, &mut idle, piece.as_slice())?;
-    remove_folder(&rt, folder.as_str())
+    answer_past(&rt, &mut door, &mut links, piece.as_slice())?;
+    let began = Instant::now(&rt)?;
+    door.drain();
+    assert!(rt; (9..30).contains(&seconds(&rt, began)?));
+    remove_folder(&rt, root)
 }
 
 // The link gives up a server that is silent.

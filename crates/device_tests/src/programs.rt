@@ -1,9 +1,9 @@
 //! The real spawner.
-use test_support::{new_folder, remove_folder};
 use outside::{Asker, Spawner};
 use outside_real::RealSpawner;
 use std::alloc::{AllocError, Global};
 use std::test::Fail;
+use test_support::{new_folder, remove_folder};
 
 fn words_of(alloc: Global, words: &[&str]) -> Result<Vec<String>, AllocError> {
     let mut copies = Vec::new(alloc);

@@ -1,4 +1,5 @@
 //! Files below a folder of the real file system, as a disk.
+use crate::failure::On;
 use crate::faults::Faults;
 use crate::folder::Folder;
 use crate::places::Kind;
@@ -37,14 +38,23 @@ where
 {
     /// A disk over the files below this folder, which is there; `.` is the working folder. Or want of memory.
     pub fn new(rt: R, root: &str) -> Result<RealDisk<R>, AllocError> {
+        let faults = Faults::new(rt.alloc());
         let folder = Folder::new(rt, root)?;
-        let faults = Faults::new();
         Ok(RealDisk { folder, faults })
     }
 
     /// Whether another program held the lock on the folder at the last call.
     pub fn is_locked_out(&self) -> bool {
         self.folder.is_locked_out()
+    }
+
+    /// What the last failure was, in a line for a person without a line feed, as `read image/model.toml: permission denied (13)` or
+    /// `image is a symbolic link`; none where no call has failed. Or out of memory.
+    pub fn last_failure(&self) -> Result<Option<String>, AllocError> {
+        match self.faults.last() {
+            Some(failure) => Ok(Some(self.folder.explain(failure)?)),
+            None => Ok(None),
+        }
     }
 }
 
@@ -60,41 +70,42 @@ where
 
     fn read(&mut self, _alloc: Global, path: &Path) -> Result<Option<Vec<u8>>, DiskErr> {
         let answer = self.folder.file(path);
-        self.faults.counted_read(answer)
+        self.faults.counted_read("read", On::Path(path), answer)
     }
 
     fn read_link(&mut self, _alloc: Global, path: &Path) -> Result<Option<Vec<u8>>, DiskErr> {
         let answer = self.folder.link(path);
-        self.faults.counted_read(answer)
+        self.faults.counted_read("read", On::Path(path), answer)
     }
 
     fn list(&mut self, _alloc: Global, path: &Path) -> Result<Vec<Path>, DiskErr> {
         let answer = self.folder.list(path);
-        self.faults.counted_read(answer)
+        self.faults.counted_read("list", On::Path(path), answer)
     }
 
     fn write(&mut self, path: &Path, bytes: &[u8]) -> Result<(), Failed> {
         let answer = self.folder.write(path, bytes);
-        self.faults.counted(answer)
+        self.faults.counted("write", On::Path(path), answer)
     }
 
     fn remove(&mut self, path: &Path) -> Result<(), Failed> {
         let answer = self.folder.remove(path);
-        self.faults.counted(answer)
+        self.faults.counted("remove", On::Path(path), answer)
     }
 
     fn replace(&mut self, path: &Path, bytes: &[u8]) -> Result<(), Failed> {
         let answer = self.folder.put(Kind::File, path, bytes);
-        self.faults.counted(answer)
+        self.faults.counted("replace", On::Path(path), answer)
     }
 
     fn relink(&mut self, path: &Path, target: &[u8]) -> Result<(), Failed> {
         let answer = self.folder.put(Kind::Link, path, target);
-        self.faults.counted(answer)
+        self.faults.counted("relink", On::Path(path), answer)
     }
 
     fn sync(&mut self) -> Result<(), Failed> {
         let answer = self.folder.sync();
-        self.faults.counted(answer)
+        self.faults
+            .counted("fsync", On::Name("what was written"), answer)
     }
 }

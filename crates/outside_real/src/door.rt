@@ -2,43 +2,47 @@
 ghost use Rattle.std.specs.Prelude.{◌≡◌, None, IfOk};
 ghost use Rattle.outside.specs.Faults.{HasCause};
 
+use crate::connections::Connections;
+use crate::failure::On;
 use crate::faults::{Faults, written_of};
-use crate::patience::{Patience, part};
 use crate::places::{SOCKET, remove_file};
+use crate::serving::Serving;
 use crate::work::{Lock, take_lock, work_place};
+use client_framing::Framing;
+use mio::net::UnixListener;
 use outside::{Door, Failed};
 use std::alloc::AllocError;
 use std::fs::{self, Permissions};
-use std::io::{self, ErrorKind};
+use std::io;
 use std::os::unix::fs::PermissionsExt;
-use std::os::unix::net::{UnixListener, UnixStream};
 use std::rt::{Files, Net};
 use std::time::Clock;
-
-/// How many seconds a client is waited for, and how many more it may take to read its answer.
-const PATIENCE: u64 = 10;
 
 /// A door over the Unix socket `api.sock` in a folder, to which its owner and its group may connect. It is never at its
 /// end.
 ///
-/// A client that vanishes is a fault of the calls of its own connection, and of no accept. So is one that keeps the
-/// calls of its connection waiting for ten seconds in all, those that read or those that write. Each other error of the
-/// system is a fault.
+/// All clients are watched at once, and an accept hands on the next one whose request is whole, as its framing says. One that
+/// sends nothing, sends slowly or takes nothing of its answer costs only itself: it has ten seconds for its whole request, and ten
+/// for each next piece of its answer, and is then closed. At most 256 clients are there; where one more comes, the oldest goes whose
+/// request isn't whole.
 ///
-/// `finish` tells the client that no more comes, and lets go up to 4 MB of what it still sends, for a second at most, so
-/// that it reads its whole answer.
+/// A client that vanishes before its request is whole is never handed on; after that it is a fault of the calls of its own
+/// connection, and of no accept. Each other error of the system is a fault.
+///
+/// `finish` lets the client take the rest of its answer while others are served; then writing is shut down, and up to 4 MB of what it
+/// still sends are read for a second at most, so that it reads its whole answer.
 ///
 /// One door at a time is open in a folder: where another program's door is bound there, binding is a fault and changes
 /// nothing.
 #[derive(Drop)]
-pub struct RealDoor<R: Files + Net + Clock + AllocGlobal + Drop> {
+pub struct RealDoor<R: Files + Net + Clock + AllocGlobal + Drop, F: Framing + Drop> {
     rt: R,
+    framing: F,
     root: String,
     // The lock on the socket, once it is taken.
     lock: Option<R::File>,
-    listener: Option<UnixListener>,
+    connections: Option<Connections>,
     clients: Clients,
-    patience: Patience,
     faults: Faults,
 }
 
@@ -46,7 +50,7 @@ pub struct RealDoor<R: Files + Net + Clock + AllocGlobal + Drop> {
 #[derive(Drop)]
 pub struct Clients {
     /// The last one, until it is finished.
-    last: Option<UnixStream>,
+    last: Option<Serving>,
     /// How many there were.
     accepted: u32,
     /// Whether an accept failed.
@@ -66,78 +70,72 @@ fn bind<R: Files + Net + AllocGlobal>(rt: &R, root: &str) -> io::Result<UnixList
     Ok(listener)
 }
 
-// Whether it was a client that vanished before it was accepted, or a signal.
-fn is_passing(e: &io::Error) -> bool {
-    matches!(
-        e.kind(),
-        ErrorKind::ConnectionAborted | ErrorKind::ConnectionReset | ErrorKind::Interrupted
-    )
-}
-
-// The next client that is there.
-fn next_client(listener: &UnixListener) -> io::Result<UnixStream> {
-    for client in listener.incoming() {
-        match client {
-            Err(e) if is_passing(&e) => {}
-            answer => return answer,
-        }
-    }
-    Err(io::Error::from(ErrorKind::Other))
-}
-
-// The socket at its place. Its lock is taken first, where it isn't.
-fn bind_locked<R: Files + Net + AllocGlobal>(
+// The connections of the socket at its place. Its lock is taken first, where it isn't.
+fn open<R: Files + Net + Clock + AllocGlobal>(
     rt: &R,
     root: &str,
     lock: &mut Option<R::File>,
-) -> io::Result<UnixListener>
+) -> io::Result<Connections>
 where
     R::File: Lock,
 {
     if lock.is_none() {
         *lock = Some(take_lock(rt, root, "socket-lock")?);
     }
-    bind(rt, root)
+    Connections::new(rt, rt.alloc(), bind(rt, root)?)
 }
 
-impl<R: Files + Net + Clock + AllocGlobal + Drop> RealDoor<R>
+impl<R: Files + Net + Clock + AllocGlobal + Drop, F: Framing + Drop> RealDoor<R, F>
 where
     R::File: Lock,
 {
     ghost use Rattle.outside_real.specs.Door.{state_of, unused};
 
     /// A door at the socket in this folder; `.` is the working folder. Or want of memory.
-    pub fn new(rt: R, root: &str) -> Result<RealDoor<R>, AllocError>
+    pub fn new(rt: R, root: &str, framing: F) -> Result<RealDoor<R, F>, AllocError>
         ensures { IfOk result (λ door. state_of door.clients ≡ unused) }
     {
-        let root = String::from_str(rt.alloc(), root)?;
+        let alloc = rt.alloc();
+        let root = String::from_str(alloc, root)?;
         Ok(RealDoor {
             rt,
+            framing,
             root,
             lock: None,
-            listener: None,
+            connections: None,
             clients: Clients {
                 last: None,
                 accepted: 0,
                 broken: false,
             },
-            patience: Patience::of_seconds(PATIENCE),
-            faults: Faults::new(),
+            faults: Faults::new(alloc),
         })
     }
 
-    // The next client. The socket is bound first, where it wasn't.
-    fn client(&mut self) -> io::Result<UnixStream>
+    // The next client whose request is whole. The socket is bound first, where it wasn't.
+    fn client(&mut self) -> io::Result<Serving>
         ensures same { state_of self.new.clients ≡ state_of self.old.clients }
         ensures faults { self.new.faults ≡ self.old.faults }
     {
-        let bound = match self.listener.take() {
-            Some(bound) => bound,
-            None => bind_locked(&self.rt, self.root.as_str(), &mut self.lock)?,
+        let mut connections = match self.connections.take() {
+            Some(connections) => connections,
+            None => open(&self.rt, self.root.as_str(), &mut self.lock)?,
         };
-        let client = next_client(&bound);
-        self.listener = Some(bound);
+        let client = connections.next(&self.rt, self.rt.alloc(), &self.framing);
+        self.connections = Some(connections);
         client
+    }
+
+    /// What the last failure was, in a line for a person without a line feed; none where no call has failed. Or out of memory.
+    pub fn last_failure(&self) -> Result<Option<String>, AllocError> {
+        self.faults.print_last()
+    }
+
+    /// Waits until each client has taken its answer or has used up its time: for the end of a program.
+    pub fn drain(&mut self) {
+        if let Some(connections) = &mut self.connections {
+            let _ = connections.drain_all(&self.rt);
+        }
     }
 
     /// Binds the socket, in place of a socket file that was left. Clients may connect from then on.
@@ -147,10 +145,13 @@ where
         ensures cause { HasCause self.old.faults.count self.new.faults.count result }
         ensures same { state_of self.new.clients ≡ state_of self.old.clients }
     {
-        let answer = bind_locked(&self.rt, self.root.as_str(), &mut self.lock);
-        match self.faults.counted(answer) {
-            Ok(listener) => {
-                self.listener = Some(listener);
+        let answer = open(&self.rt, self.root.as_str(), &mut self.lock);
+        match self
+            .faults
+            .counted("listen at", On::Name("api.sock"), answer)
+        {
+            Ok(connections) => {
+                self.connections = Some(connections);
                 Ok(())
             }
             Err(e) => Err(e),
@@ -158,7 +159,7 @@ where
     }
 }
 
-impl<R: Files + Net + Clock + AllocGlobal + Drop> Door for RealDoor<R>
+impl<R: Files + Net + Clock + AllocGlobal + Drop, F: Framing + Drop> Door for RealDoor<R, F>
 where
     R::File: Lock,
 {
@@ -172,10 +173,12 @@ where
 
     fn accept(&mut self) -> Result<bool, Failed> {
         let answer = self.client();
-        match self.faults.counted(answer) {
-            Ok(stream) => {
-                self.patience = Patience::of_seconds(PATIENCE);
-                self.clients.last = Some(stream);
+        match self
+            .faults
+            .counted("accept at", On::Name("api.sock"), answer)
+        {
+            Ok(client) => {
+                self.clients.last = Some(client);
                 self.clients.accepted += 1;
                 Ok(true)
             }
@@ -187,24 +190,27 @@ where
     }
 
     fn read(&mut self, room: &mut [u8]) -> Result<usize, Failed> {
-        let Some(stream) = &mut self.clients.last else {
+        let Some(client) = &mut self.clients.last else {
             unreachable!()
         };
-        let answer = self.patience.read(&self.rt, stream, room);
-        self.faults.counted(answer)
+        let answer = client.read(room);
+        self.faults.counted("read", On::Name("a client"), answer)
     }
 
     fn write(&mut self, piece: &[u8]) -> Result<usize, Failed> {
-        let Some(stream) = &mut self.clients.last else {
+        let Some(client) = &mut self.clients.last else {
             unreachable!()
         };
-        let answer = written_of(piece, self.patience.write(&self.rt, stream, piece));
-        self.faults.counted(answer)
+        let answer = written_of(piece, client.write(piece));
+        self.faults.counted("write", On::Name("a client"), answer)
     }
 
     fn finish(&mut self) {
-        if let Some(client) = self.clients.last.take() {
-            part(&self.rt, client);
+        if let (Some(client), Some(connections)) = (
+            self.clients.last.take(),
+            &mut self.connections,
+        ) {
+            connections.drain_client(client);
         }
     }
 }

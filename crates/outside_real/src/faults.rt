@@ -1,54 +1,86 @@
-//! How often a device has failed.
+//! How often a device has failed, and how it did the last time.
 ghost use Rattle.std.specs.Prelude.{◌≡◌, ◌<◌, ◌≤◌, length, Ok, IfOk};
 ghost use Rattle.outside.specs.Faults.{HasCause, HasCauseOf, Rose};
 
+use crate::failure::{Failure, On};
 use outside::{DiskErr, Failed};
+use std::alloc::{AllocError, Global};
 use std::io::{self, ErrorKind};
 
-/// A count of failures, which stays at the greatest `u64`.
+/// A count of failures, which stays at the greatest `u64`, and the last one.
 #[derive(Debug, Drop)]
 pub struct Faults {
     /// How many there were.
     pub count: u64,
+    alloc: Global,
+    last: Option<Failure>,
 }
 
 impl Faults {
     /// None yet.
-    pub fn new() -> Faults {
-        Faults { count: 0 }
+    pub fn new(alloc: Global) -> Faults {
+        Faults {
+            count: 0,
+            alloc,
+            last: None,
+        }
     }
 
-    /// One more.
-    pub fn raise(&mut self)
+    /// The last failure, if there was one.
+    pub fn last(&self) -> Option<&Failure> {
+        self.last.as_ref()
+    }
+
+    /// The last failure in words, if there was one. Or out of memory.
+    pub fn print_last(&self) -> Result<Option<String>, AllocError> {
+        match &self.last {
+            Some(failure) => Ok(Some(failure.print(self.alloc)?)),
+            None => Ok(None),
+        }
+    }
+
+    /// One more: this call failed by this error.
+    pub fn raise(&mut self, call: &'static str, on: On<'_>, error: io::Error)
         ensures rose { Rose self.old.count self.new.count }
         ensures later { self.old.count ≤ self.new.count }
     {
         self.count = self.count.saturating_add(1);
+        self.last = Some(Failure::new(self.alloc, call, on, error));
     }
 
-    /// The answer of the system, whose error is a failure.
-    pub fn counted<T: Drop>(&mut self, answer: io::Result<T>) -> Result<T, Failed>
+    /// The answer of the system to this call, whose error is a failure.
+    pub fn counted<T: Drop>(
+        &mut self,
+        call: &'static str,
+        on: On<'_>,
+        answer: io::Result<T>,
+    ) -> Result<T, Failed>
         ensures cause { HasCause self.old.count self.new.count result }
         ensures value { IfOk result (λ value. answer ≡ Ok value) }
     {
         match answer {
             Ok(value) => Ok(value),
-            Err(_) => {
-                self.raise();
+            Err(e) => {
+                self.raise(call, on, e);
                 Err(Failed)
             }
         }
     }
 
-    /// The answer of the system, whose error is a failure, unless it is want of memory.
-    pub fn counted_read<T: Drop>(&mut self, answer: io::Result<T>) -> Result<T, DiskErr>
+    /// The same of a reading call, where out of memory is no failure.
+    pub fn counted_read<T: Drop>(
+        &mut self,
+        call: &'static str,
+        on: On<'_>,
+        answer: io::Result<T>,
+    ) -> Result<T, DiskErr>
         ensures { HasCauseOf DiskErr.Failed self.old.count self.new.count result }
     {
         match answer {
             Ok(value) => Ok(value),
             Err(e) if e.kind() == ErrorKind::OutOfMemory => Err(DiskErr::Memory),
-            Err(_) => {
-                self.raise();
+            Err(e) => {
+                self.raise(call, on, e);
                 Err(DiskErr::Failed)
             }
         }

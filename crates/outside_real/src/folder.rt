@@ -1,4 +1,6 @@
 //! The files below a real folder.
+use crate::explaining::{first_odd, why_refused};
+use crate::failure::Failure;
 use crate::folders::Folders;
 use crate::nodes::Nodes;
 use crate::places::{Kind, Standing, is_own, place_of, remove_file, what_stands};
@@ -48,6 +50,19 @@ where
     /// Whether another program held the folder's lock at the last call.
     pub fn is_locked_out(&self) -> bool {
         self.locked_out
+    }
+
+    /// Why a call failed, in words: what stands in the way, where the error is of these adapters, and else the system's words. Or out of memory.
+    pub fn explain(&self, failure: &Failure) -> Result<String, AllocError> {
+        if self.locked_out {
+            return String::from_str(self.rt.alloc(), "another program is at work in this folder");
+        }
+        let odd = first_odd(&self.rt, self.root.as_str(), failure.on())?;
+        match (failure.error().raw_os_error(), failure.error().kind(), odd) {
+            (None, ErrorKind::InvalidData, Some(place)) => Ok(place),
+            (None, ErrorKind::PermissionDenied, _) => why_refused(&self.rt, self.root.as_str()),
+            _ => failure.print(self.rt.alloc()),
+        }
     }
 
     // Begins a call: takes the lock, if it isn't taken. An error after a failed sync of what can't be written anew.

@@ -5,8 +5,12 @@
 //! error; it tells nothing of content. That the system does what the traits say is shown by tests alone.
 #![tactic(auto)]
 
+mod connections;
 mod disk;
 mod door;
+mod draining;
+mod explaining;
+mod failure;
 mod faults;
 mod folder;
 mod folders;
@@ -14,6 +18,8 @@ mod link;
 mod nodes;
 mod patience;
 mod places;
+mod reading;
+mod serving;
 mod sink;
 mod spawner;
 mod unsynced;

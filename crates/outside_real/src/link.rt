@@ -2,11 +2,13 @@
 ghost use Rattle.std.specs.Prelude.{None};
 ghost use Rattle.std.specs.Option.{is_some};
 
+use crate::failure::On;
 use crate::faults::{Faults, written_of};
 use crate::patience::Patience;
 use crate::places::SOCKET;
 use outside::{Failed, Link};
 use std::alloc::AllocError;
+use std::io::{self, ErrorKind};
 use std::os::unix::net::UnixStream;
 use std::rt::Net;
 use std::time::Clock;
@@ -28,17 +30,37 @@ pub struct RealLink<R: Net + Clock + Drop> {
     faults: Faults,
 }
 
+// Whether a call of the connection waited for as long as it may.
+fn is_late(error: &io::Error) -> bool {
+    matches!(
+        error.kind(),
+        ErrorKind::WouldBlock | ErrorKind::TimedOut | ErrorKind::InvalidInput
+    )
+}
+
 impl<R: Net + Clock + AllocGlobal + Drop> RealLink<R> {
     /// A link to the socket in this folder; `.` is the working folder. Or want of memory.
     pub fn new(rt: R, root: &str) -> Result<RealLink<R>, AllocError> {
-        let place = format!(in rt.alloc(); "{root}{SOCKET}")?;
+        let alloc = rt.alloc();
+        let place = format!(in alloc; "{root}{SOCKET}")?;
         Ok(RealLink {
             rt,
             place,
             stream: None,
             patience: Patience::of_seconds(PATIENCE),
-            faults: Faults::new(),
+            faults: Faults::new(alloc),
         })
+    }
+
+    /// What the last failure was, in a line for a person without a line feed; none where no call has failed. Or out of memory.
+    pub fn last_failure(&self) -> Result<Option<String>, AllocError> {
+        match self.faults.last() {
+            Some(failure) if is_late(failure.error()) => {
+                let text = String::from_str(self.rt.alloc(), "no answer in time")?;
+                Ok(Some(text))
+            }
+            _ => self.faults.print_last(),
+        }
     }
 }
 
@@ -51,7 +73,9 @@ impl<R: Net + Clock + Drop> Link for RealLink<R> {
 
     fn connect(&mut self) -> Result<(), Failed> {
         let answer = UnixStream::connect(&self.rt, self.place.as_str());
-        let stream = self.faults.counted(answer)?;
+        let stream = self
+            .faults
+            .counted("connect to", On::Name("api.sock"), answer)?;
         self.stream = Some(stream);
         self.patience = Patience::of_seconds(PATIENCE);
         Ok(())
@@ -62,7 +86,8 @@ impl<R: Net + Clock + Drop> Link for RealLink<R> {
             unreachable!()
         };
         let answer = self.patience.read(&self.rt, stream, room);
-        self.faults.counted(answer)
+        self.faults
+            .counted("read", On::Name("the reply of the server"), answer)
     }
 
     fn write(&mut self, piece: &[u8]) -> Result<usize, Failed> {
@@ -71,6 +96,7 @@ impl<R: Net + Clock + Drop> Link for RealLink<R> {
         };
         let answer = self.patience.write(&self.rt, stream, piece);
         let answer = written_of(piece, answer);
-        self.faults.counted(answer)
+        self.faults
+            .counted("write", On::Name("the question to the server"), answer)
     }
 }

@@ -2,15 +2,8 @@
 ghost use Rattle.std.specs.Prelude.{◌≤◌, length, IfOk};
 
 use std::io::{self, ErrorKind, Read, Write};
-use std::net::Shutdown;
 use std::os::unix::net::UnixStream;
 use std::time::{Clock, Duration, Instant};
-
-/// How many seconds the end of a finished client is waited for.
-const PARTING: u64 = 1;
-
-/// How many pieces of at most 4,096 bytes are let go until then.
-const MOST_PIECES: u32 = 1024;
 
 /// How long the calls on a connection may still wait.
 #[derive(Clone, Copy, Debug)]
@@ -97,21 +90,5 @@ impl Patience {
             }
         }
         Err(io::Error::from(ErrorKind::Interrupted))
-    }
-}
-
-/// Tells the client that no more comes, and lets go what it still sends: a client whose bytes weren't all read would
-/// find its connection reset in place of the end of the answer.
-pub fn part(clock: &impl Clock, mut client: UnixStream) {
-    if client.shutdown(Shutdown::Write).is_err() {
-        return;
-    }
-    let mut left = Duration::from_secs(PARTING);
-    let mut room = [0u8; 4096];
-    for _ in 0..MOST_PIECES {
-        match read_once(clock, &mut client, &mut room, &mut left) {
-            Ok(0) | Err(_) => break,
-            Ok(_) => {}
-        }
     }
 }

@@ -1,8 +1,10 @@
 //! A writer of the system, as standard output, as a sink.
 ghost use Rattle.std.specs.Prelude.{◌≡◌, ◌≤◌, length, None, IfOk};
 
+use crate::failure::On;
 use crate::faults::{Faults, written_of};
 use outside::{Failed, Sink};
+use std::alloc::{AllocError, Global};
 use std::io::{self, ErrorKind, Write};
 
 // Writes some bytes of the piece. A signal that comes before the first byte is no failure.
@@ -31,9 +33,14 @@ pub struct RealSink<W: Write + Drop> {
 
 impl<W: Write + Drop> RealSink<W> {
     /// A sink over this writer, as `io::writer(&rt)`.
-    pub fn new(writer: W) -> RealSink<W> {
-        let faults = Faults::new();
+    pub fn new(alloc: Global, writer: W) -> RealSink<W> {
+        let faults = Faults::new(alloc);
         RealSink { writer, faults }
+    }
+
+    /// What the last failure was, in a line for a person without a line feed; none where no call has failed. Or out of memory.
+    pub fn last_failure(&self) -> Result<Option<String>, AllocError> {
+        self.faults.print_last()
     }
 
     /// Whether the writer's descriptor is no open file, as where a shell has closed it: the first file that a program opens would
@@ -55,6 +62,7 @@ impl<W: Write + Drop> Sink for RealSink<W> {
 
     fn write(&mut self, piece: &[u8]) -> Result<usize, Failed> {
         let answer = written_of(piece, write_once(&mut self.writer, piece));
-        self.faults.counted(answer)
+        self.faults
+            .counted("write", On::Name("standard output"), answer)
     }
 }

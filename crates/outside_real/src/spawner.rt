@@ -2,6 +2,7 @@
 ghost use Rattle.std.specs.Prelude.{◌≡◌, ◌+◌, ◌<◌, ◌≤◌, None, length, IfOk};
 ghost use Rattle.outside.specs.Faults.{HasCauseOf};
 
+use crate::failure::On;
 use crate::faults::Faults;
 use crate::places::remove_file;
 use crate::work::work_place;
@@ -49,19 +50,19 @@ fn command_of(alloc: Global, words: &[String], input: Option<&str>) -> io::Resul
     Ok(command)
 }
 
-// Reads to the end, and keeps the first bytes, so many as are wanted.
+// Reads so many bytes as are wanted, or to the end where it comes first.
 fn read_some(reader: &mut impl Read, kept: &mut Vec<u8>, wanted: usize) -> io::Result<()>
     requires { length kept.old.items ≤ wanted }
     ensures { length kept.new.items ≤ wanted }
 {
     let mut buffer = [0u8; 4096];
     for _ in 0..u64::MAX {
-        let count = reader.read(&mut buffer)?;
+        let room = buffer.len().min(wanted - kept.len());
+        let count = reader.read(&mut buffer[..room])?;
         if count == 0 {
             break;
         }
-        let more = count.min(wanted - kept.len());
-        kept.extend_from_slice(&buffer[..more])?;
+        kept.extend_from_slice(&buffer[..count])?;
     }
     Ok(())
 }
@@ -71,8 +72,13 @@ impl<R: Files + Processes + AllocGlobal + Drop> RealSpawner<R> {
     /// Or want of memory.
     pub fn new(rt: R, root: &str) -> Result<RealSpawner<R>, AllocError> {
         let root = String::from_str(rt.alloc(), root)?;
-        let faults = Faults::new();
+        let faults = Faults::new(rt.alloc());
         Ok(RealSpawner { rt, root, faults })
+    }
+
+    /// What the last failure was, in a line for a person without a line feed; none where no call has failed. Or out of memory.
+    pub fn last_failure(&self) -> Result<Option<String>, AllocError> {
+        self.faults.print_last()
     }
 
     fn run_words(&self, words: &[String]) -> io::Result<u16>
@@ -101,7 +107,8 @@ impl<R: Files + Processes + AllocGlobal + Drop> RealSpawner<R> {
         command.spawn(&self.rt)
     }
 
-    // Reads what the program writes, and waits for its end.
+    // Reads what the program writes, so many bytes as are wanted, and waits for its end. One that has written so many is killed, so that none is waited
+    // for that writes without end; it counts as ended with 0.
     fn read_child(&self, child: &mut Child<R::Started>, wanted: usize) -> io::Result<Answer>
         ensures status { IfOk result (λ answer. answer.status ≤ 256) }
         ensures output { IfOk result (λ answer. length answer.output.items ≤ wanted) }
@@ -111,6 +118,11 @@ impl<R: Files + Processes + AllocGlobal + Drop> RealSpawner<R> {
             Some(mut stdout) => read_some(&mut stdout, &mut output, wanted),
             None => Ok(()),
         };
+        if output.len() == wanted {
+            child.kill()?;
+            child.wait()?;
+            return Ok(Answer { status: 0, output });
+        }
         let status = status_of(child.wait()?);
         read?;
         Ok(Answer { status, output })
@@ -150,7 +162,7 @@ impl<R: Files + Processes + AllocGlobal + Drop> Spawner for RealSpawner<R> {
 
     fn run(&mut self, words: &[String]) -> Result<u16, Failed> {
         let answer = self.run_words(words);
-        self.faults.counted(answer)
+        self.faults.counted("run", On::Program(words), answer)
     }
 }
 
@@ -165,8 +177,8 @@ impl<R: Files + Processes + AllocGlobal + Drop> Asker for RealSpawner<R> {
         match self.ask_words(words, input, most + 1) {
             Ok(answer) => Ok(answer),
             Err(e) if e.kind() == ErrorKind::OutOfMemory => Err(AskErr::Memory),
-            Err(_) => {
-                self.faults.raise();
+            Err(e) => {
+                self.faults.raise("run", On::Program(words), e);
                 Err(AskErr::Failed)
             }
         }

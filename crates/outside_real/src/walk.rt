@@ -1,8 +1,9 @@
 //! What lies below real folders.
 use crate::places::{KEPT, Standing, look};
 use std::alloc::{AllocError, Global};
+use std::fs;
+use std::io::{self, ErrorKind};
 use std::rt::Files;
-use std::{fs, io};
 
 /// The places below some folders.
 #[derive(Drop)]
@@ -43,9 +44,15 @@ impl Walk {
         folder: &str,
     ) -> io::Result<()> {
         for entry in fs::read_dir(rt, folder)? {
-            let entry = entry?;
-            let place = String::from_str(rt.alloc(), entry.path().as_str())?;
-            self.add(rt, place)?;
+            match entry {
+                Ok(entry) => {
+                    let place = String::from_str(rt.alloc(), entry.path().as_str())?;
+                    self.add(rt, place)?;
+                }
+                // no name of a path, so no program of this kind has made it
+                Err(e) if e.kind() == ErrorKind::InvalidFilename => self.has_others = true,
+                Err(e) => return Err(e),
+            }
         }
         Ok(())
     }

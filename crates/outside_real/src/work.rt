@@ -30,25 +30,25 @@ pub fn place_in_work(alloc: Global, root: &str, name: &str) -> Result<String, Al
     format!(in alloc; "{root}/.work/{name}")
 }
 
-// The user to whom the folder `.work` below the root belongs. It is made where it is missing, and one that others may
-// enter is refused.
-fn owner_of_work<R: Files + AllocGlobal>(rt: &R, root: &str) -> io::Result<u32> {
+// The folder `.work` below the root is there, and this program's user alone may enter it: it is made where it is missing, and one of another
+// user, or that others may enter, is refused.
+fn check_work<R: Files + AllocGlobal>(rt: &R, root: &str) -> io::Result<()> {
     let folder = format!(in rt.alloc(); "{root}/.work")?;
     if look(rt, folder.as_str())? == Standing::Nothing {
         DirBuilder::new().mode(0o700).create(rt, folder.as_str())?;
     }
     let data = fs::symlink_metadata(rt, folder.as_str())?;
-    if data.is_dir() && data.mode() & 0o077 == 0 {
-        Ok(data.uid())
+    if data.is_dir() && data.mode() & 0o077 == 0 && data.uid() == libc::geteuid() {
+        Ok(())
     } else {
         Err(refused())
     }
 }
 
-/// The place of a file of this name in the folder `.work` below the root. Its owner alone may enter that folder, which
+/// The place of a file of this name in the folder `.work` below the root. This program's user alone may enter that folder, which
 /// is made where it is missing. It need not last: what is made there is renamed or let go.
 pub fn work_place<R: Files + AllocGlobal>(rt: &R, root: &str, name: &str) -> io::Result<String> {
-    owner_of_work(rt, root)?;
+    check_work(rt, root)?;
     Ok(place_in_work(rt.alloc(), root, name)?)
 }
 
@@ -61,30 +61,23 @@ pub fn create_anew<R: Files>(files: &R, place: &str) -> io::Result<R::File> {
         .open(files, place)
 }
 
-// Refuses a `.work` whose owner is another user, by a new file there.
-fn check_owner<R: Files + AllocGlobal>(rt: &R, root: &str) -> io::Result<()> {
-    let place = work_place(rt, root, "owner")?;
-    let own = create_anew(rt, place.as_str())?.metadata()?.uid();
-    remove_file(rt, place.as_str())?;
-    if owner_of_work(rt, root)? == own {
-        Ok(())
-    } else {
-        Err(refused())
-    }
-}
-
 /// The lock of this name in `.work`, which is held until the file is closed. `WouldBlock` where another program holds
-/// it; each other error is the system's.
+/// it; `PermissionDenied`, with nothing made, where `.work` is not this user's alone or no file stands there; each other error is the system's.
 pub fn take_lock<R: Files + AllocGlobal>(rt: &R, root: &str, name: &str) -> io::Result<R::File>
 where
     R::File: Lock,
 {
     let place = work_place(rt, root, name)?;
+    if !matches!(
+        look(rt, place.as_str())?,
+        Standing::Nothing | Standing::File
+    ) {
+        return Err(refused());
+    }
     let file = OpenOptions::new()
         .write(true)
         .create(true)
         .open(rt, place.as_str())?;
     file.lock_now()?;
-    check_owner(rt, root)?;
     Ok(file)
 }

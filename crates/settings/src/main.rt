@@ -5,18 +5,27 @@ mod usage;
 
 use crate::usage::PAGE;
 use outside_real::{RealDisk, RealDoor, RealSink, RealSpawner, words_of};
+use program_version::VERSION;
 use settings_run::run;
+use std::alloc::AllocError;
 use std::io::{self, Write};
 use std::process::ExitCode;
+use whole_requests::WholeRequests;
 
-/// The status of a program that could not make its devices for want of memory, as that of a command.
+/// The exit status of a program that could not make its devices for want of memory, as that of a command.
 const OUT_OF_MEMORY: u8 = 1;
 
-/// The status of words that spell no command.
+/// The exit status of words that spell no command.
 const MISUSED: u8 = 2;
 
-/// The status of a program whose standard output is closed, as that of a command whose output failed.
-const UNWRITTEN: u8 = 12;
+/// The exit statuses of a command whose disk, door, spawner or output failed.
+const DISK: u8 = 3;
+
+const DOOR: u8 = 4;
+
+const SPAWN: u8 = 5;
+
+const OUTPUT: u8 = 12;
 
 fn main(rt: HostRuntime) -> ExitCode {
     match status_of(&rt) {
@@ -28,26 +37,54 @@ fn main(rt: HostRuntime) -> ExitCode {
     }
 }
 
+// Prints what was asked for besides the commands: the page, or the version. None where the words ask for neither.
+fn told(rt: &HostRuntime, words: &[String]) -> Option<u8> {
+    let [word] = words else {
+        return None;
+    };
+    let answer = match word.as_str() {
+        "-h" | "--help" => print!(rt; "{PAGE}"),
+        "--version" => println!(rt; "settings {VERSION}"),
+        _ => return None,
+    };
+    Some(if answer.is_ok() { 0 } else { OUTPUT })
+}
+
+// Tells on standard error what failed, where a device did.
+fn tell(rt: &HostRuntime, failure: Result<Option<String>, AllocError>) {
+    if let Ok(Some(line)) = failure {
+        let line = line.as_str();
+        let _ = eprintln!(rt; "settings: {line}");
+    }
+}
+
 // The status of the command. Where standard output is closed none is run: the lock would take its place, and get what is printed.
-// Where the command met the lock of another program, standard error says so, and where the words spell no command, how they are
-// spelled.
+// Standard error says what failed, and where the words spell no command, how they are spelled.
 fn status_of(rt: &HostRuntime) -> io::Result<u8> {
     let alloc = rt.alloc();
-    let mut out = RealSink::new(rt.stdout());
+    let mut out = RealSink::new(alloc, rt.stdout());
     if out.is_closed() {
-        return Ok(UNWRITTEN);
+        return Ok(OUTPUT);
     }
     let words = words_of(rt)?;
+    if let Some(status) = told(rt, &words) {
+        return Ok(status);
+    }
     let mut disk = RealDisk::new(rt.clone()?, ".")?;
     let mut spawner = RealSpawner::new(rt.clone()?, ".")?;
     // the socket is bound by the first accept, which `serve` alone asks for
-    let mut door = RealDoor::new(rt.clone()?, ".")?;
+    let mut door = RealDoor::new(rt.clone()?, ".", WholeRequests::new(alloc))?;
     let status = run(alloc, &words, &mut disk, &mut spawner, &mut door, &mut out);
-    if disk.is_locked_out() {
-        let _ = eprintln!(rt; "settings: another program is at work in this folder");
-    }
-    if status == MISUSED {
-        let _ = eprint!(rt; "{PAGE}");
+    door.drain();
+    match status {
+        MISUSED => {
+            let _ = eprint!(rt; "{PAGE}");
+        }
+        DISK => tell(rt, disk.last_failure()),
+        DOOR => tell(rt, door.last_failure()),
+        SPAWN => tell(rt, spawner.last_failure()),
+        OUTPUT => tell(rt, out.last_failure()),
+        _ => {}
     }
     Ok(status)
 }
