@@ -5,6 +5,9 @@ DESTDIR =
 BINDIR = $(PREFIX)/bin
 MANDIR = $(PREFIX)/share/man
 LIBDIR = $(PREFIX)/lib
+BASH_COMPLETION = $(PREFIX)/share/bash-completion/completions
+ZSH_COMPLETION = $(PREFIX)/share/zsh/site-functions
+FISH_COMPLETION = $(PREFIX)/share/fish/vendor_completions.d
 # The built programs, which `rt ci` and `make programs` leave here.
 SETTINGS ?= crates/settings/out/settings
 SETTINGSCTL ?= crates/settingsctl/out/settingsctl
@@ -46,6 +49,12 @@ install:
 	chmod 644 "$(DESTDIR)$(LIBDIR)/systemd/system/settings.service"
 	install -m 644 packaging/settings.sysusers "$(DESTDIR)$(LIBDIR)/sysusers.d/settings.conf"
 	install -m 644 packaging/settings.tmpfiles "$(DESTDIR)$(LIBDIR)/tmpfiles.d/settings.conf"
+	install -d "$(DESTDIR)$(BASH_COMPLETION)" "$(DESTDIR)$(ZSH_COMPLETION)" "$(DESTDIR)$(FISH_COMPLETION)"
+	install -m 644 packaging/completion/settings.bash "$(DESTDIR)$(BASH_COMPLETION)/settings"
+	install -m 644 packaging/completion/settings.bash "$(DESTDIR)$(BASH_COMPLETION)/settingsctl"
+	install -m 644 packaging/completion/_settings "$(DESTDIR)$(ZSH_COMPLETION)/_settings"
+	install -m 644 packaging/completion/settings.fish "$(DESTDIR)$(FISH_COMPLETION)/settings.fish"
+	install -m 644 packaging/completion/settings.fish "$(DESTDIR)$(FISH_COMPLETION)/settingsctl.fish"
 
 # Takes away what `install` has laid. The working folder, the user and what the host has set stay.
 uninstall:
@@ -53,5 +62,7 @@ uninstall:
 	rm -f "$(DESTDIR)$(MANDIR)/man1/settingsctl.1" "$(DESTDIR)$(MANDIR)/man5/settings-image.5" "$(DESTDIR)$(MANDIR)/man8/settings.8"
 	rm -f "$(DESTDIR)$(LIBDIR)/systemd/system/settings.service"
 	rm -f "$(DESTDIR)$(LIBDIR)/sysusers.d/settings.conf" "$(DESTDIR)$(LIBDIR)/tmpfiles.d/settings.conf"
+	rm -f "$(DESTDIR)$(BASH_COMPLETION)/settings" "$(DESTDIR)$(BASH_COMPLETION)/settingsctl" "$(DESTDIR)$(ZSH_COMPLETION)/_settings"
+	rm -f "$(DESTDIR)$(FISH_COMPLETION)/settings.fish" "$(DESTDIR)$(FISH_COMPLETION)/settingsctl.fish"
 
 .PHONY: first-run programs try test install uninstall
