@@ -1,5 +1,4 @@
 //! A file system that writes down what it is asked to change or to put on the disk, and fails where it is told to.
-use test_support::new_folder;
 use outside::Path;
 use outside_real::{Lock, RealDisk};
 use std::alloc::{Alloc, AllocError, Allocator, Global};
@@ -9,6 +8,7 @@ use std::io::{self, ErrorKind, Read, Seek, SeekFrom, Write};
 use std::rc::Rc;
 use std::rt::Files;
 use std::test::Fail;
+use test_support::new_folder;
 
 /// The path that the text spells.
 pub fn path(alloc: Global, text: &str) -> Result<Path, Fail> {

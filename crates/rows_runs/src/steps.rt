@@ -11,17 +11,24 @@ use row_files::{Fault, Given, Subject};
 use std::alloc::{AllocError, Global};
 use std::io;
 
-// The texts that a program swaps: on one line with a space between, or the new one in the lines below the old one.
-fn swaps(alloc: Global, rest: &str, lines: Option<&str>) -> Result<Option<Says>, AllocError> {
-    let (old, new) = match lines {
-        Some(lines) => (rest, lines),
-        None => rest.split_once(' ').unwrap_or(("", "")),
-    };
+// That a program swaps these texts. None where the old one is empty.
+fn swap_of(alloc: Global, old: &str, new: &str) -> Result<Option<Says>, AllocError> {
     if old.is_empty() {
         return Ok(None);
     }
     let old = String::from_str(alloc, old)?;
     Ok(Some(Says::Swaps(old, String::from_str(alloc, new)?)))
+}
+
+// The texts that a program swaps: on one line with a space between, or the new one in the lines below the old one.
+fn swaps(alloc: Global, rest: &str, lines: Option<&str>) -> Result<Option<Says>, AllocError> {
+    if let Some(lines) = lines {
+        return swap_of(alloc, rest, lines);
+    }
+    match rest.split_once(' ') {
+        Some((old, new)) => swap_of(alloc, old, new),
+        None => Ok(None),
+    }
 }
 
 // What a program does that is asked. None where the text says no such thing.
