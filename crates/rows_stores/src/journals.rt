@@ -106,13 +106,13 @@ fn are_named(entries: &[Entry]) -> bool
     }
 }
 
-// Whether the paths rise strictly.
+// Whether the paths rise strictly. A single one rises, and is to be named all the same.
 fn are_rising(entries: &[Entry]) -> bool
     ensures { IsTrue result → IsTrue (are_rising entries.now) }
 {
     match entries {
         [] => true,
-        [_] => true,
+        [a] => has_first_name(&a.0),
         [a, b] => is_before(&a.0, &b.0),
         [a, b, c] => is_before(&a.0, &b.0) && is_before(&b.0, &c.0),
         [a, b, c, d] => { is_before(&a.0, &b.0) && is_before(&b.0, &c.0) && is_before(&c.0, &d.0) }
