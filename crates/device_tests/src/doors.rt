@@ -129,13 +129,14 @@ fn seconds(rt: &impl Clock, began: Instant) -> Result<u64, Fail> {
 fn answer_past<N: Door, L: Link>(
     rt: &(impl Abort + Clock),
     door: &mut N,
-    links: &mut [L; 3],
+    silent: &mut L,
+    deaf: &mut L,
+    next: &mut L,
     piece: &[u8],
 ) -> Result<(), Fail>
     requires { N.state door.old ≡ unused }
 {
     let began = Instant::now(rt)?;
-    let [silent, deaf, next] = links;
     silent.connect()?;
     deaf.connect()?;
     assert!(rt; deaf.write(b"all.") == Ok(4));
@@ -158,14 +159,13 @@ fn no_client_holds_another(rt: HostRuntime) -> Result<(), Fail> {
     let folder = new_folder(&rt, "idle")?;
     let piece = many_bytes(rt.alloc())?;
     let root = folder.as_str();
-    let mut links = [
-        link_at(&rt, root)?,
-        link_at(&rt, root)?,
-        link_at(&rt, root)?,
-    ];
+    let mut silent = link_at(&rt, root)?;
+    let mut deaf = link_at(&rt, root)?;
+    let mut next = link_at(&rt, root)?;
     let mut door = door_at(&rt, root)?;
     assert!(rt; door.listen().is_ok());
-    answer_past(&rt, &mut door, &mut links, piece.as_slice())?;
+    let piece = piece.as_slice();
+    answer_past(&rt, &mut door, &mut silent, &mut deaf, &mut next, piece)?;
     let began = Instant::now(&rt)?;
     door.drain();
     assert!(rt; (9..30).contains(&seconds(&rt, began)?));

@@ -17,7 +17,7 @@ mod requests;
 mod shown;
 mod turning;
 
-use crate::host::Host;
+use crate::host::Kept;
 use disk_memory::MemoryDisk;
 use outside::{Disk, Path};
 use row_files::{Given, Subject, all_go};
@@ -25,10 +25,11 @@ use std::alloc::Global;
 use std::io::{self, ErrorKind};
 use std::process::ExitCode;
 
+// A disk with an image, and the steps since the last boot, which are made again for each further one.
 #[derive(Drop)]
 struct Rows {
     disk: MemoryDisk,
-    host: Option<Box<Host>>,
+    steps: Option<Vec<Kept>>,
 }
 
 impl Rows {
@@ -41,21 +42,33 @@ impl Rows {
         Ok(Vec::new(alloc))
     }
 
+    // Makes a step behind those since the boot. One that makes none is not kept.
+    fn step(&mut self, alloc: Global, word: &str, text: &str) -> io::Result<Vec<u8>> {
+        let Some(steps) = &mut self.steps else {
+            return Err(requests::bad());
+        };
+        steps.push(Kept {
+            word: String::from_str(alloc, word)?,
+            text: String::from_str(alloc, text)?,
+        })?;
+        let shown = opening::replayed(alloc, &mut self.disk, steps);
+        if shown.is_err() {
+            steps.pop();
+        }
+        shown
+    }
+
     // What the step comes to.
     fn shown(&mut self, alloc: Global, word: &str, given: Given<'_>) -> io::Result<Vec<u8>> {
         let text = str::from_utf8(given.text).ok().ok_or(requests::bad())?;
         match word {
             "put" => self.put(alloc, text, given.lines.unwrap_or(b"")),
             "boot" => {
-                let host = opening::booted(alloc, &mut self.disk)?;
-                self.host = Some(Box::new(alloc, host)?);
-                Ok(Vec::new(alloc))
+                self.steps = Some(Vec::new(alloc));
+                opening::replayed(alloc, &mut self.disk, &[])
             }
             "values" | "pairs" => replies::shown(alloc, word, text),
-            _ => match &mut self.host {
-                Some(host) => host.shown(alloc, word, text),
-                None => Err(requests::bad()),
-            },
+            _ => self.step(alloc, word, text),
         }
     }
 }
@@ -63,7 +76,7 @@ impl Rows {
 impl Subject for Rows {
     fn begin(&mut self, alloc: Global) -> io::Result<()> {
         self.disk = MemoryDisk::new(alloc)?;
-        self.host = None;
+        self.steps = None;
         Ok(())
     }
 
@@ -78,5 +91,5 @@ impl Subject for Rows {
 
 fn main(rt: HostRuntime) -> io::Result<ExitCode> {
     let disk = MemoryDisk::new(rt.alloc())?;
-    all_go(&rt, &mut Rows { disk, host: None })
+    all_go(&rt, &mut Rows { disk, steps: None })
 }

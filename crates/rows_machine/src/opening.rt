@@ -5,7 +5,7 @@ ghost use Rattle.opening_step.specs.Step.{AreSettings};
 ghost use Rattle.settings_machine.specs.Typed.{IsTypedHeld};
 ghost use Rattle.typed_settings.specs.Order.{IsTable};
 
-use crate::host::Host;
+use crate::host::{Kept, last_of};
 use crate::requests::bad;
 use disk_memory::MemoryDisk;
 use machine_replies::read_plain;
@@ -20,8 +20,8 @@ const VERSION: Version = Version {
     patch: 2,
 };
 
-// The machine of the image, whose store was opened at a boot.
-fn opened(alloc: Global, image: &PlainImage) -> Result<PlainMachine, AllocError>
+/// The machine of the image, whose store was opened at a boot.
+pub fn opened(alloc: Global, image: &PlainImage) -> Result<PlainMachine, AllocError>
     requires table { IsTable image.now.types }
     requires defaults { AreTyped image.now.types image.now.defaults.values }
     requires settings { AreSettings image.now.defaults.values }
@@ -32,13 +32,12 @@ fn opened(alloc: Global, image: &PlainImage) -> Result<PlainMachine, AllocError>
     Ok(machine)
 }
 
-/// The machine of the image on the disk, whose store was opened at a boot.
-pub fn booted(alloc: Global, disk: &mut MemoryDisk) -> io::Result<Host> {
+/// What the last of the steps comes to, over the image on the disk. `InvalidInput` where there is none that can be read, or a step makes none.
+pub fn replayed(alloc: Global, disk: &mut MemoryDisk, steps: &[Kept]) -> io::Result<Vec<u8>> {
     let Ok(image) = read_plain(alloc, disk) else {
         return Err(bad());
     };
-    let machine = opened(alloc, &image)?;
-    Ok(Host { image, machine })
+    last_of(alloc, &image, steps)
 }
 
 /// Opens the store again, at a boot or later, or the disk fails it, and the opening is taken or not.
