@@ -26,9 +26,8 @@ programs:
 	rm -f crates/settings/out/settings crates/settingsctl/out/settingsctl
 	tools/build settings settingsctl
 
-# Runs the program with nothing proved: a generated run, and a tour over a disk in memory, each step with what it comes to. It is no way to build it.
+# Runs the program with nothing proved: a tour over a disk in memory, each step with what it comes to. It is no way to build it.
 try:
-	cd crates/settings && rt try -- load 3
 	cd crates/rows_runs && rt try -- --show data/tour.rows
 
 # Every proof, mutant of the gate, row and program.
