@@ -1,6 +1,11 @@
 pub mod Renders
 pub mod Ends
-pub mod Turns
+pub mod JobTurns
 pub mod MachineTurns
 pub mod Runs
 pub mod Merging
+pub mod Running
+pub mod Causes
+pub mod CoreTurns
+pub mod CoreEnds
+pub mod Slices

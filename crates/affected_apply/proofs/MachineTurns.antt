@@ -14,8 +14,8 @@ use Rattle.settings_machine.specs.declared.cause.Cause.{Cause}
 use Rattle.settings_machine.specs.declared.cause.Cause.TheVariants as cause
 use Rattle.settings_machine.specs.Step.{Command, Answer, Fine, NoRoom, FileFault, NoSpawn, SyncFault, with_file, with_job, wrote}
 use Rattle.settings_machine.specs.Step.{file_turn, command_turn, after_files_turn, work_turn, job_turn, last_turn, turn_next}
-use Rattle.affected_apply.specs.declared.turn.Turn.{Turn}
-use Rattle.affected_apply.specs.declared.turn.Turn.TheVariants as turn
+use Rattle.affected_apply.specs.declared.outcome.Turn.{Turn}
+use Rattle.affected_apply.specs.declared.outcome.Turn.TheVariants as turn
 use Rattle.affected_apply.specs.Turning.{fine, broken, Puts, ByImage, TurnWrites, FailsFirst, TurnRuns, RunsWords, first_words}
 use Rattle.affected_apply.specs.Turning.{FileDone, CommandDone, MayFail, Advances}
 use Rattle.settings_machine.specs.Events.{is_disk_fault}

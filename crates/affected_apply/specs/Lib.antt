@@ -4,3 +4,5 @@ pub mod Turning
 pub mod Machine
 pub mod Noting
 pub mod Parts
+pub mod Jobs
+pub mod Turned

@@ -9,8 +9,8 @@ use Rattle.settings_machine.specs.World.{Image, World, Files, Work, Job, Running
 use Rattle.settings_machine.specs.Step.{Answer, with_file, turn_next}
 use Rattle.settings_machine.specs.Events.{is_disk_fault}
 use Rattle.settings_machine.specs.declared.cause.Cause.TheVariants as cause
-use Rattle.affected_apply.specs.declared.turn.Turn.{Turn}
-use Rattle.affected_apply.specs.declared.turn.Turn.TheVariants as turn
+use Rattle.affected_apply.specs.declared.outcome.Turn.{Turn}
+use Rattle.affected_apply.specs.declared.outcome.Turn.TheVariants as turn
 use Rattle.affected_apply.specs.declared.view.View.{View}
 use Rattle.affected_apply.specs.Sees.{Sees}
 

@@ -6,8 +6,8 @@ use Rattle.outside.specs.declared.disk_error.Failed.{Failed}
 use Rattle.commit_journal.specs.Entries.{Changes}
 use Rattle.commit_journal.specs.Files.{files_below}
 use Rattle.commit_journal.specs.Change.{files_before, files_after, Commits}
-use Rattle.store_files.specs.Batches.{Follows}
-use Rattle.store_files.specs.Stands.{Stands}
+use Rattle.fs_datastore.specs.Batches.{Follows}
+use Rattle.fs_datastore.specs.Stands.{Stands}
 use Rattle.settings_tree.specs.Laid.{laid}
 use Rattle.settings_tree.specs.declared.entry.Entry.{Entry}
 use Rattle.settings_tree.specs.declared.held.Held.{Held}
@@ -28,7 +28,7 @@ use Rattle.machine_disk.proofs.Meanings.{core_holds}
 use Rattle.machine_disk.proofs.Handling.{ran_answered, ran_faulted}
 use Rattle.machine_disk.proofs.Quiet.{IsAlike, ran_calm}
 use Rattle.store_open.specs.Laws.{HoldsImage}
-use Rattle.core_turns.specs.Jobs.{job_of}
+use Rattle.affected_apply.specs.Jobs.{job_of}
 use Rattle.api_http.specs.Replies.{Sent, refused}
 use Rattle.api_http.specs.declared.answer.Answer.TheVariants as answer
 use Rattle.api_http.specs.declared.refusal.Refusal.TheVariants as refusal

@@ -45,6 +45,3 @@ module _ (types : List Row) (held : Held) (sound : IsSoundHeld types held) where
   none_weak = record { may = λ weak among. absurd (none among) } where
     none : {e : Entry} → Contains {X = Entry} [] e → ⊥
     none among = omega (arith, among.1)
-
-  pub may_nothing : (change : List Entry) → change ≡ [] → TellsWeak held [] → MayLay types held change
-  may_nothing change is told = subst (MayLay types held) (sym is) (record { rule = sound.rule; weak = none_weak; told = told; typed = sound.typed })

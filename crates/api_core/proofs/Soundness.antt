@@ -1,19 +1,14 @@
 -- What keeps a core sound.
 use Rattle.std.proofs.Common.{◌≡◌, Bool, true, false, List, length, refl, sym, ◌∙◌, subst, ap}
 use Rattle.metadata_links.specs.declared.manifest.Manifest.{Manifest}
-use Rattle.settings_machine.specs.declared.cause.Cause.{Cause}
 use Rattle.settings_machine.specs.World.{Job, Idle, Failed, Running, is_running, KeepsAllButOwed}
-use Rattle.settings_machine.specs.Step.{failing}
 use Rattle.settings_machine.specs.Typed.{IsTypedHeld}
 use Rattle.settings_tree.specs.declared.held.Held.{Held}
 use Rattle.store_image.specs.declared.image.Image.{Image}
 use Rattle.typed_settings.specs.declared.row.Row.{Row}
 use Rattle.version_links.specs.declared.chain.Place.{Place}
-use Rattle.core_turns.specs.Jobs.{job_of, HasRows, failed_with_disk}
+use Rattle.affected_apply.specs.Jobs.{job_of, HasRows, failed_with_disk}
 use Rattle.api_core.specs.Cores.{IsSound}
-use Rattle.api_core.specs.Jobs.{job_after, KnowsRows}
-use Rattle.api_core.specs.declared.next_job.NextJob.{NextJob}
-use Rattle.api_core.specs.declared.next_job.NextJob.TheVariants.{Stay, Noted, Again, NotedAgain, Becomes}
 use Rattle.api_core.specs.declared.serving.Core.{Core}
 
 module _ (m : Manifest) where
@@ -22,26 +17,6 @@ module _ (m : Manifest) where
   rows_still Idle still = tt
   rows_still (Failed c) still = tt
   rows_still (Running w) still = absurd (cc still)
-
-  -- The next job has the rows that it had, or those of one that begins.
-  pub rows_after : (next : NextJob) (j : Job) → HasRows m j → KnowsRows m next → HasRows m (job_after next j)
-  rows_after Stay j rows knows = rows
-  rows_after (Noted keys) Idle rows knows = tt
-  rows_after (Noted keys) (Failed c) rows knows = tt
-  rows_after (Noted keys) (Running w) rows knows = rows
-  rows_after Again Idle rows knows = tt
-  rows_after Again (Failed c) rows knows = tt
-  rows_after Again (Running w) rows knows = rows
-  rows_after (NotedAgain keys) Idle rows knows = tt
-  rows_after (NotedAgain keys) (Failed c) rows knows = tt
-  rows_after (NotedAgain keys) (Running w) rows knows = rows
-  rows_after (Becomes next) j rows knows = knows
-
--- A job that failed doesn't run.
-pub still_failing : (j : Job) (c : Cause) → is_running (failing j c) ≡ false
-still_failing Idle c = refl
-still_failing (Failed d) c = refl
-still_failing (Running w) c = refl
 
 -- A core with the image and the data directory of a sound one is sound.
 pub sound_after : (c now : Core) → IsSound c → now.image ≡ c.image → now.place ≡ c.place → IsTypedHeld c.image.model.types now.held

@@ -8,10 +8,10 @@ use Rattle.machine_disk.specs.Kept.{CoreState, Kept}
 use Rattle.machine_disk.proofs.Runs.{ran_none}
 use Rattle.store_open.specs.Laws.{HoldsImage}
 use Rattle.version_links.specs.declared.chain.Place.{Place}
-use Rattle.core_turns.specs.Jobs.{job_of, failed_with_disk}
-use Rattle.core_turns.specs.Turned as turned
-use Rattle.core_turns.specs.Turned.{AreTurns, AreEvents, core_at}
-use Rattle.core_turns.specs.declared.store.Store.{Store}
+use Rattle.affected_apply.specs.Jobs.{job_of, failed_with_disk}
+use Rattle.affected_apply.specs.Turned as turned
+use Rattle.affected_apply.specs.Turned.{AreTurns, AreEvents, core_at}
+use Rattle.affected_apply.specs.declared.store.Store.{Store}
 use Rattle.api_core.specs.Cores.{core_state}
 use Rattle.api_core.specs.Turned.{Turns}
 use Rattle.api_core.specs.declared.serving.Core.{Core}

@@ -4,7 +4,7 @@ use Rattle.outside.specs.History.{History}
 use Rattle.outside.specs.declared.disk_error.Failed.{Failed}
 use Rattle.commit_journal.specs.Entries.{Changes}
 use Rattle.commit_journal.specs.Change.{Commits}
-use Rattle.store_files.specs.Batches.{Follows}
+use Rattle.fs_datastore.specs.Batches.{Follows}
 use Rattle.settings_tree.specs.Laid.{laid}
 use Rattle.settings_machine.specs.declared.cause.Cause.TheVariants as cause
 use Rattle.settings_machine.specs.Step.{failing}

@@ -11,7 +11,7 @@ use Rattle.settings_machine.specs.Typed.{IsTypedHeld}
 use Rattle.machine_disk.specs.Kept.{Folder, CoreState, Kept}
 use Rattle.machine_disk.specs.Ran.{Ran, Reopens}
 use Rattle.store_open.specs.Laws.{HoldsImage}
-use Rattle.core_turns.specs.Jobs.{job_of, HasRows}
+use Rattle.affected_apply.specs.Jobs.{job_of, HasRows}
 use Rattle.api_core.specs.Asks.{Says}
 use Rattle.api_core.specs.declared.serving.Core.{Core}
 

@@ -4,9 +4,9 @@ use Rattle.metadata_links.specs.declared.manifest.Manifest.{Manifest}
 use Rattle.settings_tree.specs.declared.entry.Owed.{Owed}
 use Rattle.settings_machine.specs.World.{Image, Job, Idle, Failed, Running, owes_none}
 use Rattle.settings_machine.specs.Step.{noting, asked_for}
-use Rattle.core_turns.specs.Jobs.{job_of, HasRows}
-use Rattle.core_turns.specs.declared.job_state.JobState.{JobState}
-use Rattle.core_turns.specs.declared.job_state.JobState.TheVariants as state
+use Rattle.affected_apply.specs.Jobs.{job_of, HasRows}
+use Rattle.affected_apply.specs.declared.job_state.JobState.{JobState}
+use Rattle.affected_apply.specs.declared.job_state.JobState.TheVariants as state
 use Rattle.api_core.specs.declared.next_job.NextJob.{NextJob}
 use Rattle.api_core.specs.declared.next_job.NextJob.TheVariants.{Stay, Noted, Again, NotedAgain, Becomes}
 

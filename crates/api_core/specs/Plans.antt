@@ -9,7 +9,7 @@ use Rattle.settings_machine.specs.World.{Image, World, Job}
 use Rattle.settings_machine.specs.Requests.{Request}
 use Rattle.settings_machine.specs.Step.{answered, stays}
 use Rattle.settings_machine.specs.Typed.{IsTypedHeld}
-use Rattle.core_turns.specs.Jobs.{job_of}
+use Rattle.affected_apply.specs.Jobs.{job_of}
 use Rattle.machine_answers.specs.Replies as answers
 use Rattle.machine_answers.specs.declared.machine_reply.MachineReply.{MachineReply}
 use Rattle.api_core.specs.Asks.{reply_of, Says}

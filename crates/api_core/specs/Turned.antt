@@ -6,7 +6,7 @@ use Rattle.settings_machine.specs.World.{Image, World}
 use Rattle.settings_machine.specs.Paid.{IsGood}
 use Rattle.machine_disk.specs.Kept.{Folder, Kept}
 use Rattle.store_open.specs.Laws.{HoldsImage}
-use Rattle.core_turns.specs.Turned.{AreEvents}
+use Rattle.affected_apply.specs.Turned.{AreEvents}
 use Rattle.api_core.specs.Cores.{core_state}
 use Rattle.api_core.specs.declared.serving.Core.{Core}
 

@@ -8,7 +8,7 @@ ghost use Rattle.settings_machine.specs.World.{is_running};
 ghost use Rattle.settings_tree.specs.Laid.{KeepsPrefixRule};
 ghost use Rattle.store_open.specs.Opening.{IsSoundOpened};
 ghost use Rattle.typed_settings.specs.Row.{IsPrefixFree};
-ghost use Rattle.core_turns.specs.Jobs.{job_of};
+ghost use Rattle.affected_apply.specs.Jobs.{job_of};
 ghost use Rattle.machine_answers.specs.Asks.{request_of};
 ghost use Rattle.api_core.specs.Cores.{IsSound, Answers, core_state};
 ghost use Rattle.api_core.specs.Handled.{Handles, IsOtherStore, IsRefused};

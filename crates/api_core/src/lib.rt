@@ -18,7 +18,7 @@ mod turning;
 mod unopened;
 mod writing;
 
+pub use affected_apply::JobState;
 pub use api_http::{Ask, Reply};
-pub use core_turns::JobState;
 pub use serving::Core;
 pub use store_open::Opened;

@@ -3,11 +3,10 @@ ghost use Rattle.std.specs.Prelude.{◌≡◌, IfOk, OnOk};
 ghost use Rattle.settings_machine.specs.declared.cause.Cause.TheVariants as cause;
 ghost use Rattle.settings_machine.specs.World.{Image};
 ghost use Rattle.settings_machine.specs.Step.{begun, noting, failing};
-ghost use Rattle.core_turns.specs.Jobs.{job_of, HasRows};
+ghost use Rattle.affected_apply.specs.Jobs.{job_of, HasRows};
 ghost use Rattle.api_core.specs.Jobs.{job_after, applied_job, with_again, count_noted, HasRoom, KnowsRows};
 
-use affected_apply::{Cause, Job};
-use core_turns::JobState;
+use affected_apply::{Cause, Job, JobState};
 use metadata_links::Manifest;
 use settings_machine::owes_none;
 use settings_tree::{KeyList, Owed};

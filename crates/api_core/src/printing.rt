@@ -2,7 +2,7 @@
 ghost use Rattle.std.specs.Prelude.{◌≡◌, ◌≢◌, true, IfOk, length, nat_le};
 ghost use Rattle.std.specs.List.{list_any};
 ghost use Rattle.api_http.specs.Replies.{reply_text};
-ghost use Rattle.core_turns.specs.Jobs.{job_of};
+ghost use Rattle.affected_apply.specs.Jobs.{job_of};
 ghost use Rattle.machine_answers.specs.Answers.{IsAnswerOf};
 ghost use Rattle.machine_answers.specs.Replies as answers;
 ghost use Rattle.machine_answers.specs.Replies.{MayNest};
@@ -12,8 +12,8 @@ ghost use Rattle.api_core.specs.Asks.{reply_of, Says};
 ghost use Rattle.api_core.specs.Prints.{CanNest, CanPrint};
 
 use crate::said::Said;
+use affected_apply::JobState;
 use api_http::{Answer, Reply, print_reply};
-use core_turns::JobState;
 use key_names::Key;
 use machine_answers::{JobShown, MachineReply, job_text};
 use settings_tree::{Owed, Pending, Scalar};

@@ -2,10 +2,10 @@
 ghost use Rattle.std.specs.Prelude.{◌≡◌, false};
 ghost use Rattle.settings_machine.specs.World.{Idle};
 ghost use Rattle.store_open.specs.Opening.{IsSoundOpened};
-ghost use Rattle.core_turns.specs.Jobs.{job_of};
+ghost use Rattle.affected_apply.specs.Jobs.{job_of};
 ghost use Rattle.api_core.specs.Cores.{IsSound, core_state};
 
-use core_turns::JobState;
+use affected_apply::JobState;
 use settings_tree::Held;
 use store_image::Image;
 use store_open::Opened;

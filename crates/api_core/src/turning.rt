@@ -3,12 +3,12 @@ ghost use Rattle.std.specs.Prelude.{◌≡◌, ◌&&◌, ◌||◌, None, true, f
 ghost use Rattle.outside.specs.Told.{Moves};
 ghost use Rattle.outside.specs.Faults.{HasCause};
 ghost use Rattle.settings_machine.specs.World.{is_running, KeepsAllButOwed};
-ghost use Rattle.core_turns.specs.Jobs.{job_of, failed_with_disk, failed_to_spawn, answer_of};
+ghost use Rattle.affected_apply.specs.Jobs.{job_of, failed_with_disk, failed_to_spawn, answer_of};
 ghost use Rattle.api_core.specs.Cores.{IsSound, core_state};
 ghost use Rattle.api_core.specs.Turned.{Turns};
 
 use crate::Core;
-use core_turns::{Store, turns};
+use affected_apply::{Store, turns};
 use outside::{Disk, Spawner};
 use std::alloc::Global;
 

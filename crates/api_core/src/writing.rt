@@ -3,7 +3,7 @@ ghost use Rattle.std.specs.Prelude.{◌≡◌, ◌≢◌, ◌≤◌, false, leng
 ghost use Rattle.outside.specs.Told.{Moves};
 ghost use Rattle.outside.specs.Faults.{Rose};
 ghost use Rattle.settings_tree.specs.Laid.{laid, KeepsPrefixRule, NamesWeak, TellsWeak};
-ghost use Rattle.store_files.specs.Batches.{Follows};
+ghost use Rattle.fs_datastore.specs.Batches.{Follows};
 ghost use Rattle.api_http.specs.Replies.{refused};
 ghost use Rattle.api_core.specs.Cores.{IsSound, core_state};
 ghost use Rattle.api_core.specs.Jobs.{HasRoom};

@@ -20,6 +20,7 @@ mod target;
 mod values;
 mod verdict;
 mod wanted;
+mod whole_requests;
 
 pub use answer::Answer;
 pub use ask::Ask;
@@ -28,3 +29,4 @@ pub use refusal::Refusal;
 pub use reply::{Reply, print_reply};
 pub use request::read_request;
 pub use wanted::bytes_wanted;
+pub use whole_requests::WholeRequests;

@@ -18,9 +18,9 @@ use Rattle.settings_machine.specs.Paid.{IsGood}
 use Rattle.machine_disk.specs.Kept.{Folder, Kept}
 use Rattle.machine_disk.proofs.Runs.{ran_none, ran_unread}
 use Rattle.store_open.specs.Laws.{HoldsImage, IsImageOfFolder}
-use Rattle.door_requests.specs.Hearing.{IsHeard}
-use Rattle.door_requests.specs.Saying.{IsSaid}
-use Rattle.door_requests.specs.declared.hearing.Heard.TheVariants as heard
+use Rattle.api_server.specs.Hearing.{IsHeard}
+use Rattle.api_server.specs.Saying.{IsSaid}
+use Rattle.api_server.specs.declared.hearing.Heard.TheVariants as heard
 use Rattle.machine_answers.specs.Asks.{request_of}
 use Rattle.api_core.specs.Asks.{Says}
 use Rattle.api_core.specs.Cores.{core_state}

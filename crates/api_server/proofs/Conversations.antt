@@ -11,11 +11,11 @@ use Rattle.api_http.specs.Questions.{question}
 use Rattle.api_http.specs.Replies.{Sent, refused}
 use Rattle.settings_machine.specs.Requests.{Reply}
 use Rattle.api_http.specs.Requests.{Asks, MayRefuse}
-use Rattle.door_requests.specs.Hearing.{input_of, Hears, IsHeard}
-use Rattle.door_requests.specs.Saying.{IsSaid, IsSaidWhole, IsSaidInPart}
-use Rattle.door_requests.specs.declared.hearing.Heard.{Heard}
-use Rattle.door_requests.specs.declared.hearing.Heard.TheVariants as heard
-use Rattle.door_requests.proofs.Lasts.{lasts_if, lasts_then, lasts_map}
+use Rattle.api_server.specs.Hearing.{input_of, Hears, IsHeard}
+use Rattle.api_server.specs.Saying.{IsSaid, IsSaidWhole, IsSaidInPart}
+use Rattle.api_server.specs.declared.hearing.Heard.{Heard}
+use Rattle.api_server.specs.declared.hearing.Heard.TheVariants as heard
+use Rattle.api_server.proofs.Lasts.{lasts_if, lasts_then, lasts_map}
 use Rattle.api_core.specs.Asks.{Says}
 use Rattle.api_server.specs.Exchanged.{Said, Nothing, OutOfMemory, Unread, Replied, Wrote, Exchanges, IsServed}
 

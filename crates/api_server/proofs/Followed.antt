@@ -23,7 +23,7 @@ use Rattle.api_server.specs.Exchanged.{IsServed, IsExchanged}
 use Rattle.api_server.specs.Rounds.{Round, IsRound, AreRounds, AreExchanged, events_of_round, events_of}
 use Rattle.api_server.specs.Answered.{Answers, RoundBy, ServesOne, RoundsBy, ServesAll}
 use Rattle.api_server.proofs.Requested.{asks_runs}
-use Rattle.door_requests.proofs.Lasts.{head_same, tail_same}
+use Rattle.api_server.proofs.Lasts.{head_same, tail_same}
 
 -- ---- programs
 
@@ -146,22 +146,4 @@ rounds_more came is slice c mid now faults faults_after told told_mid told_opene
             (ran_more I folder W V es (events_of_round r) old between new (core_state c) (core_state mid) (core_state now) was.made next.made);
         runs = subst (λ (l : List Event). RunsBy I W l ran_before ran_after) same (runs_more I W es (events_of_round r) ran_before ran_mid ran_after was.runs next.runs);
         image = next.image;
-      }
-
--- The door alone has answered, and no connection came.
-pub rounds_same : (slice : Option ℕ) (c now : Core) (told told_mid told_after : Option (List Exchange)) (ran_before ran_after : Option (List Run)) (old new : History)
-    → Moves told_mid told_after (λ l m. m ≡ l) → ServesAll slice c now told told_mid ran_before ran_after old new
-    → ServesAll slice c now told told_after ran_before ran_after old new
-rounds_same slice c now told told_mid told_after ran_before ran_after old new same all = record { each = by } where
-  by : (I : Image) → IsGood I → HoldsImage I c.image → (folder : Folder) → IsImageOfFolder I folder → (W V : World) → Kept I folder W V old (core_state c)
-      → RoundsBy I folder W V slice c now told told_after ran_before ran_after old new
-  by I good of folder made W V kept =
-      let was = all.each I good of folder made W V kept in
-      record {
-        rounds = was.rounds;
-        are = was.are;
-        exchanged = moves_then (λ first mid last are is. subst (AreExchanged was.rounds first) (sym is) are) was.exchanged same;
-        made = was.made;
-        runs = was.runs;
-        image = was.image;
       }

@@ -4,3 +4,8 @@ pub mod Conversations
 pub mod Answerings
 pub mod Followed
 pub mod Servings
+pub mod Lasts
+pub mod Readings
+pub mod Sayings
+pub mod Waitings
+pub mod Hearings

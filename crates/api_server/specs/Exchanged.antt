@@ -6,7 +6,7 @@ use Rattle.api_http.specs.Replies.{Sent, refused}
 use Rattle.api_http.specs.Requests.{Asks, MayRefuse, Waits}
 use Rattle.api_http.specs.declared.refusal.Refusal.{Refusal}
 use Rattle.api_http.specs.declared.refusal.Refusal.TheVariants as refusal
-use Rattle.door_requests.specs.Hearing.{input_of}
+use Rattle.api_server.specs.Hearing.{input_of}
 use Rattle.settings_machine.specs.Requests.{Reply}
 use Rattle.api_core.specs.Asks.{Says}
 

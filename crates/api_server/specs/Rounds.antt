@@ -6,7 +6,7 @@ use Rattle.settings_machine.specs.Requests.{Request, Reply, NotOpened}
 use Rattle.settings_machine.specs.Events as events
 use Rattle.settings_machine.specs.Events.{Event, after, faulted_after}
 use Rattle.machine_disk.specs.Ran.{Handled}
-use Rattle.core_turns.specs.Turned.{AreTurns}
+use Rattle.affected_apply.specs.Turned.{AreTurns}
 use Rattle.machine_answers.specs.Asks.{request_of}
 use Rattle.api_server.specs.Exchanged.{Said, Nothing, OutOfMemory, Unread, Replied, IsExchanged}
 

@@ -11,7 +11,7 @@ use Rattle.settings_machine.specs.Paid.{IsGood}
 use Rattle.machine_disk.specs.Kept.{Folder, Kept}
 use Rattle.machine_disk.specs.Ran.{Ran, IsDriven, RunsBy}
 use Rattle.store_open.specs.Laws.{HoldsImage, IsImageOfFolder}
-use Rattle.core_turns.specs.Turned.{AreTurns}
+use Rattle.affected_apply.specs.Turned.{AreTurns}
 use Rattle.api_core.specs.Cores.{core_state}
 use Rattle.api_core.specs.declared.serving.Core.{Core}
 use Rattle.api_server.specs.Rounds.{IsAsked, Round, AreRounds, AreExchanged, events_of}

@@ -5,9 +5,9 @@ ghost use Rattle.api_http.specs.Replies.{refused};
 ghost use Rattle.api_core.specs.Cores.{IsSound};
 ghost use Rattle.api_server.specs.Answered.{Answers};
 
+use crate::{Heard, hear, say};
 use api_core::Core;
 use api_http::{Answer, Refusal, Reply, print_reply};
-use door_requests::{Heard, hear, say};
 use outside::{Disk, Door};
 use std::alloc::Global;
 

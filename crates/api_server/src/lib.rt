@@ -4,8 +4,15 @@
 mod answering;
 mod booting;
 mod driving;
+mod hearing;
+mod more;
+mod next;
+mod reading;
 mod running;
+mod saying;
 mod serving;
 
+pub use hearing::{Heard, hear};
 pub use running::serve;
-pub use serving::{serve_all, serve_one};
+pub use saying::say;
+pub use serving::serve_one;

@@ -13,7 +13,7 @@ use outside::{Disk, Door, Spawner};
 use std::alloc::Global;
 
 /// Serves over an opened store. With boot the job is begun by the request `Apply` and a slice of its turns is made; then
-/// connections are served one after another, as [`serve_all`](crate::serve_all) serves them; and then, unless an accept failed,
+/// connections are served one after another, as long as they come; and then, unless an accept failed,
 /// turns are made until no job runs. False exactly where an accept failed; the running job is then left.
 pub fn serve<D: Disk, S: Spawner, N: Door>(
     alloc: Global,

@@ -46,7 +46,7 @@ pub fn serve_one<D: Disk, S: Spawner, N: Door>(
 
 /// Serves connections, until so many were accepted, no further one comes, or an accept failed; without a number, so many as a
 /// door may accept. False exactly where an accept failed.
-pub fn serve_all<D: Disk, S: Spawner, N: Door>(
+pub(crate) fn serve_all<D: Disk, S: Spawner, N: Door>(
     alloc: Global,
     core: &mut Core,
     slice: Option<u32>,

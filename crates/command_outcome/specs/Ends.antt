@@ -1,7 +1,7 @@
 -- How a run ends: its status, and what is printed.
 use Rattle.std.specs.Prelude.{◌≡◌, ◌⊎◌, ℕ, List, Option, Result, Ok, Err, codes}
 use Rattle.outside.specs.Told.{Moves}
-use Rattle.sink_text.specs.Said.{IsSaid, IsSaidInPart}
+use Rattle.outside.specs.Said.{IsSaid, IsSaidInPart}
 use Rattle.command_outcome.specs.Lines.{status_of, line_of}
 use Rattle.command_outcome.specs.declared.refusal.Refusal.{Refusal}
 

@@ -2,13 +2,12 @@
 ghost use Rattle.std.specs.Prelude.{◌≡◌, ◌≢◌, ◌⊎◌, Err, IsErrOf, codes};
 ghost use Rattle.outside.specs.Told.{Moves};
 ghost use Rattle.outside.specs.Faults.{Rose};
-ghost use Rattle.sink_text.specs.Said.{IsSaid};
+ghost use Rattle.outside.specs.Said.{IsSaid};
 ghost use Rattle.command_outcome.specs.Ends.{Ends, Tells, TellsMemory};
 
 use crate::Refusal;
 use key_names::Bytes;
-use outside::Sink;
-use sink_text::say;
+use outside::{Sink, say};
 use std::alloc::Global;
 
 /// The status where the output could not be written.

@@ -223,15 +223,6 @@ asked_last asks i ask below is sent first mid now old between new calm bad so_fa
 error_is : {T E : Type 0} (e f : E) → ◌≡◌ {A = Result T E} (Err e) (Err f) → e ≡ f
 error_is e f is = cc is
 
--- An error tells of a failed disk as it did.
-pub cause_as : {A B E : Type 0} (e fault : E) (before now : ℕ) → HasCauseOf {T = A} fault before now (Err e) → HasCauseOf {T = B} fault before now (Err e)
-cause_as {A = A} {B = B} e fault before now c = record {
-  later = c.later;
-  failed = λ is. c.failed (ap (λ x. Err x) (error_is {T = B} e fault is));
-  kept = tt;
-  other = λ err not. c.other refl (λ is. not (ap (λ x. Err x) (error_is {T = A} e fault is)));
-}
-
 -- A reply without success tells of a failed disk exactly where the count rose.
 pub stop_cause : {T : Type 0} (sent fault : Sent) (before mid now : ℕ) → mid ≡ before → mid ≤ now → (sent ≡ fault → Rose mid now) → (sent ≢ fault → now ≡ mid)
     → HasCauseOf {T = T} fault before now (Err sent)

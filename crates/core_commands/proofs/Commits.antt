@@ -1,8 +1,7 @@
 -- Commits of pairs: what they come to, by the replies.
-use Rattle.std.proofs.Common.{arith, ◌≡◌, inl, inr, ◌++◌, ◌==◌, if◌then◌else◌, ℕ, Bool, true, false, length, List, [], ◌∷◌, Option, Some, None, Result, Ok, Err, IfOk, IfErr, codes, refl, sym, ◌∙◌, ap, subst}
+use Rattle.std.proofs.Common.{arith, ◌≡◌, inl, inr, ◌++◌, ◌==◌, ℕ, true, false, length, List, [], ◌∷◌, Option, Some, None, Result, Ok, Err, IfOk, IfErr, codes, refl, sym, ◌∙◌, ap, subst}
 use Rattle.std.specs.FinMap.{FinMap, get}
 use Rattle.std.proofs.lemmas.Bool.{eqb-true}
-use Rattle.outside.specs.Faults.{HasCauseOf}
 use Rattle.outside.specs.History.{History}
 use Rattle.key_names.specs.Order.{key_cmp}
 use Rattle.json_trees.specs.declared.pending.Pending.{Pending}
@@ -10,11 +9,9 @@ use Rattle.json_trees.specs.declared.scalar.Scalar.{Scalar}
 use Rattle.serde_json.specs.Written.{compact_text}
 use Rattle.held_text.specs.HeldText.{keys_data}
 use Rattle.pending_tx.specs.Transactions.{keys_of}
-use Rattle.api_http.specs.Replies as replies
 use Rattle.api_http.specs.Replies.{Sent, reply_text}
 use Rattle.api_http.specs.declared.answer.Answer.{Answer}
 use Rattle.api_http.specs.declared.answer.Answer.TheVariants as answer
-use Rattle.api_http.specs.declared.refusal.Refusal.TheVariants as http
 use Rattle.store_open.specs.Laws.{HoldsImage}
 use Rattle.store_open.specs.declared.opened.Opened.{Opened}
 use Rattle.settings_machine.specs.World.{Key, Image, World}
@@ -34,11 +31,9 @@ use Rattle.api_core.specs.Cores.{core_state}
 use Rattle.api_core.specs.declared.serving.Core.{Core}
 use Rattle.core_commands.specs.Asking.{asked_all, Stops, AsksLast, AskedLastBy, AsksEachAndLast}
 use Rattle.core_commands.specs.Carried.{core_over}
-use Rattle.core_commands.specs.Committing.{patch_requests, commit_requests, ComesTo, IsCommitted, Commits, IsOfCommit, HandsLast}
+use Rattle.core_commands.specs.Committing.{patch_requests, commit_requests, ComesTo, IsCommitted, Commits, HandsLast}
 use Rattle.core_commands.specs.Handing.{told_reply, HandsSent}
-use Rattle.core_commands.proofs.Causes.{quiet_cause}
 use Rattle.core_commands.proofs.Replied.{not_unopened, IsTold, machines, no_memory, disk, says_told, says_fault}
-use Rattle.core_commands.proofs.Causes.{same_refusal}
 
 -- ---- the reply to the commit
 
@@ -147,58 +142,4 @@ commits_none tx pairs store (Err refusal) h none is memory = subst (λ (x : Refu
 
 -- ---- why they were not committed
 
--- Memory was wanting.
-pub memory_of_commit : (outcome : Outcome) → IfErr outcome (λ refusal. refusal ≡ refused.Memory) → IfErr outcome IsOfCommit
-memory_of_commit (Ok line) memory = tt
-memory_of_commit (Err refusal) memory = subst IsOfCommit (sym memory) tt
-
-sent_of_commit : (sent : Sent) (refusal : Refusal) → HandsSent sent refusal → IsOfCommit refusal
-sent_of_commit sent refusal (inl told) = subst IsOfCommit (sym told) (by (sent.status == 500) (sent.status == 503)) where
-  by : (fault full : Bool) → IsOfCommit (if fault then refused.Disk else if full then refused.Memory else refused.Refused sent.status sent.body)
-  by true full = tt
-  by false true = tt
-  by false false = tt
-sent_of_commit sent refusal (inr none) = subst IsOfCommit (sym none.0) tt
-
--- The reply tells why.
-pub last_of_commit : (result : Result Sent Sent) (outcome : Outcome) → HandsLast result outcome → IfErr outcome IsOfCommit
-last_of_commit result (Ok line) hands = tt
-last_of_commit (Ok sent) (Err refusal) hands = subst IsOfCommit (sym hands) tt
-last_of_commit (Err sent) (Err refusal) hands = sent_of_commit sent refusal hands
-
 -- ---- a reply without success, and what it is told as
-
-disk_status : (sent : Sent) (refusal : Refusal) → HandsSent sent refusal → refusal ≡ refused.Disk → sent.status ≡ 500
-disk_status sent refusal (inl told) is = eqb-true sent.status 500 (by (sent.status == 500) (sent.status == 503) (sym told ∙ is)) where
-  by : (fault full : Bool) → (if fault then refused.Disk else if full then refused.Memory else refused.Refused sent.status sent.body) ≡ refused.Disk → fault ≡ true
-  by true full is = refl
-  by false true is = cc is
-  by false false is = cc is
-disk_status sent refusal (inr none) is = let clash : refused.Memory ≡ refused.Disk = sym none.0 ∙ is in cc clash
-
-fault_disk : (sent : Sent) (refusal : Refusal) → HandsSent sent refusal → sent ≡ replies.refused http.DiskFault → refusal ≡ refused.Disk
-fault_disk sent refusal (inl told) is = told ∙ ap told_reply is
-fault_disk sent refusal (inr none) is = absurd (none.1 (ap (λ (s : Sent). s.status) is))
-
-same_sent : {T : Type 0} (sent fault : Sent) → ◌≡◌ {A = Result T Sent} (Err sent) (Err fault) → sent ≡ fault
-same_sent sent fault is = cc is
-
--- It tells of a failed disk as the reply did.
-pub sent_cause : {A B : Type 0} (sent : Sent) (refusal : Refusal) (before now : ℕ) → HandsSent sent refusal → (sent.status ≡ 500 → sent ≡ replies.refused http.DiskFault)
-    → HasCauseOf {T = A} (replies.refused http.DiskFault) before now (Err sent) → HasCauseOf {T = B} refused.Disk before now (Err refusal)
-sent_cause {A = A} {B = B} sent refusal before now hands fault c = record {
-  later = c.later;
-  failed = λ is. c.failed (ap (λ (s : Sent). Err s) (fault (disk_status sent refusal hands (same_refusal {T = B} refusal refused.Disk is))));
-  kept = tt;
-  other = λ err not. c.other refl
-      (λ is. not (ap (λ (r : Refusal). Err r) (fault_disk sent refusal hands (same_sent {T = A} sent (replies.refused http.DiskFault) is))));
-}
-
--- So does what the reply to a commit is told as.
-pub last_cause : (result : Result Sent Sent) (outcome : Outcome) (before now : ℕ) → HandsLast result outcome
-    → IfErr result (λ sent. sent.status ≡ 500 → sent ≡ replies.refused http.DiskFault) → HasCauseOf (replies.refused http.DiskFault) before now result
-    → HasCauseOf refused.Disk before now outcome
-last_cause (Ok sent) (Ok line) before now hands fault c = record { later = c.later; failed = λ is. absurd (cc is); kept = c.kept; other = λ err not. c.kept }
-last_cause (Ok sent) (Err refusal) before now hands fault c = quiet_cause (Err refusal) before now c.kept hands
-last_cause (Err sent) (Ok line) before now hands fault c = absurd hands
-last_cause (Err sent) (Err refusal) before now hands fault c = sent_cause sent refusal before now hands fault c

@@ -18,7 +18,7 @@ use Rattle.machine_disk.specs.Kept.{Folder, CoreState, Kept}
 use Rattle.machine_disk.specs.Ran.{Ran, RunsBy}
 use Rattle.machine_disk.proofs.Runs.{ran_none, ran_more}
 use Rattle.machine_disk.proofs.Meanings.{core_holds}
-use Rattle.core_turns.specs.Turned.{AreEvents}
+use Rattle.affected_apply.specs.Turned.{AreEvents}
 use Rattle.command_outcome.specs.declared.refusal.Refusal.{Refusal}
 use Rattle.command_outcome.specs.declared.refusal.Refusal.TheVariants as refused
 use Rattle.api_core.specs.Asks.{Says}

@@ -2,7 +2,7 @@
 use Rattle.std.specs.Prelude.{◌≡◌, ◌++◌, ℕ, List, [], ◌∷◌}
 use Rattle.json_trees.specs.Nested.{NestsAs}
 use Rattle.json_trees.specs.Scalar.{scalar_data}
-use Rattle.live_trees.specs.Below.{Values, values_below}
+use Rattle.settings_tree.specs.Below.{Values, values_below}
 use Rattle.settings_tree.specs.Content.{settings_key}
 use Rattle.settings_machine.specs.World.{World}
 use Rattle.settings_machine.specs.Requests.{JobIs}

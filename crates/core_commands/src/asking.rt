@@ -17,7 +17,7 @@ use std::alloc::Global;
 ///
 /// No call of the disk has failed since the store was opened, and each request is one that a client may ask. So a reply with status
 /// 500 tells that the disk failed, one with 503 that memory was wanting, and one with 4xx comes exactly by the machine.
-pub fn ask_each<D: Disk>(
+pub(crate) fn ask_each<D: Disk>(
     alloc: Global,
     core: &mut Core,
     asks: &[Ask],
@@ -46,7 +46,7 @@ pub fn ask_each<D: Disk>(
 
 /// Asks one request after another and then a last one, until one isn't answered with success; the reply to that is the error. It
 /// answers the reply to the last one. It is for a store like that of `ask_each`, and the replies tell the same.
-pub fn ask_each_and_last<D: Disk>(
+pub(crate) fn ask_each_and_last<D: Disk>(
     alloc: Global,
     core: &mut Core,
     asks: &[Ask],

@@ -76,7 +76,7 @@ fn go_on<D: Disk, S: Spawner>(
 ///
 /// Why the store can't be opened comes first; then `Refused` where the machine refuses a request, and none is asked after it; then
 /// `Spawn`, `Render` or `Status` where the job failed so. `Disk` where the disk failed; `Memory` where memory is wanting.
-pub fn carry<D: Disk, S: Spawner>(
+pub(crate) fn carry<D: Disk, S: Spawner>(
     alloc: Global,
     asks: &[Ask],
     disk: &mut D,

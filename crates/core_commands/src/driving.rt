@@ -14,7 +14,7 @@ use std::alloc::Global;
 
 /// Makes turns until no job runs, and answers why the job failed, if one ran and failed. No call of the disk has failed since the
 /// store was opened.
-pub fn drive<D: Disk, S: Spawner>(
+pub(crate) fn drive<D: Disk, S: Spawner>(
     alloc: Global,
     core: &mut Core,
     disk: &mut D,

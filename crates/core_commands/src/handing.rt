@@ -1,11 +1,11 @@
 //! How refusals of lower calls are handed on.
 ghost use Rattle.std.specs.Prelude.{◌≡◌, IfOk, IsOk};
-ghost use Rattle.core_turns.specs.Jobs.{job_of};
+ghost use Rattle.affected_apply.specs.Jobs.{job_of};
 ghost use Rattle.core_commands.specs.Handing.{not_opened, failed_for, HandsSent, HandsCause, HandsJob};
 
+use affected_apply::JobState;
 use api_http::Reply;
 use command_outcome::Refusal;
-use core_turns::JobState;
 use key_names::Bytes;
 use settings_machine::Cause;
 use std::alloc::{AllocError, Global};

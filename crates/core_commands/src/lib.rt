@@ -14,10 +14,7 @@ mod setting;
 mod telling;
 
 pub use applying::apply;
-pub use asking::{ask_each, ask_each_and_last};
-pub use carrying::carry;
 pub use committing::commit_pairs;
-pub use driving::drive;
 pub use handing::not_opened;
 pub use law::laws;
 pub use lines::tree_line;

@@ -3,8 +3,7 @@ ghost use Rattle.std.specs.Prelude.{◌≡◌, ◌∷◌, ◌++◌, [], IfOk};
 ghost use Rattle.core_commands.specs.Lines.{IsTreeLine};
 
 use key_names::{Bytes, Key, Text};
-use live_trees::tree_below;
-use settings_tree::Content;
+use settings_tree::{Content, tree_below};
 use std::alloc::{AllocError, Global};
 
 /// The text and a line feed. The only error is want of memory.

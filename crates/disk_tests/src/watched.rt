@@ -1,5 +1,4 @@
 //! A file system that writes down what it is asked to change or to put on the disk, and fails where it is told to.
-use outside::Path;
 use outside_real::{Lock, RealDisk};
 use std::alloc::{Alloc, AllocError, Allocator, Global};
 use std::cell::Cell;
@@ -9,11 +8,6 @@ use std::rc::Rc;
 use std::rt::Files;
 use std::test::Fail;
 use test_support::new_folder;
-
-/// The path that the text spells.
-pub fn path(alloc: Global, text: &str) -> Result<Path, Fail> {
-    Ok(Path::read(alloc, text.as_bytes())?)
-}
 
 /// The calls to the system below a folder.
 #[derive(Drop)]

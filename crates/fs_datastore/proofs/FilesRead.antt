@@ -1,5 +1,5 @@
 -- What is known on the way through the files of a data directory, and at its end.
-use Rattle.std.proofs.Common.{arith, ◌≡◌, ◌<◌, ◌≤◌, ℕ, zero, suc, List, [], ◌∷◌, ◌++◌, ◌||◌, ◌+◌, ◌-◌, length, length-drop, take, drop, get_or, Option, Some, None, IsSome, Result, Ok, Err, Bool, true, false, cond, inl, inr, refl, sym, ap, ◌∙◌, subst}
+use Rattle.std.proofs.Common.{arith, ◌≡◌, ◌<◌, ℕ, zero, suc, List, [], ◌∷◌, ◌++◌, ◌||◌, ◌+◌, ◌-◌, length, length-drop, take, drop, get_or, Option, Some, None, IsSome, Result, Ok, Err, Bool, true, false, cond, inl, inr, refl, sym, ap, ◌∙◌, subst}
 use Rattle.std.specs.Prelude.{IsTrue, IfOk}
 use Rattle.std.specs.List.Sorted.{IsStrictlySortedBy}
 use Rattle.std.specs.Ordering.{eq_by_cmp, is_eq, is_lt}
@@ -15,35 +15,20 @@ use Rattle.outside.specs.Tree.{Node, file, link, Tree, node_at, file_in, paths_b
 use Rattle.outside.proofs.Trees.{path_cases, path_itself}
 use Rattle.commit_journal.specs.Files.{Files, files_below, with_node}
 use Rattle.commit_journal.proofs.Laid.{with_node_here, with_node_other}
-use Rattle.settings_tree.specs.Change.{Place}
-use Rattle.settings_tree.specs.Change.{Live, Meta, Pend, TheOwed, TheImage, TheWeak}
-use Rattle.store_files.specs.Places.{path_of}
-use Rattle.store_files.specs.Damage.{Fits, format, place, before, IsDamaged, HasNoDamage, damaged, IsFaultBelow}
-use Rattle.store_files.specs.FoundFiles.{KeepsRules, IsAbsent, absent_path, Says, what_found, no_files, Reads}
-use Rattle.store_files.specs.declared.found.Absent.{Absent}
-use Rattle.store_files.specs.declared.found.Found.{Found}
-use Rattle.store_files.proofs.Showing.{shows_below}
-use Rattle.store_files.proofs.Sound.{sound}
-use Rattle.store_files.proofs.Rules.{found_rules}
-use Rattle.store_files.proofs.KeyTexts.{whole}
+use Rattle.fs_datastore.specs.Damage.{Fits, format, place, before, IsDamaged, HasNoDamage, damaged, IsFaultBelow}
+use Rattle.fs_datastore.specs.FoundFiles.{IsAbsent, absent_path, Says, what_found, no_files, Reads}
+use Rattle.fs_datastore.specs.declared.found.Absent.{Absent}
+use Rattle.fs_datastore.specs.declared.found.Found.{Found}
+use Rattle.fs_datastore.proofs.Showing.{shows_below}
+use Rattle.fs_datastore.proofs.Sound.{sound}
+use Rattle.fs_datastore.proofs.Rules.{found_rules}
+use Rattle.fs_datastore.proofs.KeyTexts.{whole}
 use Rattle.fs_datastore.specs.Loading.{ReadsNode, only, SaidSoFar, ReadsFirst, FindsFault}
 use Rattle.fs_datastore.proofs.Listing.{in_list, fits_alike, cmp_below, drop_dir, split_at, less, paths_rise, each_listed, IsListed, listed_is}
 
 abbrev node_in : Option Node → Node → Node
 node_in None d = d
 node_in (Some n) d = n
-
--- nothing may stand at the directory itself
-no_root : (others : Files) (n : Node) → Fits others [] n → ⊥
-no_root others n (format here is) = cc here
-no_root others n (place p b valid here is t) = at p here where
-  at : (p : Place) → [] ≡ path_of p → ⊥
-  at (Live k) e = cc e
-  at (Meta k m) e = cc e
-  at (Pend t k) e = cc e
-  at TheOwed e = cc e
-  at TheImage e = cc e
-  at TheWeak e = cc e
 
 abbrev is_file : Node → Bool
 is_file (file b) = true
@@ -200,13 +185,6 @@ module _ (dir : Names) (tree : Tree) (two : length dir ≡ 2) (done left : List 
 
 -- ---- bytes and nodes
 
--- a path of fewer than three names is below no directory of two
-pub too_short : (path : Names) (node : Option Node) (old new : Found) → length path ≤ 2 → ReadsNode (drop 2 path) node old new false
-too_short [] node old new few = λ others says n is fit. no_root others n fit
-too_short (a ∷ []) node old new few = λ others says n is fit. no_root others n fit
-too_short (a ∷ b ∷ []) node old new few = λ others says n is fit. no_root others n fit
-too_short (a ∷ b ∷ c ∷ path) node old new few = absurd (omega (arith, few))
-
 pub node_read : {E : Type 0} (names path : Names) (bytes : List ℕ) (old new : Found) (r : Result Bool E) → names ≡ drop 2 path → IfOk r (Reads names bytes old new) → IfOk r (ReadsNode (drop 2 path) (Some (file bytes)) old new)
 node_read names path bytes old new (Ok true) is reads = (reads.0, λ others says. subst (λ (p : Names). Says (with_node others p (Some (file bytes))) new) is (reads.1 others says))
 node_read names path bytes old new (Ok false) is reads = λ others says n same fit.
@@ -227,15 +205,6 @@ pub no_file : (path : Names) (node : Option Node) (old new : Found) → None ≡
 no_file path None old new is = λ others says n same fit. cc same
 no_file path (Some (file b)) old new is = absurd (cc is)
 no_file path (Some (link t)) old new is = λ others says n same fit. no_link others path n t (sym (ap (λ (o : Option Node). node_in o n) same)) fit
-
--- rules go on to be kept
-pub rules_read : (names : Names) (bytes : List ℕ) (old new : Found) (b : Bool) → Reads names bytes old new b → KeepsRules old → IsTrue b → KeepsRules new
-rules_read names bytes old new true reads rules so = reads.0 rules
-rules_read names bytes old new false reads rules so = absurd (false≢true so)
-
-pub rules_after : {E : Type 0} (names : Names) (bytes : List ℕ) (old new : Found) (r : Result Bool E) → KeepsRules old → IfOk r (Reads names bytes old new) → IfOk r (λ fits. IsTrue fits → KeepsRules new)
-rules_after names bytes old new (Ok b) rules reads = λ so. rules_read names bytes old new b reads rules so
-rules_after names bytes old new (Err e) rules reads = tt
 
 -- ---- the loop, where the disk tells
 
@@ -275,9 +244,6 @@ read_all paths n old new a is so_far = where_map (λ h first. record {
 module _ (paths : List Names) (dir : Names) (two : length dir ≡ 2) (old new : Found) (a : Option History) (listed : WhereTold a (λ h. paths ≡ paths_below dir (tree_of h))) (says : Says no_files old) where
   pub said_where : WhereTold a (FindsFault paths old new None) → WhereTold a (λ h. Says (files_below dir (tree_of h)) new)
   said_where finds = where_map (λ h both. both.1.found dir two both.0 says) (where_both listed finds)
-
-  pub fault_where : (p : Names) → WhereTold a (FindsFault paths old new (Some p)) → WhereTold a (λ h. IsFaultBelow dir (tree_of h) p)
-  fault_where p finds = where_map (λ h both. both.1.found dir two both.0 says) (where_both listed finds)
 
 -- a file that is missing is the fault of the directory
 pub absent_where : (paths : List Names) (dir : Names) → length dir ≡ 2 → (old new : Found) (a : Option History) → WhereTold a (λ h. paths ≡ paths_below dir (tree_of h)) → Says no_files old → (o : Option Names) → WhereTold a (FindsFault paths old new o) → o ≡ None

@@ -20,10 +20,10 @@ use Rattle.outside.proofs.Trees.{path_cases, path_itself}
 use Rattle.commit_journal.specs.Files.{Files, files_below}
 use Rattle.settings_tree.specs.Change.{Place}
 use Rattle.settings_tree.specs.Change.{Live, Meta, Pend, TheOwed, TheImage, TheWeak}
-use Rattle.store_files.specs.Places.{path_of, is_place}
-use Rattle.store_files.specs.Values.{Value, live, pending, owed, image, weak}
-use Rattle.store_files.specs.Stands.{node_of}
-use Rattle.store_files.specs.Damage.{HaveFiles, Fits, format, place}
+use Rattle.fs_datastore.specs.Places.{path_of, is_place}
+use Rattle.fs_datastore.specs.Values.{Value, live, pending, owed, image, weak}
+use Rattle.fs_datastore.specs.Stands.{node_of}
+use Rattle.fs_datastore.specs.Damage.{HaveFiles, Fits, format, place}
 
 -- ---- nodes that may stand behind others
 

@@ -20,7 +20,7 @@ use Rattle.settings_tree.specs.Change.{Place}
 use Rattle.settings_tree.specs.Change.{Live, Meta, Pend}
 use Rattle.settings_tree.specs.Walks.{is_past, entries_past}
 use Rattle.settings_tree.proofs.Walks.{past_test, past_fact, walk_falls}
-use Rattle.store_files.specs.Values.{Value, live, pending}
+use Rattle.fs_datastore.specs.Values.{Value, live, pending}
 use Rattle.fs_datastore.specs.Saving.{Values, or_else, put_over, value_at_place, live_values, names_of_key, all_metadata, keys_of_transaction, all_pending, SavesTo}
 use Rattle.fs_datastore.proofs.Savings.{saved_none, saved_alike, saved_then, none_else}
 

@@ -22,10 +22,10 @@ use Rattle.settings_tree.specs.Change.{Live, Meta, Pend, TheOwed, TheImage, TheW
 use Rattle.settings_tree.specs.Content.{IsContent}
 use Rattle.settings_tree.specs.Pending.{IsPending}
 use Rattle.settings_tree.specs.declared.held.Held.{Held}
-use Rattle.store_files.specs.Places.{path_of, is_place}
-use Rattle.store_files.specs.Values.{live, pending, owed, image, weak, value_in}
-use Rattle.store_files.specs.Stands.{Shows, Stands}
-use Rattle.store_files.proofs.Showing.{shows_alike}
+use Rattle.fs_datastore.specs.Places.{path_of, is_place}
+use Rattle.fs_datastore.specs.Values.{live, pending, owed, image, weak, value_in}
+use Rattle.fs_datastore.specs.Stands.{Shows, Stands}
+use Rattle.fs_datastore.proofs.Showing.{shows_alike}
 use Rattle.fs_datastore.specs.Saving.{IsEmptyBelow, Saves, Values, put_over, value_at_place, single_values, all_pending, all_metadata, live_values, SavesTo, TellsFormat}
 use Rattle.fs_datastore.proofs.Savings.{none_else}
 

@@ -16,12 +16,12 @@ use Rattle.commit_journal.proofs.Laid.{files_below-set_node, with_node_here, wit
 use Rattle.commit_journal.proofs.Steps.{goes_one, goes_none}
 use Rattle.settings_tree.specs.Change.{Place, is_same}
 use Rattle.settings_tree.specs.Change.{Live, Meta, Pend, TheOwed, TheImage, TheWeak}
-use Rattle.store_files.specs.Places.{path_of, is_place, format_path}
-use Rattle.store_files.specs.Values.{Value, Spells}
-use Rattle.store_files.specs.Stands.{IsFileOf, Shows}
-use Rattle.store_files.specs.Batches.{with_value}
-use Rattle.store_files.proofs.Places.{no_format}
-use Rattle.store_files.proofs.Showing.{other_path, shows_with, shows_alike}
+use Rattle.fs_datastore.specs.Places.{path_of, is_place, format_path}
+use Rattle.fs_datastore.specs.Values.{Value, Spells}
+use Rattle.fs_datastore.specs.Stands.{IsFileOf, Shows}
+use Rattle.fs_datastore.specs.Batches.{with_value}
+use Rattle.fs_datastore.proofs.Places.{no_format}
+use Rattle.fs_datastore.proofs.Showing.{other_path, shows_with, shows_alike}
 use Rattle.fs_datastore.specs.Saving.{Values, or_else, put_over, value_at_place, SavesTo, TellsFormat}
 
 -- ---- values put over others

@@ -6,9 +6,9 @@ use Rattle.outside.specs.Names.{Names, path_cmp}
 use Rattle.outside.specs.Tree.{Node, Tree, paths_below}
 use Rattle.outside.specs.History.{History, tree_of}
 use Rattle.commit_journal.specs.Files.{Files, files_below, with_node}
-use Rattle.store_files.specs.Damage.{Fits, IsFaultBelow}
-use Rattle.store_files.specs.FoundFiles.{Says, StaysRuled, no_files}
-use Rattle.store_files.specs.declared.found.Found.{Found}
+use Rattle.fs_datastore.specs.Damage.{Fits, IsFaultBelow}
+use Rattle.fs_datastore.specs.FoundFiles.{Says, StaysRuled, no_files}
+use Rattle.fs_datastore.specs.declared.found.Found.{Found}
 
 -- What stands at the path is read with the others, or is a node that may not stand behind them.
 abbrev pub ReadsNode : Names → Option Node → Found → Found → Bool → Type 0

@@ -15,8 +15,8 @@ use Rattle.settings_maps.specs.Maps.{value_at}
 use Rattle.settings_tree.specs.Change.{Place, is_same}
 use Rattle.settings_tree.specs.Change.{Live, Meta, Pend, TheOwed, TheImage, TheWeak}
 use Rattle.settings_tree.specs.declared.held.Held.{Held}
-use Rattle.store_files.specs.Values.{Value, live, pending, owed, image, weak}
-use Rattle.store_files.specs.Stands.{Shows, Stands}
+use Rattle.fs_datastore.specs.Values.{Value, live, pending, owed, image, weak}
+use Rattle.fs_datastore.specs.Stands.{Shows, Stands}
 
 -- Nothing is below the directory.
 abbrev pub IsEmptyBelow : Names → Tree → Type 0

@@ -7,16 +7,17 @@ ghost use Rattle.outside.specs.History.{tree_of};
 ghost use Rattle.outside.specs.Told.{WhereTold};
 ghost use Rattle.outside.specs.Faults.{HasCauseOf};
 ghost use Rattle.commit_journal.specs.Files.{files_below};
-ghost use Rattle.store_files.specs.Stands.{Stands};
-ghost use Rattle.store_files.specs.Damage.{IsFaultBelow};
-ghost use Rattle.store_files.specs.FoundFiles.{KeepsRules, absent_path};
+ghost use Rattle.fs_datastore.specs.Stands.{Stands};
+ghost use Rattle.fs_datastore.specs.Damage.{IsFaultBelow};
+ghost use Rattle.fs_datastore.specs.FoundFiles.{KeepsRules, absent_path};
 ghost use Rattle.fs_datastore.specs.Loading.{ReadsNode, FindsFault};
 
 use crate::LoadError;
+use crate::found::{Absent, Found};
+use crate::place_paths::top_path;
 use outside::{Disk, DiskErr, Path};
 use settings_tree::Held;
 use std::alloc::{AllocError, Global};
-use store_files::{Absent, Found, top_path};
 
 /// What a data directory stands for.
 #[derive(Drop)]

@@ -8,18 +8,17 @@ ghost use Rattle.settings_maps.specs.TxName.{is_meta_name};
 ghost use Rattle.settings_tree.specs.Change.{Live, Meta, Pend, TheOwed, TheImage, TheWeak};
 ghost use Rattle.settings_tree.specs.Content.{IsContent, IsNamed};
 ghost use Rattle.settings_tree.specs.Pending.{IsPending};
-ghost use Rattle.store_files.specs.Values.{live, pending, owed, image, weak, value_in};
+ghost use Rattle.fs_datastore.specs.Values.{live, pending, owed, image, weak, value_in};
 ghost use Rattle.fs_datastore.specs.Saving.{Saves, SavesTo, TellsFormat, value_at_place, live_values, names_of_key, all_metadata, keys_of_transaction, all_pending, single_values};
 
+use crate::place_paths::{live_path, meta_path, pending_path, top_path};
+use crate::scalar_texts::{owed_text, pending_text, weak_text};
 use json_trees::{Pending, Scalar};
 use key_names::{Bytes, Key, Text};
 use outside::{Disk, DiskErr, Failed, Path};
 use settings_maps::{KeyList, KeyMap, Metadata, Transactions, TxName};
 use settings_tree::{Held, Owed};
 use std::alloc::Global;
-use store_files::{
-    live_path, meta_path, owed_text, pending_path, pending_text, top_path, weak_text,
-};
 
 // A failure under the name that a call with memory has for it.
 fn write<D: Disk>(disk: &mut D, path: &Path, bytes: &[u8]) -> Result<(), DiskErr>

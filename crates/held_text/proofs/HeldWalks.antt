@@ -71,7 +71,3 @@ module _ {K N X : Type 0} {R : K → K → Ordering} {S : N → N → Ordering} 
   -- What stands at the least key is its map of names.
   pub least_inner : (m : FinMap R (FinMap S X)) (after : Option K) (k : K) → IsLeastKeyAfter m after k → IsLeastAfter m after k (inner m k)
   least_inner m after k least = record { stands = some_inner (get m k) empty least.stands; past = least.past; least = least.least }
-
-  -- What was found at the least key stands there.
-  pub least_found : (m : FinMap R (FinMap S X)) (after : Option K) (k : K) (i : FinMap S X) → IsLeastKeyAfter m after k → get m k ≡ Some i → IsLeastAfter m after k i
-  least_found m after k i least has = record { stands = has; past = least.past; least = least.least }

@@ -1,12 +1,12 @@
 -- A head that was found, and the one reply that the bytes are.
-use Rattle.std.proofs.Common.{◌≡◌, ◌≤◌, ℕ, true, false, IsTrue, List, length, take, drop, map, refl, sym, ◌∙◌, ap, subst}
+use Rattle.std.proofs.Common.{◌≡◌, ◌≤◌, ℕ, true, IsTrue, List, length, take, drop, map, refl, sym, ◌∙◌, ap, subst}
 use Rattle.std.proofs.lemmas.List.{length-map}
 use Rattle.httparse.specs.Grammar.{ResponseHead, status_code}
 use Rattle.httparse.specs.Spans.{IsResponseAt, header_bytes, name_and_value}
 use Rattle.httparse.specs.declared.spans.HeaderSpan.{HeaderSpan}
 use Rattle.httparse.specs.declared.spans.ResponseSpans.{ResponseSpans}
 use Rattle.httparse.proofs.GrammarLemmas.{response_unique}
-use Rattle.host_client.specs.Reply.{lengths, fits, IsReply, IsNoReply}
+use Rattle.host_client.specs.Reply.{lengths, fits, IsReply}
 
 -- there are as many fields as spans
 as_many : (bytes : List ℕ) (headers : List HeaderSpan) (r : ResponseSpans) (h : ResponseHead) → IsResponseAt bytes headers r h → length h.fields ≡ length (take r.headers headers)
@@ -29,14 +29,3 @@ pub reply_unique : (bytes : List ℕ) (status other : ℕ) (body rest : List ℕ
 reply_unique bytes status other body rest a b =
     let same = response_unique bytes a.head b.head body rest a.reads b.reads in
     (a.status_is ∙ ap status_code same.0 ∙ sym b.status_is, same.1)
-
--- a head whose fields don't fit begins no reply
-pub no_reply_at : (bytes : List ℕ) (headers : List HeaderSpan) (r : ResponseSpans) (h : ResponseHead) (size : ℕ) → size ≡ length (drop r.len bytes)
-    → IsResponseAt bytes headers r h → fits (lengths (map (header_bytes bytes) (take r.headers headers))) size ≡ false → IsNoReply bytes
-no_reply_at bytes headers r h size same at bad status body reply =
-    let one = response_unique bytes h reply.head (drop r.len bytes) body at.reads reply.reads in
-    let fitting : fits (lengths (map name_and_value reply.head.fields)) (length body) ≡ false =
-    sym (ap (λ (k : ResponseHead). fits (lengths (map name_and_value k.fields)) (length body)) one.0)
-    ∙ sym (ap (λ n. fits (lengths (map name_and_value h.fields)) n) (same ∙ ap length one.1))
-    ∙ sym (ap (λ fields. fits (lengths fields) size) at.fields) ∙ bad in
-    let never : false ≡ true = sym fitting ∙ reply.length_fits in cc

@@ -6,7 +6,7 @@ use Rattle.outside.specs.Faults.{Rose}
 use Rattle.host_client.specs.Question.{ask_text}
 use Rattle.host_client.specs.Words.{AsksFor, AsksNothing}
 use Rattle.host_client.specs.Exchanges.{IsSentInPart, IsAnswered, IsAnsweredBadly, IsAnsweredAtLength}
-use Rattle.sink_text.specs.Said.{IsSaidInPart}
+use Rattle.outside.specs.Said.{IsSaidInPart}
 
 -- The bytes and a line feed.
 abbrev pub line_of : List ℕ → List ℕ

@@ -3,7 +3,7 @@ ghost use Rattle.std.specs.Prelude.{◌≡◌, ◌⊎◌, codes, IfOk, IsErrOf};
 ghost use Rattle.outside.specs.Told.{Moves};
 ghost use Rattle.outside.specs.Faults.{Rose, HasCauseOf};
 ghost use Rattle.host_client.specs.Exchanges.{IsSentInPart, IsAnswered, IsAnsweredBadly, IsAnsweredAtLength};
-ghost use Rattle.sink_text.specs.Said.{IsSaid};
+ghost use Rattle.outside.specs.Said.{IsSaid};
 ghost use Rattle.outside.specs.Spawner.{texts};
 ghost use Rattle.host_client.specs.Words.{AsksNothing};
 ghost use Rattle.host_client.specs.Ended.{Asks, IsDone, IsRefused, IsBad, IsTooLong, IsCutOff, IsMisused, IsCutShort};
@@ -13,8 +13,7 @@ use crate::exchange_error::AskError;
 use crate::output::{say_body, say_refused};
 use crate::reply::Got;
 use crate::words::question_of;
-use outside::{Link, Sink};
-use sink_text::say;
+use outside::{Link, Sink, say};
 use std::alloc::Global;
 
 // Why the words got no reply.

@@ -2,7 +2,6 @@
 use Rattle.std.proofs.Common.{arith, ◌≤◌, ◌<◌, ◌+◌, length-append, eq-eqb, eqb-true, length, ◌≡◌, ◌≢◌, ℕ, zero, suc, true, ◌==◌, ◌&&◌, List, [], ◌∷◌, ◌++◌, refl, sym, ◌∙◌, ap}
 use Rattle.std.specs.List.{onto_first, list_all, count_by}
 use Rattle.std.proofs.lemmas.List.Splits.{slice_split-cons_yes, slice_split-cons_no, length-slice_split}
-use Rattle.std.proofs.lemmas.List.{append_assoc}
 use Rattle.std.proofs.lemmas.List.Folds.{list_all-append}
 use Rattle.std.proofs.lemmas.Bool.{true≢false, and_parts, ne_eqb}
 use Rattle.key_names.specs.Packed.{parts, segments_of, longer, are_packed}
@@ -50,16 +49,6 @@ whole : (bytes : List ℕ) → list_all is_quotable bytes ≡ true → parts byt
 whole [] good = refl
 whole (zero ∷ bytes) good = absurd (true≢false (sym good))
 whole (suc n ∷ bytes) good = past n bytes ∙ ap (onto_first (suc n)) (whole bytes (and_parts (is_quotable (suc n)) (list_all is_quotable bytes) good).1)
-
--- To an empty text a segment is added alone.
-pub longer-none : (text segment : List ℕ) → length text ≡ 0 → longer text segment ≡ text ++ segment
-longer-none [] segment none = refl
-longer-none (b ∷ text) segment none = absurd (omega (arith, none))
-
--- To another it is added behind a zero byte.
-pub longer-some : (text segment : List ℕ) → length text ≢ 0 → longer text segment ≡ (text ++ 0 ∷ []) ++ segment
-longer-some [] segment some = absurd (some refl)
-longer-some (b ∷ text) segment some = sym (append_assoc (b ∷ text) (0 ∷ []) segment)
 
 -- A longer text has that segment behind the others.
 pub segments_of-longer : (text segment : List ℕ) → is_segment segment ≡ true → segments_of (longer text segment) ≡ segments_of text ++ segment ∷ []

@@ -7,7 +7,7 @@ ghost use Rattle.key_names.specs.Faults.{SegmentFault};
 use crate::{KeyError, KeyFault};
 
 /// Whether the byte is a bare character: an ASCII letter or digit, `_` or `-`.
-pub fn is_bare(b: u8) -> bool
+pub(crate) fn is_bare(b: u8) -> bool
     ensures { result ≡ is_bare b }
 {
     b.is_ascii_alphanumeric() || b == b'_' || b == b'-'

@@ -17,7 +17,7 @@ mod spelled;
 mod text;
 
 pub use bytes::{Bytes, behind_first};
-pub use characters::{are_bare, are_quotable, is_bare};
+pub use characters::{are_bare, are_quotable};
 pub use file_names::{file_name, of_file_name};
 pub use key::Key;
 pub use key_error::{KeyError, KeyFault};

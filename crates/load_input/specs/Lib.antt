@@ -2,3 +2,8 @@ pub mod Numbers
 pub mod Image
 pub mod Files
 pub mod Requests
+pub mod Counts
+pub mod Counted
+pub mod Lines
+pub mod Starting
+pub mod Loads

@@ -13,7 +13,7 @@ use Rattle.commit_journal.specs.Entries.{Changes}
 use Rattle.commit_journal.specs.Files.{Files as JournalFiles, files_below, IsBelow}
 use Rattle.commit_journal.specs.Stands.{TreeStandsFor, ChangesOnlyBelow, IsReady}
 use Rattle.commit_journal.specs.Change.{files_before, files_after, StandsForEither, IsMade, IsNotBegun}
-use Rattle.store_files.specs.Stands.{Stands}
+use Rattle.fs_datastore.specs.Stands.{Stands}
 use Rattle.version_links.specs.Chain.{Resolves, found}
 use Rattle.version_links.specs.Names.{store}
 use Rattle.version_links.specs.declared.version.Version.{Version}

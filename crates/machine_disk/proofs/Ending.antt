@@ -6,13 +6,13 @@ use Rattle.outside.specs.declared.disk_error.Failed.{Failed}
 use Rattle.commit_journal.specs.Entries.{Changes}
 use Rattle.commit_journal.specs.Stands.{IsReady}
 use Rattle.commit_journal.specs.Change.{files_after, Commits}
-use Rattle.store_files.specs.Stands.{Stands}
+use Rattle.fs_datastore.specs.Stands.{Stands}
 use Rattle.settings_tree.specs.declared.entry.Owed.TheVariants as owed
 use Rattle.settings_tree.specs.declared.held.Held.{Held}
 use Rattle.settings_machine.specs.declared.cause.Cause.TheVariants as cause
 use Rattle.settings_machine.specs.World.{Image, World, Work, Job, Running, is_running}
 use Rattle.settings_machine.specs.World as machine
-use Rattle.settings_machine.specs.Step.{Answer, Fine, NoRoom, SyncFault, OwedFault, last_turn, after_files_turn, work_turn, job_turn, turn_next}
+use Rattle.settings_machine.specs.Step.{Answer, Fine, NoRoom, OwedFault, last_turn, after_files_turn, work_turn, job_turn, turn_next}
 use Rattle.settings_machine.specs.Events.{Turned, next}
 use Rattle.settings_machine.specs.Paid.{IsGood}
 use Rattle.settings_machine.specs.Laws.{IsKept}
@@ -21,7 +21,6 @@ use Rattle.machine_disk.specs.Store.{IsReadyAt}
 use Rattle.machine_disk.specs.Kept.{Folder, CoreState, Kept}
 use Rattle.machine_disk.specs.Ran.{Within, Ran}
 use Rattle.machine_disk.proofs.Quiet.{IsAlike, ran_calm}
-use Rattle.machine_disk.proofs.Turning.{ran_failed}
 use Rattle.machine_disk.proofs.Changed.{IsStoreStep, ChangeMade, ChangeFailed, clear_settled, made, taken, not_taken}
 
 -- The turn of a job that has nothing left to do.
@@ -48,13 +47,6 @@ module _ (I : Image) (good : IsGood I) (folder : Folder) (W V : World) (h : Hist
 
   job_after : (a : Answer) → (last_turn I W w a).job ≡ (next I W (Turned a)).job
   job_after a = sym (ap (λ (N : World). N.job) (last_is I W w a job files commands))
-
-  -- The sync failed.
-  pub ran_unsynced : Ran I folder W V (Turned SyncFault ∷ []) h h before (record { place = before.place; held = before.held; job = machine.Failed cause.Disk; faulted = true })
-  ran_unsynced =
-      let k : IsKept I (next I W (Turned SyncFault)) = kept_after SyncFault in
-      ran_failed I folder W V h before kept (Turned SyncFault) (record { place = before.place; held = before.held; job = machine.Failed cause.Disk; faulted = true })
-      (alike_after SyncFault (record { version = refl; format = refl; held = refl; etc = refl })) k.fit k.paid (job_after SyncFault) refl (or_true before.faulted) refl refl
 
   -- Memory was wanting for the change.
   pub ran_no_room : Ran I folder W V (Turned NoRoom ∷ []) h h before (record { place = before.place; held = before.held; job = machine.Failed cause.Memory; faulted = false })

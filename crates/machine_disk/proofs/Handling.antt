@@ -5,7 +5,7 @@ use Rattle.outside.specs.History.{History}
 use Rattle.commit_journal.specs.Entries.{Changes}
 use Rattle.commit_journal.specs.Stands.{IsReady}
 use Rattle.commit_journal.specs.Change.{files_after, Commits}
-use Rattle.store_files.specs.Stands.{Stands}
+use Rattle.fs_datastore.specs.Stands.{Stands}
 use Rattle.settings_tree.specs.declared.held.Held.{Held}
 use Rattle.settings_machine.specs.declared.cause.Cause.TheVariants as cause
 use Rattle.settings_machine.specs.World.{Image, World, Job, Idle, Running, is_running}

@@ -6,8 +6,8 @@ use Rattle.outside.specs.History.{History, tree_of}
 use Rattle.commit_journal.specs.Files.{Files as JournalFiles, files_below}
 use Rattle.commit_journal.specs.Stands.{TreeStandsFor, journal}
 use Rattle.commit_journal.proofs.Recovering.{stands_one}
-use Rattle.store_files.specs.Stands.{Stands}
-use Rattle.store_files.proofs.Meaning.{one_meaning}
+use Rattle.fs_datastore.specs.Stands.{Stands}
+use Rattle.fs_datastore.proofs.Meaning.{one_meaning}
 use Rattle.version_links.specs.Chain.{Resolves, found}
 use Rattle.version_links.specs.declared.version.Version.{Version}
 use Rattle.version_links.specs.declared.chain.Place.{Place}

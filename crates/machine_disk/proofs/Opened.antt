@@ -11,7 +11,7 @@ use Rattle.outside.proofs.Since.{since_start, since_now}
 use Rattle.commit_journal.specs.Files.{files_below, IsBelow}
 use Rattle.commit_journal.specs.Stands.{ChangesOnlyBelow, IsReady}
 use Rattle.commit_journal.specs.Recovery.{FromSyncOn}
-use Rattle.store_files.specs.Stands.{Stands}
+use Rattle.fs_datastore.specs.Stands.{Stands}
 use Rattle.version_links.specs.Chain.{Resolves, found}
 use Rattle.version_links.specs.declared.version.Version.{Version}
 use Rattle.version_links.specs.declared.chain.Place.{Place}

@@ -5,7 +5,7 @@ use Rattle.outside.specs.Names.{Names}
 use Rattle.outside.specs.Tree.{Tree, node_at}
 use Rattle.outside.specs.History.{History, tree_of, EachImage}
 use Rattle.outside.proofs.Since.{since_start}
-use Rattle.store_files.specs.Stands.{Stands}
+use Rattle.fs_datastore.specs.Stands.{Stands}
 use Rattle.version_links.specs.Chain.{Resolves, found}
 use Rattle.version_links.specs.declared.version.Version.{Version}
 use Rattle.settings_tree.specs.declared.held.Held.{Held}

@@ -9,7 +9,7 @@ use Rattle.outside.proofs.Crash.{settled_image}
 use Rattle.commit_journal.specs.Files.{Files as JournalFiles}
 use Rattle.commit_journal.specs.Stands.{TreeStandsFor}
 use Rattle.commit_journal.specs.Recovery.{IsRecovered, Recovers}
-use Rattle.store_files.specs.Stands.{Stands}
+use Rattle.fs_datastore.specs.Stands.{Stands}
 use Rattle.version_links.specs.Chain.{Resolves, found}
 use Rattle.version_links.specs.Names.{store}
 use Rattle.version_links.specs.declared.version.Version.{Version}

@@ -221,16 +221,6 @@ module _ (I : Image) where
 
   -- ---- turns
 
-  -- A slice of turns, and then the rest of them.
-  pub driven_after : (n : ℕ) (W : World) (es fs : List Event) → IsSlice I n W es → IsDriven I (after I W es) fs → IsDriven I W (es ++ fs)
-  driven_after n W [] fs slice rest = rest
-  driven_after n W (Turned a ∷ es) fs slice rest = (slice.1, driven_after (n - 1) (turn_next I W a) es fs slice.2 rest)
-  driven_after n W (Opened boot o ∷ es) fs slice rest = absurd slice
-  driven_after n W (Asked q o ∷ es) fs slice rest = absurd slice
-  driven_after n W (Unread ∷ es) fs slice rest = absurd slice
-  driven_after n W (Began v ∷ es) fs slice rest = absurd slice
-  driven_after n W (Moved v h ∷ es) fs slice rest = absurd slice
-
   -- The events of a slice are turns.
   pub slice_served : (n : ℕ) (W : World) (es : List Event) → IsSlice I n W es → are_served es ≡ true
   slice_served n W [] slice = refl

@@ -7,7 +7,7 @@ use Rattle.outside.specs.History.{History, tree_of, EachImage, IsSettledOn}
 use Rattle.outside.proofs.Parts.{image_on}
 use Rattle.commit_journal.specs.Files.{Files, files_below}
 use Rattle.commit_journal.specs.Stands.{StandsFor, journal}
-use Rattle.store_files.specs.Stands.{Stands}
+use Rattle.fs_datastore.specs.Stands.{Stands}
 use Rattle.version_links.specs.Chain.{HasStep, Leads, Resolves, found}
 use Rattle.version_links.specs.Names.{name_of, numbers, store}
 use Rattle.version_links.specs.declared.version.Version.{Version}

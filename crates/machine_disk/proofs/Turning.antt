@@ -2,19 +2,18 @@
 use Rattle.std.proofs.Common.{◌≡◌, ◌≢◌, ◌⊎◌, inl, inr, ⊎_elim, ℕ, true, false, List, [], ◌∷◌, Option, refl, sym, ◌∙◌, ap, subst}
 use Rattle.std.proofs.lemmas.Bool.{cases_Bool}
 use Rattle.std.specs.Ordering.{eq_by_cmp}
-use Rattle.std.specs.FinMap.{get, same_map}
+use Rattle.std.specs.FinMap.{get}
 use Rattle.std.specs.Prelude.{codes}
 use Rattle.outside.specs.Names.{Names, path_cmp, is_below}
-use Rattle.outside.specs.Order.{path_total}
 use Rattle.outside.specs.Tree.{Node, node_at, set_node, file_in, AgreeOn}
 use Rattle.outside.specs.History.{scribbled, synced, History, next as then, tree_of, MayLeave, IsSettledOn}
 use Rattle.outside.proofs.Crash.{settled_image, settled_synced}
 use Rattle.outside.proofs.Since.{since_start, since_next}
-use Rattle.outside.proofs.Trees.{node_at-set_same, node_at-set_other, path_cases, path_same, path_itself}
+use Rattle.outside.proofs.Trees.{node_at-set_same, node_at-set_other, path_cases, path_itself}
 use Rattle.outside.proofs.Parts.{settled_on_synced, scribbled_elsewhere, same_elsewhere}
 use Rattle.version_links.specs.Chain.{Resolves, found}
 use Rattle.version_links.specs.declared.version.Version.{Version}
-use Rattle.store_files.specs.Stands.{Stands}
+use Rattle.fs_datastore.specs.Stands.{Stands}
 use Rattle.settings_tree.specs.declared.held.Held.{Held}
 use Rattle.settings_machine.specs.World.{Image, World, Files, is_running, is_etc}
 use Rattle.settings_machine.specs.Step.{with_file}
@@ -25,7 +24,7 @@ use Rattle.settings_machine.proofs.Lasting.{put_here, put_other}
 use Rattle.machine_disk.specs.Store.{is_store, bytes_at, HasStore, Recovers, IsReadyAt}
 use Rattle.machine_disk.specs.Kept.{Folder, CoreState, Kept}
 use Rattle.machine_disk.specs.Ran.{Before, Within, OnTheWay, Ran}
-use Rattle.machine_disk.proofs.Runs.{at_start, recovers_now, ran_more}
+use Rattle.machine_disk.proofs.Runs.{at_start, recovers_now}
 use Rattle.machine_disk.proofs.Quiet.{IsAlike, alike_store}
 use Rattle.machine_disk.proofs.Apart.{first_name}
 use Rattle.machine_disk.proofs.Settled.{settled_store, store_same, ready_elsewhere}
@@ -66,14 +65,6 @@ ran_synced I folder W V h core kept = record {
       (λ c left. inr (at_start I W [] c (subst (Recovers I W) (sym (settled_image (then synced h) (settled_synced h) c left))
       (record { store = kept.disk.store; etc = λ path is. inl (kept.disk.etc.each path is) }))));
 }
-
--- An event that begins with a sync.
-pub ran_after_sync : (I : Image) (folder : Folder) (W V : World) (e : Event) (old new : History) (before now : CoreState) → Kept I folder W V old before
-    → ((X : World) → Kept I folder W X (then synced old) before → Ran I folder W X (e ∷ []) (then synced old) new before now)
-    → Ran I folder W V (e ∷ []) old new before now
-ran_after_sync I folder W V e old new before now kept rest =
-    let first : Ran I folder W V [] old (then synced old) before before = ran_synced I folder W V old before kept in
-    ran_more I folder W V [] (e ∷ []) old (then synced old) new before before now first (rest first.other first.kept)
 
 -- ---- a call that failed and changed nothing, as a sync
 
@@ -117,13 +108,6 @@ apart folder other p q in_folder in_other differ = ⊎_elim (λ same. absurd (di
       let b = first_name other p in_other in
       let e : folder ∷ a.0 ≡ other ∷ b.0 = sym a.1 ∙ same ∙ b.1 in
       cc e
-
--- What a map of files has, put there again, changes nothing.
-pub with_file_same : (etc : Files) (path : Names) → with_file etc path (get etc path) ≡ etc
-with_file_same etc path = same_map path_total path_same (with_file etc path (get etc path)) etc (λ q. ⊎_elim
-    (λ same. put_here etc path q (get etc path) same ∙ ap (get etc) (sym same))
-    (λ other. put_other etc path q (get etc path) other)
-    (path_cases q path))
 
 module _ (I : Image) (folder : Folder) (W V : World) (old : History) (before : CoreState) (kept : Kept I folder W V old before) (calm : before.faulted ≡ false)
     (e : Event) (path : Names) (below : is_etc path ≡ true) (due : IsDuePath I W.held path) (node : Option Node)

@@ -6,14 +6,11 @@ use Rattle.commit_journal.specs.Files.{files_below}
 use Rattle.commit_journal.specs.Stands.{TreeStandsFor, StandsFor, journal}
 use Rattle.commit_journal.specs.Journal.{journal_text}
 use Rattle.commit_journal.specs.Recovery.{IsBad}
-use Rattle.store_files.specs.Stands.{Stands}
-use Rattle.store_files.specs.Damage.{IsFaultBelow}
-use Rattle.store_files.proofs.Faults.{faultless}
-use Rattle.store_files.proofs.Meaning.{one_meaning}
+use Rattle.fs_datastore.specs.Damage.{IsFaultBelow}
+use Rattle.fs_datastore.proofs.Faults.{faultless}
 use Rattle.version_links.specs.Chain.{Resolves, nowhere, found, bad}
 use Rattle.version_links.specs.declared.version.Version.{Version}
 use Rattle.version_links.proofs.Chains.{resolves_one}
-use Rattle.settings_tree.specs.declared.held.Held.{Held}
 use Rattle.settings_machine.specs.World.{World}
 use Rattle.machine_disk.specs.Store.{HasStore}
 use Rattle.machine_disk.proofs.Meanings.{stands_below}
@@ -51,9 +48,3 @@ module _ (W : World) (tree : Tree) (has : HasStore W tree) where
     pub not_damaged : files_below directory tree journal ≡ None → (path : Names) → IsFaultBelow directory tree path → ⊥
     not_damaged no_journal path fault =
         faultless (files_below directory tree) W.held W.format fault.below (stands_below W tree version directory has leads no_journal) fault.fault
-
-    -- and stands for nothing but what the world holds, in its format.
-    pub one_held : files_below directory tree journal ≡ None → (held : Held) (format : ℕ) → Stands (files_below directory tree) held format
-        → (held ≡ W.held) × (format ≡ W.format)
-    one_held no_journal held format stands =
-        one_meaning (files_below directory tree) held W.held format W.format stands (stands_below W tree version directory has leads no_journal)

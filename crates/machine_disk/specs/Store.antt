@@ -7,7 +7,7 @@ use Rattle.outside.specs.History.{History, tree_of, IsSettledOn}
 use Rattle.commit_journal.specs.Files as journal
 use Rattle.commit_journal.specs.Files.{files_below}
 use Rattle.commit_journal.specs.Stands.{TreeStandsFor, IsReady}
-use Rattle.store_files.specs.Stands.{Stands}
+use Rattle.fs_datastore.specs.Stands.{Stands}
 use Rattle.version_links.specs.Chain.{Resolves, found}
 use Rattle.version_links.specs.declared.chain.Place.{Place}
 use Rattle.settings_tree.specs.declared.held.Held.{Held}

@@ -21,10 +21,6 @@ stepped_more count a b c is = omega (arith, is)
 pub stepped_rises : (count a : ℕ) → count ≤ stepped count a
 stepped_rises count a = omega arith
 
--- No step changes nothing.
-pub stepped_none : (count : ℕ) → stepped count 0 ≡ count
-stepped_none count = omega arith
-
 pub greatest_hit : (test : ℕ → Bool) (n : ℕ) → 0 < n → test n ≡ true → greatest test n ≡ n
 greatest_hit test zero low is = absurd (omega arith)
 greatest_hit test (suc n) low is = cond-true _ _ _ is
@@ -51,9 +47,6 @@ module _ (index : Lists) (key : List (List ℕ)) where
   -- The steps down to the length that has a list.
   pub steps_found : (start probes now len : ℕ) → 0 < len → len ≤ length key → near_len index key ≡ len → probes ≡ stepped start (length key - len) → now ≡ stepped probes 1 → now ≡ stepped start (steps_to index key)
   steps_found start probes now len low high is counted step = step ∙ ap (λ c. stepped c 1) counted ∙ stepped_more start (length key - len) 1 (steps_to index key) (ap (λ n. length key + 1 - max 1 n) is ∙ omega arith)
-
-  pub steps_none : (start probes : ℕ) → near_len index key ≡ 0 → probes ≡ stepped start (length key - 0) → probes ≡ stepped start (steps_to index key)
-  steps_none start probes is counted = counted ∙ ap (stepped start) (let same : length key - 0 ≡ steps_to index key = sym (ap (λ n. length key + 1 - max 1 n) is ∙ omega arith) in same)
 
   -- One length that has no list.
   pub steps_more : (start probes now len : ℕ) → 0 < len → len ≤ length key → probes ≡ stepped start (length key - len) → now ≡ stepped probes 1 → now ≡ stepped start (length key - (len - 1))
@@ -137,12 +130,6 @@ module _ (index : Lists) (keys : List (List (List ℕ))) (i : ℕ) (key : List (
   pub between_low : (start probes now : ℕ) → start ≤ probes → now ≡ stepped probes (steps_to index key) → start ≤ now
   between_low start probes now before step = omega (arith, stepped_rises probes (steps_to index key), step)
 
-  pub between_high : (probes now all : ℕ) → stepped probes (all_steps index (drop i keys)) ≡ all → now ≡ stepped probes (steps_to index key) → now ≤ all
-  between_high probes now all whole step = omega (arith, stepped_rises now (all_steps index (drop (i + 1) keys)), counted_more probes now all whole step)
-
 -- When all keys are through, the set is that of all their lists.
 pub named_all : (index : Lists) (keys : List (List (List ℕ))) (i : ℕ) (set : Names) → length keys ≤ i → fold with_member set (flat_map (near index) (drop i keys)) ≡ fold with_member empty (flat_map (near index) keys) → set ≡ set_of (flat_map (near index) keys)
 named_all index keys i set past whole = rest_all (λ ks. fold with_member set (flat_map (near index) ks)) keys i _ past whole ∙ set_grown [] (flat_map (near index) keys)
-
-pub counted_all : (index : Lists) (keys : List (List (List ℕ))) (i probes all : ℕ) → length keys ≤ i → stepped probes (all_steps index (drop i keys)) ≡ all → probes ≡ all
-counted_all index keys i probes all past whole = sym (stepped_none probes) ∙ rest_all (λ ks. stepped probes (all_steps index ks)) keys i all past whole

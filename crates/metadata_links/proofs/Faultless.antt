@@ -15,10 +15,6 @@ use Rattle.metadata_links.proofs.Filtered.{sound, faults_sound, values_sound, na
 use Rattle.metadata_links.proofs.Rests.{first_left, first_right, none_both}
 
 module _ (content : Contents) where
-  -- A file that is at fault by itself.
-  pub fault_of_file : (e : ManifestError) → first_of (faults_in (files_in content)) ≡ Some e → first_of (faults content) ≡ Some e
-  fault_of_file e first = first_left (faults_in (files_in content)) _ e first
-
   module _ (files : FinMap bytes_cmp FileRow) (are : sound (entries files) ≡ files_in content) where
     no_file : faults_in (files_in content) ≡ []
     no_file = ap faults_in (sym are) ∙ faults_sound (entries files)

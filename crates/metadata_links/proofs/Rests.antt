@@ -1,7 +1,7 @@
 -- Loops over lists, by what is left of them.
 use Rattle.std.proofs.Common.{◌≡◌, ◌<◌, ◌≤◌, ◌+◌, ℕ, List, [], ◌∷◌, ◌++◌, length, get_or, drop, map, filter, Option, Some, None, false, true, refl, sym, ◌∙◌, ap, append_assoc, append-nil}
 use Rattle.std.specs.Prelude.{Bool}
-use Rattle.std.specs.List.{filter_map, flat_map, cons_option}
+use Rattle.std.specs.List.{filter_map, cons_option}
 use Rattle.std.proofs.lemmas.List.{at_drop_more, at_drop_all}
 use Rattle.std.proofs.lemmas.Bool.{cond-true, cond-false}
 use Rattle.metadata_links.specs.Faults.{first_of}
@@ -25,15 +25,9 @@ module _ {X E : Type 0} (F : List X → List E) (next : (x : X) (xs : List X) �
   taken_more left rest x all done now is whole put =
       ap (λ l. l ++ F rest) put ∙ append_assoc done (F (x ∷ [])) (F rest) ∙ ap (λ l. done ++ l) (sym (next x rest)) ∙ ap (λ l. done ++ F l) (sym is) ∙ whole
 
-  pub gathered_more : (xs : List X) (i : ℕ) (x : X) (all done now : List E) → i < length xs → x ≡ get_or xs i x → done ++ F (drop i xs) ≡ all → now ≡ done ++ F (x ∷ []) → now ++ F (drop (i + 1) xs) ≡ all
-  gathered_more xs i x all done now low is whole put = taken_more (x ∷ drop (i + 1) xs) (drop (i + 1) xs) x all done now refl (rest_here (λ l. done ++ F l) xs i x all low is whole) put
-
 module _ {X E : Type 0} (F : List X → List E) (none : F [] ≡ []) where
   pub taken_all : (left : List X) (all done : List E) → left ≡ [] → done ++ F left ≡ all → done ≡ all
   taken_all left all done is whole = sym (append-nil done) ∙ ap (λ l. done ++ l) (sym (ap F is ∙ none)) ∙ whole
-
-  pub gathered_all : (xs : List X) (i : ℕ) (all done : List E) → length xs ≤ i → done ++ F (drop i xs) ≡ all → done ≡ all
-  gathered_all xs i all done past whole = taken_all [] all done refl (rest_all (λ l. done ++ F l) xs i all past whole)
 
 -- A list function takes the first element first.
 pub filter_map_next : {X E : Type 0} (h : X → Option E) (x : X) (xs : List X) → filter_map h (x ∷ xs) ≡ filter_map h (x ∷ []) ++ filter_map h xs
@@ -41,9 +35,6 @@ filter_map_next h x xs = by (h x) where
   by : (o : Option _) → cons_option o (filter_map h xs) ≡ cons_option o [] ++ filter_map h xs
   by None = refl
   by (Some y) = refl
-
-pub flat_map_next : {X E : Type 0} (h : X → List E) (x : X) (xs : List X) → flat_map h (x ∷ xs) ≡ flat_map h (x ∷ []) ++ flat_map h xs
-flat_map_next h x xs = ap (λ l. l ++ flat_map h xs) (sym (append-nil (h x)))
 
 pub map_next : {X E : Type 0} (h : X → E) (x : X) (xs : List X) → map h (x ∷ xs) ≡ map h (x ∷ []) ++ map h xs
 map_next h x xs = refl
@@ -68,9 +59,3 @@ filtered_first f p x xs taken = ap (λ l. first_of (map f l)) (cond-true _ _ _ t
 
 pub filtered_rest : {X E : Type 0} (f : X → E) (p : X → Bool) (x : X) (xs : List X) → p x ≡ false → map f (filter p (x ∷ xs)) ≡ map f (filter p xs)
 filtered_rest f p x xs left = ap (map f) (cond-false _ _ _ left)
-
-pub flat_first : {X E : Type 0} (f : X → List E) (x : X) (xs : List X) (e : E) → first_of (f x) ≡ Some e → first_of (flat_map f (x ∷ xs)) ≡ Some e
-flat_first f x xs e first = first_left (f x) (flat_map f xs) e first
-
-pub flat_rest : {X E : Type 0} (f : X → List E) (x : X) (xs : List X) → f x ≡ [] → flat_map f (x ∷ xs) ≡ flat_map f xs
-flat_rest f x xs none = ap (λ l. l ++ flat_map f xs) none

@@ -132,11 +132,11 @@ module _ (start : Start) (tasks : List Task) (to : Version) (before after : Opti
     along_led (Err e) a b c answer others saved turned (inr (failure, is, flips)) =
         subst (λ x. Moves a c (MovesAlong start tasks to before after (Err x))) (sym is) (along_failed failure a b c others saved flips)
 
--- All tasks were carried out before the links fell short.
-pub short_ends : (tasks : List Task) (held made : Held) (target : Target) (before after : Option (List Mapped)) (refused_before refused_after : Option (List Refused)) (a b : Option History) (result : Result Moved MoveError) → IsCarried tasks held before after made → refused_after ≡ refused_before → IfErr result (FallsShort target a b) → IfErr result (Ends tasks held before after refused_before refused_after)
-short_ends tasks held made target before after refused_before refused_after a b (Ok moved) carried same short = tt
-short_ends tasks held made target before after refused_before refused_after a b (Err e) carried same (inl (is, none)) = inr (inr is, (made, carried), same)
-short_ends tasks held made target before after refused_before refused_after a b (Err e) carried same (inr (failure, is, flips)) = inr (inl is, (made, carried), same)
+-- All tasks were carried out before the links fell short, and none was refused.
+pub short_ends : (tasks : List Task) (held made : Held) (target : Target) (before after : Option (List Mapped)) (refused : Option (List Refused)) (a b : Option History) (result : Result Moved MoveError) → IsCarried tasks held before after made → IfErr result (FallsShort target a b) → IfErr result (Ends tasks held before after refused refused)
+short_ends tasks held made target before after refused a b (Ok moved) carried short = tt
+short_ends tasks held made target before after refused a b (Err e) carried (inl (is, none)) = inr (inr is, (made, carried), refl)
+short_ends tasks held made target before after refused a b (Err e) carried (inr (failure, is, flips)) = inr (inl is, (made, carried), refl)
 
 -- What falls short is no refusal.
 pub short_quiet : (target : Target) (a b : Option History) (result : Result Moved MoveError) → IfErr result (FallsShort target a b) → IfErr result (λ e. IsRefusal e → ⊥)

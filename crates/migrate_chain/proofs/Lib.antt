@@ -1,9 +1,13 @@
+pub mod Asked
 pub mod Copied
 pub mod Stays
 pub mod Carried
-pub mod Mappings
-pub mod MapperCauses
+pub mod Causes
 pub mod Started
 pub mod Along
 pub mod Migrated
+pub mod Ended
+pub mod NoFloats
 pub mod Pruned
+pub mod SameKeys
+pub mod Spelled

@@ -30,11 +30,11 @@ use Rattle.migrate_chain.specs.declared.start.Start.{Start}
 use Rattle.migrate_chain.specs.declared.moving.Moved.{Moved}
 use Rattle.release_file.specs.declared.plan_error.PlanError.{PlanError}
 use Rattle.release_file.specs.declared.plan_error.PlanError.TheVariants as plan
-use Rattle.migrate_chain.specs.declared.mapper_error.MapperError.{MapperError}
-use Rattle.migrate_chain.specs.declared.mapper_error.MapperError.TheVariants as mapper
+use Rattle.migrate_chain.specs.declared.task_error.TaskError.{TaskError}
+use Rattle.migrate_chain.specs.declared.task_error.TaskError.TheVariants as unmade
 use Rattle.migrate_chain.specs.declared.move_error.MoveError.{MoveError}
 use Rattle.migrate_chain.specs.declared.move_error.MoveError.TheVariants.{NoStore, BadLink, BadJournal, Damaged, Missing, Conflict, Status, BadAnswer, Spawn, Failed, Memory}
-use Rattle.migrate_chain.specs.Errors.{of_disk, of_mapper, of_plan}
+use Rattle.migrate_chain.specs.Errors.{of_disk, of_task, of_plan}
 use Rattle.release_file.specs.Order.{is_before}
 use Rattle.release_file.specs.Release.{leads_on}
 use Rattle.release_file.specs.Chain.{Leads, is_back, lower, upper, in_order, step_of, IsWay, HasNoPlan}
@@ -44,7 +44,6 @@ use Rattle.migrate_chain.specs.Store.{at_place, HasStore}
 use Rattle.migrate_chain.specs.Starting.{Starts, IsReady, IsFound}
 use Rattle.migrate_chain.specs.Moving.{IsAtHand, HasMoved, HasOldOrNew, MovesAlong, Ends, IsAnswer, IsBehind, IsRefusal, is_early}
 use Rattle.migrate_chain.specs.Migrating.{HasMigrated, IsThere, HasSome, Migrates}
-use Rattle.migrate_chain.proofs.Mappings.{if_err_any}
 use Rattle.migrate_chain.proofs.Stays.{standing}
 use Rattle.migrate_chain.proofs.Along.{in_store}
 use Rattle.std.proofs.lemmas.Result.{IfOk-weaker}
@@ -138,12 +137,12 @@ early_disk : (e : DiskErr) → is_early (of_disk e) ≡ false
 early_disk device.Failed = refl
 early_disk device.Memory = refl
 
-early_mapper : (e : MapperError) → is_early (of_mapper e) ≡ false
-early_mapper (mapper.Conflict key) = refl
-early_mapper (mapper.Status name number) = refl
-early_mapper (mapper.BadAnswer name) = refl
-early_mapper (mapper.Failed name) = refl
-early_mapper mapper.Memory = refl
+early_task : (e : TaskError) → is_early (of_task e) ≡ false
+early_task (unmade.Conflict key) = refl
+early_task (unmade.Status name number) = refl
+early_task (unmade.BadAnswer name) = refl
+early_task (unmade.Failed name) = refl
+early_task unmade.Memory = refl
 
 is_other : MoveError → Bool
 is_other NoStore = true
@@ -183,7 +182,7 @@ plan_quiet plan.Memory refusal = refusal
 
 late : (tasks : List Task) (h : Held) (a b : Option (List Mapped)) (p q : Option (List Refused)) (e : MoveError) → Ends tasks h a b p q e → is_early e ≡ false
 late tasks h a b p q e (inl (inl of)) = ap is_early of.1 ∙ early_disk of.0
-late tasks h a b p q e (inl (inr of)) = ap is_early of.1 ∙ early_mapper of.0
+late tasks h a b p q e (inl (inr of)) = ap is_early of.1 ∙ early_task of.0
 late tasks h a b p q e (inr (inl is, done, same)) = ap is_early is
 late tasks h a b p q e (inr (inr is, done, same)) = ap is_early is
 
@@ -216,9 +215,15 @@ start_outside old new r starts place led =
     goes_map (IsAtOrSync (IsBelow place.directory)) (IsAtOrSync (IsBelow (codes "store" ∷ []))) old new (λ change here. in_store change (IsBelow place.directory) (dir_in_store (tree_of old) place led) here)
     (touched_since (IsBelow place.directory) old new (starts.sync_first place led))
 
-on_ok_all : {T E X : Type 0} (r : Result T E) → X → OnOk r X
+-- What holds of any answer.
+pub on_ok_all : {T E X : Type 0} (r : Result T E) → X → OnOk r X
 on_ok_all (Ok v) x = x
 on_ok_all (Err e) x = tt
+
+-- What holds of any error.
+if_err_any : {T E : Type 0} {P : E → Type 0} (r : Result T E) → ((e : E) → P e) → IfErr r P
+if_err_any (Ok v) holds = tt
+if_err_any (Err e) holds = holds e
 
 module _ (to : Version) (transitions : List Transition) (migrations : List Named) (before after : Option (List Mapped)) (p q : Option (List Refused)) where
   abbrev Moment : Place → Held → ℕ → Tree → Type 0

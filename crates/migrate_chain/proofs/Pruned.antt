@@ -2,7 +2,7 @@
 use Rattle.std.proofs.Common.{◌≡◌, ◌≤◌, ◌<◌, ◌+◌, ◌||◌, length, get_or, take, cond, codes, arith, inl, inr, ◌⊎◌, ℕ, List, [], ◌∷◌, ◌++◌, Bool, true, false, Option, Some, None, IsSome, Result, Ok, Err, refl, sym, ◌∙◌, ap, subst}
 use Rattle.std.specs.List.{AllByRecursion}
 use Rattle.std.specs.Ordering.{eq_by_cmp}
-use Rattle.std.proofs.lemmas.List.{take_more, take_all}
+use Rattle.std.proofs.lemmas.List.{take_more}
 use Rattle.std.proofs.lemmas.Bool.{false≢true}
 use Rattle.outside.specs.Names.{Names, path_cmp}
 use Rattle.outside.specs.Tree.{Tree, Node, node_at, set_node, paths_below}
@@ -22,7 +22,7 @@ use Rattle.outside.proofs.Since.{since_map}
 use Rattle.outside.proofs.Told.{moves_map, moves_stay, moves_then, moves_where, moves_same}
 use Rattle.commit_journal.specs.Files.{Files}
 use Rattle.commit_journal.specs.Stands.{StandsFor}
-use Rattle.commit_journal.proofs.Steps.{goes_one, goes_none}
+use Rattle.commit_journal.proofs.Steps.{goes_one}
 use Rattle.settings_tree.specs.declared.held.Held.{Held}
 use Rattle.version_links.specs.declared.chain.Place.{Place}
 use Rattle.version_links.specs.declared.link_error.LinkError.{LinkError}
@@ -74,21 +74,7 @@ begins_so dir path ps folder name there f n is =
       λ same. is.other (ap (λ (l : List ℕ). codes "store" ∷ l ∷ []) (sym second) ∙ ap (λ (l : List ℕ). l ∷ name ∷ []) (sym first) ∙ sym same),
     )
 
--- It has three names or more.
-pub too_short : (dir path ps : Names) → ps ≡ path → length ps < 3 → IsLeftOver dir path → ⊥
-too_short dir path ps there short is =
-    let whole : ps ≡ codes "store" ∷ name_of (numbers is.target) ∷ is.below.0 ∷ is.below.1 = there ∙ is.below.2 in
-    omega (arith, short, ap length whole)
-
 -- ---- removals, one after another
-
-removes_joined : (dir : Names) (a b c : History) → RemovesOthers dir a b → RemovesOthers dir b c → RemovesOthers dir a c
-removes_joined dir a b c one two = record { touches = goes_joined (IsAtOrSync (IsInOther dir)) a b c one.touches two.touches }
-
-puts_removes : {E : Type 0} (dir path : Names) (r : Result Unit E) (old new : History) → IsInOther dir path → Puts path None r old new → RemovesOthers dir old new
-puts_removes dir path (Ok done) old new other is = record { touches = goes_one (IsAtOrSync (IsInOther dir)) old new (replaced path None) is other }
-puts_removes dir path (Err e) old new other (inl is) = record { touches = goes_none (IsAtOrSync (IsInOther dir)) old new is }
-puts_removes dir path (Err e) old new other (inr is) = record { touches = goes_one (IsAtOrSync (IsInOther dir)) old new (replaced path None) is other }
 
 -- Nothing is removed yet.
 pub none_removed : (dir : Names) (a : Option History) → Moves a a (RemovesAll dir [])
@@ -133,18 +119,6 @@ one_stays dir paths i path a b within here other so_far =
     subst (λ ps. Moves a b (RemovesAll dir ps)) (sym (taken paths i path within here))
     (moves_map (λ old new is. record { touches = is.touches; gone = all_push (λ q. IsLeftOver dir q → node_at (tree_of new) q ≡ None) (take i paths) path is.gone (λ left. absurd (other left)); fewer = is.fewer }) so_far)
 
--- All paths are gone over.
-pub all_removed : (dir : Names) (paths : List Names) (i : ℕ) (a b : Option History) → length paths ≤ i → Moves a b (RemovesAll dir (take i paths)) → Moves a b (RemovesAll dir paths)
-all_removed dir paths i a b all so_far = subst (λ ps. Moves a b (RemovesAll dir ps)) (take_all i paths all) so_far
-
-pub some_removed : (dir : Names) (paths : List Names) (a b : Option History) → Moves a b (RemovesAll dir paths) → Moves a b (RemovesOthers dir)
-some_removed dir paths a b m = moves_map (λ old new is. record { touches = is.touches }) m
-
--- One removal fails.
-pub then_fails : (dir : Names) (paths : List Names) (path : Names) (e : Failure) (a b c : Option History) → IsLeftOver dir path → Moves a b (RemovesAll dir paths) → Moves b c (Puts path None (Err e)) → Moves a c (RemovesOthers dir)
-then_fails dir paths path e a b c is so_far m =
-    moves_then (λ old mid new one two. removes_joined dir old mid new (record { touches = one.touches }) (puts_removes dir path (Err e) mid new (left_over_other dir path is) two)) so_far m
-
 -- ---- how many
 
 many_push : (P : Names → Type 0) (ps : List Names) (n : ℕ) (p : Names) → P p → SoMany P ps n → SoMany P (ps ++ p ∷ []) (n + 1)
@@ -162,9 +136,6 @@ one_more P paths i n p within here is so_far = subst (λ ps. SoMany P ps (n + 1)
 
 pub no_more : (P : Names → Type 0) (paths : List Names) (i n : ℕ) (p : Names) → i < length paths → p ≡ get_or paths i p → (P p → ⊥) → SoMany P (take i paths) n → SoMany P (take (i + 1) paths) n
 no_more P paths i n p within here not so_far = subst (λ ps. SoMany P ps n) (sym (taken paths i p within here)) (many_skip P (take i paths) n p not so_far)
-
-pub in_all : (P : Names → Type 0) (paths : List Names) (i n : ℕ) → length paths ≤ i → SoMany P (take i paths) n → SoMany P paths n
-in_all P paths i n all so_far = subst (λ ps. SoMany P ps n) (take_all i paths all) so_far
 
 -- ---- the store
 
@@ -309,9 +280,6 @@ unmoved x h none links = record {
   no_store = λ is. (none (not_error x NoStore is), refl);
   bad_link = λ path is. (links path (not_error x (BadLink path) is), refl);
 }
-
-pub prune_nowhere : (a b : Option History) → WhereTold a (λ h. Resolves (tree_of h) nowhere) → b ≡ a → Moves a b (Prunes (Err NoStore))
-prune_nowhere a b led same = moves_map (λ old new both. subst (λ h. Prunes (Err NoStore) old h) (sym both.1) (unmoved NoStore old (λ e. both.0) (λ path e. cc))) (moves_where led (moves_same {R = λ s t. t ≡ s} same (λ s. refl)))
 
 pub prune_no_links : (e : LinkError) (a b : Option History) → ((path : Names) → e ≡ links.BadLink path → WhereTold a (λ h. Resolves (tree_of h) (bad path))) → b ≡ a → Moves a b (Prunes (Err (of_link e)))
 prune_no_links links.Failed a b told same = moves_same same (λ h. unmoved Failed h (λ e. cc) (λ path e. cc))

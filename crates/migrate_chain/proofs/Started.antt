@@ -1,6 +1,6 @@
 -- A store is found, and its journal carried out.
 use Rattle.std.proofs.Common.{◌≡◌, inl, inr, ℕ, Bool, true, false, is_some, Option, Some, None, Result, Ok, Err, refl, sym, ◌∙◌, ap, subst}
-use Rattle.std.specs.Prelude.{IsErrAnd, IfErr}
+use Rattle.std.specs.Prelude.{IsErrAnd}
 use Rattle.std.proofs.lemmas.Result.{err_from_is_err_and}
 use Rattle.outside.specs.Names.{Names}
 use Rattle.outside.specs.Tree.{Tree, Node, file, link, node_at, file_in, link_in}
@@ -16,10 +16,10 @@ use Rattle.commit_journal.specs.Recovery.{FromSyncOn, Recovers}
 use Rattle.commit_journal.specs.declared.journal_error.JournalError.{JournalError}
 use Rattle.commit_journal.specs.declared.journal_error.JournalError.TheVariants as broken
 use Rattle.settings_tree.specs.declared.held.Held.{Held}
-use Rattle.store_files.specs.Stands.{Stands}
-use Rattle.store_files.specs.Damage.{IsFaultBelow}
-use Rattle.store_files.proofs.Alike.{stands_without_journal}
-use Rattle.store_files.proofs.Meaning.{one_meaning}
+use Rattle.fs_datastore.specs.Stands.{Stands}
+use Rattle.fs_datastore.specs.Damage.{IsFaultBelow}
+use Rattle.fs_datastore.proofs.Alike.{stands_without_journal}
+use Rattle.fs_datastore.proofs.Meaning.{one_meaning}
 use Rattle.fs_datastore.specs.declared.load_error.LoadError.{LoadError}
 use Rattle.fs_datastore.specs.declared.load_error.LoadError.TheVariants as files
 use Rattle.version_links.specs.declared.version.Version.{Version}
@@ -57,9 +57,6 @@ stays_put x h none links journal damage no_plan = record {
   damaged = λ path is. damage path (same_error x (Damaged path) is);
   no_plan = λ at target is. no_plan at target (same_error x (Missing at target) is);
 }
-
-pub start_nowhere : (a b : Option History) → WhereTold a (λ h. Resolves (tree_of h) nowhere) → b ≡ a → Moves a b (Starts (Err NoStore))
-start_nowhere a b led same = moves_map (λ old new both. subst (λ h. Starts (Err NoStore) old h) (sym both.1) (stays_put NoStore old (λ e. both.0) (λ path e. cc) (λ path e. cc) (λ path e. cc) (λ at target e. cc))) (moves_where led (moves_same {R = λ s t. t ≡ s} same (λ s. refl)))
 
 pub start_no_links : (e : LinkError) (a b : Option History) → ((path : Names) → e ≡ links.BadLink path → WhereTold a (λ h. Resolves (tree_of h) (bad path))) → b ≡ a → Moves a b (Starts (Err (of_link e)))
 start_no_links links.Failed a b told same = moves_same same (λ h. stays_put Failed h (λ e. cc) (λ path e. cc) (λ path e. cc) (λ path e. cc) (λ at target e. cc))
@@ -261,32 +258,19 @@ start_read place was held format a b c d led same m stands kept =
 pub error_is : {T E : Type 0} (r : Result T E) (e : E) → IsErrAnd r (λ x. x ≡ e) → r ≡ Err e
 error_is r e is = let p = err_from_is_err_and r is in p.1 ∙ ap Err p.2
 
--- ---- no error is a refusal of the mapper
+-- ---- no error is a refusal of a migration
 
-quiet : (r : Result Start MoveError) (e : MoveError) → IsErrAnd r (λ x. x ≡ e) → (IsRefusal e → ⊥) → IfErr r (λ x. IsRefusal x → ⊥)
-quiet (Ok v) e is no_refusal = tt
-quiet (Err x) e is no_refusal = λ refusal. no_refusal (subst IsRefusal is refusal)
-
-link_quiet : (e : LinkError) → IsRefusal (of_link e) → ⊥
+pub link_quiet : (e : LinkError) → IsRefusal (of_link e) → ⊥
 link_quiet links.Failed refusal = refusal
 link_quiet (links.BadLink p) refusal = refusal
 link_quiet links.Memory refusal = refusal
 
-journal_quiet : (e : JournalError) → IsRefusal (of_journal e) → ⊥
+pub journal_quiet : (e : JournalError) → IsRefusal (of_journal e) → ⊥
 journal_quiet broken.Failed refusal = refusal
 journal_quiet (broken.BadJournal p) refusal = refusal
 journal_quiet broken.Memory refusal = refusal
 
-load_quiet : (e : LoadError) → IsRefusal (of_load e) → ⊥
+pub load_quiet : (e : LoadError) → IsRefusal (of_load e) → ⊥
 load_quiet files.Failed refusal = refusal
 load_quiet (files.Damaged p) refusal = refusal
 load_quiet files.Memory refusal = refusal
-
-pub quiet_links : (r : Result Start MoveError) (e : LinkError) → IsErrAnd r (λ x. x ≡ of_link e) → IfErr r (λ x. IsRefusal x → ⊥)
-quiet_links r e is = quiet r (of_link e) is (link_quiet e)
-
-pub quiet_journal : (r : Result Start MoveError) (e : JournalError) → IsErrAnd r (λ x. x ≡ of_journal e) → IfErr r (λ x. IsRefusal x → ⊥)
-quiet_journal r e is = quiet r (of_journal e) is (journal_quiet e)
-
-pub quiet_load : (r : Result Start MoveError) (e : LoadError) → IsErrAnd r (λ x. x ≡ of_load e) → IfErr r (λ x. IsRefusal x → ⊥)
-quiet_load r e is = quiet r (of_load e) is (load_quiet e)

@@ -9,8 +9,8 @@ use Rattle.outside.proofs.Goes.{since_goes, may_leave_untouched, tree_untouched,
 use Rattle.outside.proofs.Since.{since_map, since_both}
 use Rattle.commit_journal.specs.Files.{files_below, IsBelow}
 use Rattle.settings_tree.specs.declared.held.Held.{Held}
-use Rattle.store_files.specs.Stands.{Stands}
-use Rattle.store_files.proofs.Alike.{stand_alike, stands_without_journal}
+use Rattle.fs_datastore.specs.Stands.{Stands}
+use Rattle.fs_datastore.proofs.Alike.{stand_alike, stands_without_journal}
 use Rattle.version_links.specs.declared.chain.Place.{Place}
 use Rattle.version_links.specs.Names.{Target, directory, name_of, numbers, store, is_in_store}
 use Rattle.version_links.specs.Chain.{Resolves}

@@ -1,4 +1,4 @@
--- When a mapper may be said to have failed.
+-- When the spawner may be said to have failed.
 use Rattle.std.specs.Prelude.{◌≡◌, ◌≤◌, ℕ, List, Result, OnOk, IsErr, IsErrOf}
 use Rattle.outside.specs.Faults.{Rose}
 

@@ -3,7 +3,7 @@ use Rattle.std.specs.Prelude.{◌≡◌, Result, IfOk}
 use Rattle.outside.specs.History.{History, tree_of, IsSettled}
 use Rattle.commit_journal.specs.Files.{files_below}
 use Rattle.settings_tree.specs.declared.held.Held.{Held}
-use Rattle.store_files.specs.Stands.{Stands}
+use Rattle.fs_datastore.specs.Stands.{Stands}
 use Rattle.version_links.specs.declared.version.Version.{Version}
 use Rattle.version_links.specs.Names.{Target, directory}
 use Rattle.version_links.specs.Fresh.{IsFirstFree}

@@ -10,8 +10,8 @@ use Rattle.fs_datastore.specs.declared.load_error.LoadError.{LoadError}
 use Rattle.fs_datastore.specs.declared.load_error.LoadError.TheVariants as files
 use Rattle.release_file.specs.declared.plan_error.PlanError.{PlanError}
 use Rattle.release_file.specs.declared.plan_error.PlanError.TheVariants as plan
-use Rattle.migrate_chain.specs.declared.mapper_error.MapperError.{MapperError}
-use Rattle.migrate_chain.specs.declared.mapper_error.MapperError.TheVariants as mapper
+use Rattle.migrate_chain.specs.declared.task_error.TaskError.{TaskError}
+use Rattle.migrate_chain.specs.declared.task_error.TaskError.TheVariants as unmade
 use Rattle.migrate_chain.specs.declared.move_error.MoveError.{MoveError}
 use Rattle.migrate_chain.specs.declared.move_error.MoveError.TheVariants as told
 
@@ -38,13 +38,13 @@ abbrev pub of_plan : PlanError → MoveError
 of_plan (plan.Missing at target) = told.Missing at target
 of_plan plan.Memory = told.Memory
 
--- So is one of the mapper, but for its failure, which is `Spawn`.
-abbrev pub of_mapper : MapperError → MoveError
-of_mapper (mapper.Conflict key) = told.Conflict key
-of_mapper (mapper.Status name number) = told.Status name number
-of_mapper (mapper.BadAnswer name) = told.BadAnswer name
-of_mapper (mapper.Failed name) = told.Spawn name
-of_mapper mapper.Memory = told.Memory
+-- So is one of a migration, but for a failure of the spawner, which is `Spawn`.
+abbrev pub of_task : TaskError → MoveError
+of_task (unmade.Conflict key) = told.Conflict key
+of_task (unmade.Status name number) = told.Status name number
+of_task (unmade.BadAnswer name) = told.BadAnswer name
+of_task (unmade.Failed name) = told.Spawn name
+of_task unmade.Memory = told.Memory
 
 -- So is one of the disk.
 abbrev pub of_disk : DiskErr → MoveError

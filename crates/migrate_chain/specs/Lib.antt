@@ -1,4 +1,6 @@
 pub mod Tasks
+pub mod Spelling
+pub mod Asking
 pub mod Errors
 pub mod Causes
 pub mod Store
@@ -6,6 +8,8 @@ pub mod Copying
 pub mod Moving
 pub mod Starting
 pub mod Migrating
+pub mod ByPrograms
+pub mod Carrying
 pub mod PruneErrors
 pub mod PruningSteps
 pub mod Pruning

@@ -34,7 +34,7 @@ pub record IsThere (place : Place) (held : Held) (format : ℕ) (to : Version) (
   pub format_is : format ≡ 2
   pub store : HasStore place held format tree
 
--- What the mapper did for a move that met this error: nothing, or a part of the way's tasks, the first of them on what was held. A refusal is that of
+-- What was done for a move that met this error: nothing, or a part of the way's tasks, the first of them on what was held. A refusal is that of
 -- the next task, and the one that was noted.
 pub record HasEnded (place : Place) (held : Held) (to : Version) (transitions : List Transition) (migrations : List Named)
     (before after : Option (List Mapped)) (refused_before refused_after : Option (List Refused)) (error : MoveError) : Type 0 where
@@ -60,19 +60,19 @@ pub record Migrates (to : Version) (transitions : List Transition) (migrations :
       → IsSettled new × (IsThere place held format to (tree_of new) ⊎ HasMigrated place held to transitions migrations before after (tree_of new)))
   -- The answer is the version that it had, and the place to which the links lead now.
   pub answer : IfOk result (λ moved. (place : Place) (held : Held) (format : ℕ) → HasStore place held format (tree_of old) → IsAnswer moved place.version to (tree_of new))
-  -- Ok comes only where a store was, and so do no plan and what the mapper answers.
+  -- Ok comes only where a store was, and so do no plan and the refusals of migrations.
   pub found : OnOk result (HasSome (tree_of old))
   pub found_first : IfErr result (λ e. IsBehind e → HasSome (tree_of old))
   -- Where it is at the version in format 2, only its journal is carried out.
   pub stays : (place : Place) (held : Held) → HasStore place held 2 (tree_of old) → place.version ≡ to → FromSyncOn (Touches (IsBelow place.directory)) old new
   -- And so at every moment the store is as it was.
   pub still : (place : Place) (held : Held) → IsSettled old → HasStore place held 2 (tree_of old) → place.version ≡ to → EachSince (HasStore place held 2) old new
-  -- After Ok the mapper has refused nothing.
+  -- After Ok nothing was refused.
   pub not_refused : OnOk result (refused_after ≡ refused_before)
   -- After every error but a failure of the disk it is as it was, at every moment.
   pub kept : IfErr result (λ e. e ≢ Failed → (place : Place) (held : Held) (format : ℕ) → IsSettled old → HasStore place held format (tree_of old)
       → EachSince (HasStore place held format) old new)
-  -- Whatever error is met, the mapper carried out the tasks of the way from the first on, up to the one that it refused.
+  -- Whatever error is met, the tasks of the way were carried out from the first on, up to the one that was refused.
   pub ended : IfErr result (λ e. (place : Place) (held : Held) (format : ℕ) → HasStore place held format (tree_of old)
       → HasEnded place held to transitions migrations before after refused_before refused_after e)
   -- Nothing is changed outside the folder `store`, and nothing at all where no store or a bad link is.

@@ -8,17 +8,17 @@ use Rattle.outside.specs.declared.disk_error.DiskErr.{DiskErr}
 use Rattle.outside.specs.declared.disk_error.Failed.{Failed as Failure}
 use Rattle.commit_journal.specs.Files.{files_below, IsBelow}
 use Rattle.settings_tree.specs.declared.held.Held.{Held}
-use Rattle.store_files.specs.Stands.{Stands}
+use Rattle.fs_datastore.specs.Stands.{Stands}
 use Rattle.version_links.specs.declared.version.Version.{Version}
 use Rattle.version_links.specs.Names.{Target, directory}
 use Rattle.version_links.specs.Chain.{found, Resolves}
 use Rattle.version_links.specs.Flip.{Flips}
 use Rattle.migrate_chain.specs.Store.{HasStore, at_place, place_of, owing_all}
 use Rattle.migrate_chain.specs.Tasks.{Task, Mapped, Refused, Refuses, AreDone, refusals_of, with_more}
-use Rattle.migrate_chain.specs.Errors.{of_disk, of_mapper, of_failure}
+use Rattle.migrate_chain.specs.Errors.{of_disk, of_task, of_failure}
 use Rattle.migrate_chain.specs.declared.start.Start.{Start}
 use Rattle.migrate_chain.specs.declared.moving.Moved.{Moved}
-use Rattle.migrate_chain.specs.declared.mapper_error.MapperError.{MapperError}
+use Rattle.migrate_chain.specs.declared.task_error.TaskError.{TaskError}
 use Rattle.migrate_chain.specs.declared.move_error.MoveError.{MoveError}
 use Rattle.migrate_chain.specs.declared.move_error.MoveError.TheVariants.{NoStore, BadLink, BadJournal, Damaged, Missing, Conflict, Status, BadAnswer, Spawn, Failed, Memory}
 
@@ -38,7 +38,7 @@ pub record IsPartly (tasks : List Task) (held : Held) (before after : Option (Li
 
 -- The tasks were carried out up to one that met this error, which is noted where it is a refusal.
 pub record IsStopped (tasks : List Task) (held : Held) (before after : Option (List Mapped))
-    (refused_before refused_after : Option (List Refused)) (error : MapperError) : Type 0 where
+    (refused_before refused_after : Option (List Refused)) (error : TaskError) : Type 0 where
   pub first : List Task
   pub task : Task
   pub left : List Task
@@ -48,13 +48,13 @@ pub record IsStopped (tasks : List Task) (held : Held) (before after : Option (L
   pub noted : refused_after ≡ with_more refused_before (refusals_of task reached error)
   pub refused : Refuses task reached error
 
--- The mapper stopped at a task, or the disk behind some of them.
+-- A task was refused, or the disk failed behind some of them.
 abbrev pub EndsEarly : List Task → Held → Option (List Mapped) → Option (List Mapped) → Option (List Refused) → Option (List Refused) → MoveError → Type 0
 EndsEarly tasks held before after refused_before refused_after error =
     ((e : DiskErr) × (error ≡ of_disk e) × IsPartly tasks held before after × (refused_after ≡ refused_before))
-    ⊎ ((e : MapperError) × (error ≡ of_mapper e) × IsStopped tasks held before after refused_before refused_after e)
+    ⊎ ((e : TaskError) × (error ≡ of_task e) × IsStopped tasks held before after refused_before refused_after e)
 
--- The mapper or the disk stopped at a task or between, or all tasks were carried out and the disk failed or memory was wanting.
+-- A task was refused, or the disk failed behind some of them, or all were carried out and the disk failed or memory was wanting.
 abbrev pub Ends : List Task → Held → Option (List Mapped) → Option (List Mapped) → Option (List Refused) → Option (List Refused) → MoveError → Type 0
 Ends tasks held before after refused_before refused_after error =
     EndsEarly tasks held before after refused_before refused_after error
@@ -74,7 +74,7 @@ is_early (Spawn name) = false
 is_early Failed = false
 is_early Memory = false
 
--- The error comes behind the reading of the store: no plan, or a refusal of the mapper, or its failure.
+-- The error comes behind the reading of the store: no plan, or a refusal of a migration, or a program that could not be asked.
 abbrev pub IsBehind : MoveError → Type 0
 IsBehind NoStore = ⊥
 IsBehind (BadLink path) = ⊥
@@ -88,7 +88,7 @@ IsBehind (Spawn name) = Unit {0}
 IsBehind Failed = ⊥
 IsBehind Memory = ⊥
 
--- The error is a refusal of the mapper, or its failure.
+-- The error is a refusal of a migration, or a program could not be asked.
 abbrev pub IsRefusal : MoveError → Type 0
 IsRefusal NoStore = ⊥
 IsRefusal (BadLink path) = ⊥
@@ -101,10 +101,6 @@ IsRefusal (BadAnswer name) = Unit {0}
 IsRefusal (Spawn name) = Unit {0}
 IsRefusal Failed = ⊥
 IsRefusal Memory = ⊥
-
--- Between two states of a mapper: it carried out migrations alone, and the error is not of its making; or it stopped at one that met the error.
-abbrev pub StopsBy : {M : Type 0} → (M → M → Type 0) → (MapperError → M → M → Type 0) → M → M → MoveError → Type 0
-StopsBy carries stops m m' error = ((IsRefusal error → ⊥) × carries m m') ⊎ ((e : MapperError) × (error ≡ of_mapper e) × stops e m m')
 
 -- A data directory of the version stands for what is held, and is on the disk.
 pub record IsSaved (version : Version) (held : Held) (target : Target) (old new : History) : Type 0 where

@@ -7,8 +7,8 @@ use Rattle.commit_journal.specs.Files.{files_below, IsBelow}
 use Rattle.commit_journal.specs.Stands.{journal}
 use Rattle.commit_journal.specs.Recovery.{FromSyncOn, IsBad}
 use Rattle.settings_tree.specs.declared.held.Held.{Held}
-use Rattle.store_files.specs.Stands.{Stands}
-use Rattle.store_files.specs.Damage.{IsFaultBelow}
+use Rattle.fs_datastore.specs.Stands.{Stands}
+use Rattle.fs_datastore.specs.Damage.{IsFaultBelow}
 use Rattle.version_links.specs.declared.version.Version.{Version}
 use Rattle.version_links.specs.declared.chain.Place.{Place}
 use Rattle.version_links.specs.Chain.{nowhere, bad, Resolves}

@@ -8,7 +8,7 @@ use Rattle.commit_journal.specs.Files.{Files, IsBelow}
 use Rattle.commit_journal.specs.Stands.{TreeStandsFor}
 use Rattle.settings_tree.specs.declared.held.Held.{Held}
 use Rattle.settings_tree.specs.declared.entry.Owed.TheVariants.{All}
-use Rattle.store_files.specs.Stands.{Stands}
+use Rattle.fs_datastore.specs.Stands.{Stands}
 use Rattle.version_links.specs.Names.{Target, IsTarget, directory}
 use Rattle.version_links.specs.Chain.{Outcome, found, Resolves}
 use Rattle.version_links.specs.declared.chain.Place.{Place}

@@ -8,8 +8,8 @@ use Rattle.release_file.specs.declared.work.Work.{Work}
 use Rattle.release_file.specs.declared.work.Work.TheVariants.{Plain, Program}
 use Rattle.release_file.specs.declared.work.Named.{Named}
 use Rattle.release_file.specs.declared.transition.Transition.{Transition}
-use Rattle.migrate_chain.specs.declared.mapper_error.MapperError.{MapperError}
-use Rattle.migrate_chain.specs.declared.mapper_error.MapperError.TheVariants.{Conflict, Status, BadAnswer, Failed, Memory}
+use Rattle.migrate_chain.specs.declared.task_error.TaskError.{TaskError}
+use Rattle.migrate_chain.specs.declared.task_error.TaskError.TheVariants.{Conflict, Status, BadAnswer, Failed, Memory}
 use Rattle.release_file.specs.Release.{work_of}
 
 -- What a migration does: a mapping forward and one back, or a program.
@@ -45,7 +45,7 @@ abbrev pub Makes : Task → Held → Held → Type 0
 Makes task held made = MakesBy task.deed task.back held made
 
 -- What a mapping may be refused for: the conflict of its function, or want of memory.
-abbrev pub RefusesStep : Step → Held → MapperError → Type 0
+abbrev pub RefusesStep : Step → Held → TaskError → Type 0
 RefusesStep step held (Conflict key) = after_step step held ≡ Err (map_error.Conflict key)
 RefusesStep step held (Status name number) = ⊥
 RefusesStep step held (BadAnswer name) = ⊥
@@ -53,12 +53,12 @@ RefusesStep step held (Failed name) = ⊥
 RefusesStep step held Memory = ⊤
 
 -- What may be refused of an input; a program may be refused for anything.
-abbrev pub RefusesBy : Deed → Bool → Held → MapperError → Type 0
+abbrev pub RefusesBy : Deed → Bool → Held → TaskError → Type 0
 RefusesBy (mapping forward backward) back held error = RefusesStep (step_in forward backward back) held error
 RefusesBy (program words) back held error = ⊤
 
 -- What a task may be refused for.
-abbrev pub Refuses : Task → Held → MapperError → Type 0
+abbrev pub Refuses : Task → Held → TaskError → Type 0
 Refuses task held error = RefusesBy task.deed task.back held error
 
 -- A task that was carried out.
@@ -71,14 +71,14 @@ pub record Mapped : Type 0 where
 pub record Refused : Type 0 where
   pub task : Task
   pub input : Held
-  pub refusal : MapperError
+  pub refusal : TaskError
 
--- A list that a mapper keeps, with more behind it; one that keeps none tells none.
+-- A list, where one is kept, with more behind it.
 abbrev pub with_more : {T : Type 0} → Option (List T) → List T → Option (List T)
 with_more log more = option_map (λ entries. entries ++ more) log
 
 -- What is noted of an error: a refusal is, and a failure and want of memory are not.
-abbrev pub refusals_of : Task → Held → MapperError → List Refused
+abbrev pub refusals_of : Task → Held → TaskError → List Refused
 refusals_of task held (Conflict key) = record { task = task; input = held; refusal = Conflict key } ∷ []
 refusals_of task held (Status name number) = record { task = task; input = held; refusal = Status name number } ∷ []
 refusals_of task held (BadAnswer name) = record { task = task; input = held; refusal = BadAnswer name } ∷ []
@@ -86,7 +86,7 @@ refusals_of task held (Failed name) = []
 refusals_of task held Memory = []
 
 -- The error has the name of the migration, if it has one.
-abbrev pub Names : List ℕ → MapperError → Type 0
+abbrev pub Names : List ℕ → TaskError → Type 0
 Names name (Conflict key) = ⊤
 Names name (Status at number) = at ≡ name
 Names name (BadAnswer at) = at ≡ name

@@ -1,17 +1,17 @@
 //! The migrations of a step are carried out.
-ghost use Rattle.std.specs.Prelude.{◌≡◌, ℕ, ◌<◌, length, slice_get, Some, IsTrue, IfErr, IsErrOf, OnOk};
-ghost use Rattle.std.specs.List.{list_all};
-ghost use Rattle.migrate_chain.specs.Causes.{HasNamedCause};
-ghost use Rattle.migrate_helpers.specs.Kept.{Kept};
+ghost use Rattle.std.specs.Prelude.{◌≡◌, ◌<◌, length, slice_get, Some, IsTrue, IfErr, OnOk};
 ghost use Rattle.release_file.specs.Release.{is_known, names_known, work_of};
+ghost use Rattle.migrate_chain.specs.Causes.{HasNamedCause};
 ghost use Rattle.migrate_chain.specs.Tasks.{names_in_order, tasks_in};
-ghost use Rattle.migrate_chain.specs.Moving.{IsCarried, IsStopped};
+ghost use Rattle.migrate_chain.specs.Carrying.{IsDone, StopsAt};
 
-use crate::mapper::Mapper;
-use crate::mapper_error::MapperError;
+use crate::asking::make;
+use crate::task_error::TaskError;
 use key_names::Text;
+use outside::Asker;
 use release_file::{Named, Transition, Work};
 use settings_tree::Held;
+use std::alloc::Global;
 use std::mem;
 
 // The name of this index, from the front or from the end.
@@ -42,26 +42,24 @@ fn work_named<'a>(migrations: &'a [Named], name: &Text) -> &'a Work
 }
 
 /// Carries out the migrations of a step on what is held: in their order, and on the way back in reverse order.
-pub(crate) fn carry_out<M: Mapper>(
-    mapper: &mut M,
+pub(crate) fn carry_out<S: Asker>(
+    alloc: Global,
+    spawner: &mut S,
     migrations: &[Named],
     transition: &Transition,
     back: bool,
     held: &mut Held,
-) -> Result<(), MapperError>
+) -> Result<(), TaskError>
     requires { IsTrue (names_known migrations.now transition.now) }
-    ensures carried { OnOk result (IsCarried (tasks_in migrations.now back transition.now) held.old (M.mapped mapper.old) (M.mapped mapper.new) held.new) }
-    ensures not_refused { OnOk result (M.refused mapper.new ≡ M.refused mapper.old) }
-    ensures stopped { IfErr result (IsStopped (tasks_in migrations.now back transition.now) held.old
-        (M.mapped mapper.old) (M.mapped mapper.new) (M.refused mapper.old) (M.refused mapper.new)) }
-    ensures carries { OnOk result (M.carries mapper.old mapper.new) }
-    ensures stops { IfErr result (λ e. M.stops e mapper.old mapper.new) }
-    ensures cause { HasNamedCause (λ name. MapperError.Failed name) (M.faults mapper.old) (M.faults mapper.new) result }
+    ensures carried { OnOk result (IsDone (tasks_in migrations.now back transition.now) held.old held.new (S.asked spawner.old) (S.asked spawner.new)) }
+    ensures stopped { IfErr result (StopsAt (tasks_in migrations.now back transition.now) held.old (S.asked spawner.old) (S.asked spawner.new)) }
+    ensures ran { S.runs spawner.new ≡ S.runs spawner.old }
+    ensures cause { HasNamedCause (λ name. TaskError.Failed name) (S.faults spawner.old) (S.faults spawner.new) result }
 {
     for index in 0..transition.names.len() {
         let name = name_at(&transition.names, back, index);
         let work = work_named(migrations, name);
-        let made = mapper.map(name, work, back, held)?;
+        let made = make(alloc, spawner, name, work, back, held)?;
         drop(mem::replace(held, made));
     }
     Ok(())

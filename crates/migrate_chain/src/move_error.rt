@@ -1,6 +1,6 @@
 //! Why a store was not moved to another version.
 
-use crate::mapper_error::MapperError;
+use crate::task_error::TaskError;
 use commit_journal::JournalError;
 use fs_datastore::LoadError;
 use key_names::{Key, Text};
@@ -62,7 +62,7 @@ pub enum MoveError {
         /// The name of the migration.
         name: Text,
     },
-    /// A program could not be asked: the mapper's count of faults rose.
+    /// A program could not be asked: the spawner's count of faults rose.
     #[error("a program of a migration could not be asked")]
     Spawn {
         /// The name of the migration.
@@ -135,19 +135,19 @@ impl From<PlanError> for MoveError {
     }
 }
 
-impl From<MapperError> for MoveError {
+impl From<TaskError> for MoveError {
     ghost use Rattle.std.specs.Prelude.{◌≡◌};
-    ghost use Rattle.migrate_chain.specs.Errors.{of_mapper};
+    ghost use Rattle.migrate_chain.specs.Errors.{of_task};
 
-    ghost from_gives = { λ x e. e ≡ of_mapper x };
+    ghost from_gives = { λ x e. e ≡ of_task x };
 
-    fn from(error: MapperError) -> Self {
+    fn from(error: TaskError) -> Self {
         match error {
-            MapperError::Conflict { key } => MoveError::Conflict { key },
-            MapperError::Status { name, number } => MoveError::Status { name, number },
-            MapperError::BadAnswer { name } => MoveError::BadAnswer { name },
-            MapperError::Failed { name } => MoveError::Spawn { name },
-            MapperError::Memory => MoveError::Memory,
+            TaskError::Conflict { key } => MoveError::Conflict { key },
+            TaskError::Status { name, number } => MoveError::Status { name, number },
+            TaskError::BadAnswer { name } => MoveError::BadAnswer { name },
+            TaskError::Failed { name } => MoveError::Spawn { name },
+            TaskError::Memory => MoveError::Memory,
         }
     }
 }

@@ -1,24 +1,24 @@
 //! A store is moved to another version.
-ghost use Rattle.std.specs.Prelude.{◌≡◌, ℕ, List, IsTrue, Ok, IfOk, IfErr, OnOk, map};
+ghost use Rattle.std.specs.Prelude.{◌≡◌, IsTrue, Ok, IfOk, IfErr, OnOk, map};
 ghost use Rattle.std.specs.List.{list_all};
 ghost use Rattle.outside.specs.Told.{Moves};
 ghost use Rattle.outside.specs.Faults.{HasCauseOf};
-ghost use Rattle.migrate_chain.specs.Causes.{HasNamedCause};
-ghost use Rattle.settings_tree.specs.declared.held.Held.{Held as World};
-ghost use Rattle.release_file.specs.Release.{names_known};
-ghost use Rattle.migrate_chain.specs.Tasks.{tasks_of};
-ghost use Rattle.migrate_chain.specs.Store.{owing_all, TouchesOthers};
-ghost use Rattle.migrate_chain.specs.Moving.{IsCarried, EndsEarly, Ends, IsSaved, FallsShort, MovesAlong, StopsBy};
 ghost use Rattle.outside.specs.declared.disk_error.Failed.{Failed as Failure};
+ghost use Rattle.settings_tree.specs.declared.held.Held.{Held as World};
 ghost use Rattle.version_links.specs.Names.{directory};
 ghost use Rattle.version_links.specs.Flip.{Flips};
+ghost use Rattle.release_file.specs.Release.{names_known};
+ghost use Rattle.migrate_chain.specs.Causes.{HasNamedCause};
+ghost use Rattle.migrate_chain.specs.Tasks.{tasks_of};
+ghost use Rattle.migrate_chain.specs.Store.{owing_all, TouchesOthers};
+ghost use Rattle.migrate_chain.specs.Moving.{IsSaved, FallsShort};
+ghost use Rattle.migrate_chain.specs.Carrying.{IsDone, StopsEarly, MovesBy};
 
 use crate::carrying::carry_out;
 use crate::copying::copy_owing_all;
-use crate::mapper::Mapper;
 use crate::move_error::MoveError;
 use crate::start::Start;
-use outside::{Disk, DiskErr, Path};
+use outside::{Asker, Disk, DiskErr, Path};
 use release_file::{Named, Transition};
 use settings_tree::Held;
 use std::alloc::Global;
@@ -60,10 +60,10 @@ fn copy_reached<D: Disk>(
 
 // Carries out the migrations of the steps, and saves what they make as the last version, and what is reached on the way
 // as the versions between.
-fn copy_along<D: Disk, M: Mapper>(
+fn copy_along<D: Disk, S: Asker>(
     alloc: Global,
     disk: &mut D,
-    mapper: &mut M,
+    spawner: &mut S,
     migrations: &[Named],
     way: &[&Transition],
     back: bool,
@@ -72,22 +72,19 @@ fn copy_along<D: Disk, M: Mapper>(
 ) -> Result<Names, MoveError>
     requires { IsTrue (list_all (names_known migrations.now) (map (λ t. t.now) way.now)) }
     ensures others { Moves (D.told disk.old) (D.told disk.new) TouchesOthers }
-    ensures copied { IfOk result (λ target. (made : World) × IsCarried (tasks_of migrations.now back (map (λ t. t.now) way.now)) held.old
-        (M.mapped mapper.old) (M.mapped mapper.new) made
+    ensures copied { IfOk result (λ target. (made : World)
+        × IsDone (tasks_of migrations.now back (map (λ t. t.now) way.now)) held.old made (S.asked spawner.old) (S.asked spawner.new)
         × Moves (D.told disk.old) (D.told disk.new) (IsSaved to.now (owing_all made) target)) }
-    ensures not_refused { OnOk result (M.refused mapper.new ≡ M.refused mapper.old) }
-    ensures ends_early { IfErr result (EndsEarly (tasks_of migrations.now back (map (λ t. t.now) way.now)) held.old
-        (M.mapped mapper.old) (M.mapped mapper.new) (M.refused mapper.old) (M.refused mapper.new)) }
-    ensures carries { OnOk result (M.carries mapper.old mapper.new) }
-    ensures stopped { IfErr result (StopsBy M.carries M.stops mapper.old mapper.new) }
+    ensures stopped { IfErr result (StopsEarly (tasks_of migrations.now back (map (λ t. t.now) way.now)) held.old (S.asked spawner.old) (S.asked spawner.new)) }
+    ensures ran { S.runs spawner.new ≡ S.runs spawner.old }
     ensures disk_cause { HasCauseOf MoveError.Failed (D.faults disk.old) (D.faults disk.new) result }
-    ensures mapper_cause { HasNamedCause (λ name. MoveError.Spawn name) (M.faults mapper.old) (M.faults mapper.new) result }
+    ensures spawn_cause { HasNamedCause (λ name. MoveError.Spawn name) (S.faults spawner.old) (S.faults spawner.new) result }
 {
     let mut first = true;
     for transition in way {
         copy_reached(alloc, disk, first, &beginning(back, transition), held)?;
         first = false;
-        carry_out(mapper, migrations, transition, back, held)?;
+        carry_out(alloc, spawner, migrations, transition, back, held)?;
     }
     Ok(copy_owing_all(alloc, disk, to, held)?)
 }
@@ -114,10 +111,10 @@ fn lead_to_copy<D: Disk>(
 }
 
 // Moves the store along these steps. In the start it leaves what they made of what was held.
-pub(crate) fn move_along<D: Disk, M: Mapper>(
+pub(crate) fn move_along<D: Disk, S: Asker>(
     alloc: Global,
     disk: &mut D,
-    mapper: &mut M,
+    spawner: &mut S,
     migrations: &[Named],
     way: &[&Transition],
     back: bool,
@@ -125,20 +122,16 @@ pub(crate) fn move_along<D: Disk, M: Mapper>(
     start: &mut Start,
 ) -> Result<Moved, MoveError>
     requires { IsTrue (list_all (names_known migrations.now) (map (λ t. t.now) way.now)) }
-    ensures moves { Moves (D.told disk.old) (D.told disk.new)
-        (MovesAlong start.old (tasks_of migrations.now back (map (λ t. t.now) way.now)) to.now (M.mapped mapper.old) (M.mapped mapper.new) result) }
-    ensures not_refused { OnOk result (M.refused mapper.new ≡ M.refused mapper.old) }
-    ensures ends { IfErr result (Ends (tasks_of migrations.now back (map (λ t. t.now) way.now)) start.old.held
-        (M.mapped mapper.old) (M.mapped mapper.new) (M.refused mapper.old) (M.refused mapper.new)) }
-    ensures carries { OnOk result (M.carries mapper.old mapper.new) }
-    ensures stopped { IfErr result (StopsBy M.carries M.stops mapper.old mapper.new) }
+    ensures moves { MovesBy start.old (tasks_of migrations.now back (map (λ t. t.now) way.now)) to.now result
+        (D.told disk.old) (D.told disk.new) (S.asked spawner.old) (S.asked spawner.new) }
+    ensures ran { S.runs spawner.new ≡ S.runs spawner.old }
     ensures disk_cause { HasCauseOf MoveError.Failed (D.faults disk.old) (D.faults disk.new) result }
-    ensures mapper_cause { HasNamedCause (λ name. MoveError.Spawn name) (M.faults mapper.old) (M.faults mapper.new) result }
+    ensures spawn_cause { HasNamedCause (λ name. MoveError.Spawn name) (S.faults spawner.old) (S.faults spawner.new) result }
 {
     let copy = copy_along(
         alloc,
         disk,
-        mapper,
+        spawner,
         migrations,
         way,
         back,

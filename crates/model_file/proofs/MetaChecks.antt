@@ -54,10 +54,6 @@ pub begins : (rest : Path) → IsTrue (is_prefix settings_key (codes "settings" 
 begins rest = ap is_eq (tied_itself bytes_total (codes "settings"))
 
 module _ (rows : RowTexts) (entry : Path × Found) where
-  -- The key is one, behind `settings`.
-  pub key_passes : (rest : Path) → meta_key entry ≡ codes "settings" ∷ rest → is_key (codes "settings" ∷ rest) ≡ true → Passes rows (key_checks entry)
-  key_passes rest is key = (subst (λ (k : Path). IsTrue (is_prefix settings_key k)) (sym is) (begins rest), (ap is_key is ∙ key, tt))
-
   -- It begins with another name.
   pub other_refuses : (e : Refusal) → is_prefix settings_key (meta_key entry) ≡ false → IsAt BadMetadata (codes "metadata" ∷ entry.0) e → Refuses rows (key_checks entry) e
   other_refuses e other at = refuses_first rows (test (is_prefix settings_key (meta_key entry)) BadMetadata (codes "metadata" ∷ entry.0)) (test (is_key (meta_key entry)) BadKey (codes "metadata" ∷ entry.0) ∷ []) e (λ is. both_ways (is_prefix settings_key (meta_key entry)) other is) at

@@ -4,7 +4,7 @@ use Rattle.std.proofs.lemmas.Bool.{false≢true}
 use Rattle.std.specs.Ordering.{eq_by_cmp}
 use Rattle.outside.specs.Names.{Names, path_cmp}
 use Rattle.outside.specs.Tree.{Node, node_at, set_node}
-use Rattle.outside.specs.History.{replaced, scribbled, synced, History, begun, next, tree_of, MayLeave, IsImage, EachImage, IsSettledAt, IsSettled}
+use Rattle.outside.specs.History.{replaced, scribbled, synced, History, begun, next, tree_of, MayLeave, IsImage, EachImage, IsSettled}
 use Rattle.outside.proofs.Trees.{path_cases, path_itself, node_at-set_same, node_at-set_other, same_tree}
 
 pub may_leave_now : (h : History) (p : Names) → MayLeave h p (node_at (tree_of h) p)
@@ -28,11 +28,6 @@ settled_image h settled image is = same_tree image (tree_of h) (λ q. settled q 
 
 pub settled_synced : (h : History) → IsSettled (next synced h)
 settled_synced h path found is = is
-
--- a path that a change does not name stays as settled as it was
-pub settled_other : (h : History) (at : Names) (now : Option Node) (p : Names) → eq_by_cmp path_cmp p at ≡ false → IsSettledAt h p → IsSettledAt (next (replaced at now) h) p
-settled_other h at now p other settled found (inl was) = settled found was ∙ sym (node_at-set_other (tree_of h) at now p other)
-settled_other h at now p other settled found (inr (here, is)) = absurd (false≢true (sym other ∙ ap (λ q. eq_by_cmp path_cmp p q) (sym here) ∙ path_itself p))
 
 -- one path is changed over a tree that is on the disk: the tree with the change, or without
 pub EachImage-replaced : (h : History) (at : Names) (now : Option Node) → IsSettled h → EachImage (λ image. (image ≡ tree_of h) ⊎ (image ≡ set_node (tree_of h) at now)) (next (replaced at now) h)

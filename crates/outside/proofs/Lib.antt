@@ -9,3 +9,4 @@ pub mod Goes
 pub mod Moments
 pub mod Paths
 pub mod Parts
+pub mod Sayings

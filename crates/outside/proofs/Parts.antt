@@ -6,7 +6,6 @@ use Rattle.outside.specs.Names.{Names, path_cmp}
 use Rattle.outside.specs.Tree.{Node, Tree, node_at, set_node, AgreeOn}
 use Rattle.outside.specs.History.{replaced, scribbled, synced, History, next, tree_of, MayLeave, EachImage, IsSettledOn}
 use Rattle.outside.proofs.Trees.{path_cases, path_itself, node_at-set_same, node_at-set_other}
-use Rattle.outside.proofs.Crash.{settled_other}
 use Rattle.outside.proofs.Paths.{settled_scribbled}
 
 module _ (part : Names → Bool) where
@@ -19,10 +18,6 @@ module _ (part : Names → Bool) where
     | inl same ↦ absurd (false≢true (sym outside ∙ ap part (sym same) ∙ inside))
     | inr other ↦ other
   ]
-
-  -- a change elsewhere leaves the part settled, and as it was
-  pub settled_elsewhere : (h : History) (at : Names) (now : Option Node) → part at ≡ false → IsSettledOn part h → IsSettledOn part (next (replaced at now) h)
-  settled_elsewhere h at now outside settled = record { at = λ p inside. settled_other h at now p (apart p at inside outside) (settled.at p inside) }
 
   pub scribbled_elsewhere : (h : History) (at : Names) (now : Option Node) → part at ≡ false → IsSettledOn part h → IsSettledOn part (next (scribbled at now) h)
   scribbled_elsewhere h at now outside settled = record { at = λ p inside. settled_scribbled h at now p (apart p at inside outside) (settled.at p inside) }

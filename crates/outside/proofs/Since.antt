@@ -1,10 +1,9 @@
 -- What each tree has that a crash may leave at any moment between two histories.
-use Rattle.std.proofs.Common.{inl, inr, ℕ, List, Option, Some, Result, Ok, Err, refl, sym, subst}
-use Rattle.outside.specs.Names.{Names}
-use Rattle.outside.specs.Tree.{Node, file, Tree}
-use Rattle.outside.specs.History.{Change, replaced, scribbled, synced, History, begun, next, tree_of, EachImage}
+use Rattle.std.proofs.Common.{inl, inr, Result, Ok, Err, refl, sym, subst}
+use Rattle.outside.specs.Tree.{Tree}
+use Rattle.outside.specs.History.{Change, synced, History, begun, next, tree_of, EachImage}
 use Rattle.outside.specs.Since.{EachSince}
-use Rattle.outside.specs.DiskCalls.{Writes, Puts, Syncs}
+use Rattle.outside.specs.DiskCalls.{Syncs}
 use Rattle.outside.proofs.Crash.{tree_is_image, settled_image, settled_synced}
 
 module _ (P : Tree → Type 0) where
@@ -43,14 +42,3 @@ pub since_syncs : (P : Tree → Type 0) (old mid new : History) {E : Type 0} (re
 since_syncs P old mid new (Ok done) so_far is =
     subst (λ h. EachSince P old h) (sym is) (since_next P old mid synced so_far (λ image im. subst P (sym (settled_image (next synced mid) (settled_synced mid) image im)) (since_now P old mid so_far (tree_of mid) (tree_is_image mid))))
 since_syncs P old mid new (Err e) so_far is = subst (λ h. EachSince P old h) (sym is) so_far
-
-pub since_puts : (P : Tree → Type 0) (old mid new : History) (at : Names) (now : Option Node) {E : Type 0} (result : Result Unit E) → EachSince P old mid → EachImage P (next (replaced at now) mid) → Puts at now result mid new → EachSince P old new
-since_puts P old mid new at now (Ok done) so_far here is = subst (λ h. EachSince P old h) (sym is) (since_next P old mid (replaced at now) so_far here)
-since_puts P old mid new at now (Err e) so_far here (inl is) = subst (λ h. EachSince P old h) (sym is) so_far
-since_puts P old mid new at now (Err e) so_far here (inr is) = subst (λ h. EachSince P old h) (sym is) (since_next P old mid (replaced at now) so_far here)
-
--- a write in place, whatever node it leaves
-pub since_writes : (P : Tree → Type 0) (old mid new : History) (at : Names) (bytes : List ℕ) {E : Type 0} (result : Result Unit E) → EachSince P old mid → ((node : Option Node) → EachImage P (next (scribbled at node) mid)) → Writes at bytes result mid new → EachSince P old new
-since_writes P old mid new at bytes (Ok done) so_far here is = subst (λ h. EachSince P old h) (sym is) (since_next P old mid (scribbled at (Some (file bytes))) so_far (here (Some (file bytes))))
-since_writes P old mid new at bytes (Err e) so_far here (inl is) = subst (λ h. EachSince P old h) (sym is) so_far
-since_writes P old mid new at bytes (Err e) so_far here (inr (node, which, is)) = subst (λ h. EachSince P old h) (sym is) (since_next P old mid (scribbled at node) so_far (here node))

@@ -11,3 +11,4 @@ pub mod Exchange
 pub mod Door
 pub mod Spawner
 pub mod Sink
+pub mod Said

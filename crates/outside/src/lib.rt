@@ -13,6 +13,7 @@ mod name;
 mod path;
 mod path_error;
 mod path_text;
+mod saying;
 mod sink;
 mod spawner;
 
@@ -23,5 +24,6 @@ pub use link::Link;
 pub use name::{Name, is_name};
 pub use path::Path;
 pub use path_error::PathError;
+pub use saying::{say, say_line};
 pub use sink::Sink;
 pub use spawner::{Answer, AskErr, Asker, Spawner};

@@ -27,9 +27,6 @@ abbrev pub IsBest : List Transition → Version → Version → Option Transitio
 IsBest seen at target None = HasNone seen at target
 IsBest seen at target (Some b) = IsFarthest seen at target b
 
-pub best_none : (at target : Version) → IsBest [] at target None
-best_none at target t (k, lt, is) begins within = absurd (omega (arith, lt))
-
 only : (x u : Transition) → Contains (x ∷ []) u → u ≡ x
 only x u (zero, lt, is) = sym is
 only x u (suc k, lt, is) = absurd (omega (arith, lt))

@@ -51,16 +51,6 @@ spread : (v : Version) (rest : List ℕ) → version_text v ++ rest ≡ decimal 
 spread v rest =
     append_assoc (decimal v.major ++ 46 ∷ decimal v.minor) (46 ∷ decimal v.patch) rest ∙ append_assoc (decimal v.major) (46 ∷ decimal v.minor) (46 ∷ (decimal v.patch ++ rest))
 
--- The numbers at the front are those of a version.
-pub version_made : (mark a b c : ℕ) (text first second rest : List ℕ) → HasDecimal mark text a first → HasDecimal 46 first b second → HasDecimal 46 second c rest → HasVersion mark text (record { major = a; minor = b; patch = c }) rest
-version_made mark a b c text first second rest one two three = record {
-  fits = record { major = one.fits; minor = two.fits; patch = three.fits };
-  text_is = one.text_is
-      ∙ ap (λ (l : List ℕ). mark ∷ (decimal a ++ l)) (two.text_is ∙ ap (λ (l : List ℕ). 46 ∷ (decimal b ++ l)) three.text_is)
-      ∙ ap (λ (l : List ℕ). mark ∷ l) (sym (spread (record { major = a; minor = b; patch = c }) rest));
-  ends = three.ends;
-}
-
 -- A version at the front, number by number.
 module _ (mark : ℕ) (text : List ℕ) (v : Version) (rest : List ℕ) (has : HasVersion mark text v rest) where
   pub has_major : HasDecimal mark text v.major (behind_major v rest)

@@ -54,9 +54,6 @@ module _ (kind : ReleaseKind) (name : List ℕ) (document : Members) where
   pub other_refuses : (d : Data) (e : Refusal) → get_member name document ≡ Some d → as_table d ≡ None → IsAt kind name e → Refuses (section_check kind name document ∷ []) e
   other_refuses d e there none at = refuses_first (section_check kind name document) [] e (λ holds. false≢true (sym (ap is_section there ∙ ap is_some none) ∙ holds)) at
 
-  pub other_members : (d : Data) → get_member name document ≡ Some d → as_table d ≡ None → section_members name document ≡ no_members
-  other_members d there none = ap (λ (o : Option Data). unwrap_or (read_by as_table o) no_members) there ∙ ap (λ (o : Option Members). unwrap_or o no_members) none
-
 -- ---- a section with its entries
 
 module _ (check : List ℕ × Data → Check) (kind : ReleaseKind) (name : List ℕ) (document ms : Members) (is : section_members name document ≡ ms) (table : Passes (section_check kind name document ∷ [])) where

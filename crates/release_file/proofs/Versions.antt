@@ -48,13 +48,5 @@ turned Greater lt = refl
 pub before_back : (a b : Version) → IsTrue (is_before a b) → is_upto b a ≡ false
 before_back a b lt = turned (version_cmp b a) (ap is_lt (sym (version_total.antisymm a b)) ∙ lt)
 
-turned_le : (r : Ordering) → is_le (ordering_reverse r) ≡ false → IsTrue (is_le r)
-turned_le Less no_le = refl
-turned_le Equal no_le = refl
-turned_le Greater no_le = absurd (false≢true (sym no_le))
-
-pub upto_either : (a b : Version) → is_upto a b ≡ false → IsTrue (is_upto b a)
-upto_either a b not_upto = turned_le (version_cmp b a) (ap is_le (sym (version_total.antisymm a b)) ∙ not_upto)
-
 pub upto_itself : (a : Version) → IsTrue (is_upto a a)
 upto_itself a = ap is_le (tied_itself version_total a)

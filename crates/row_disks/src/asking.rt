@@ -1,109 +1,63 @@
 //! Calls of the disk, a line each, and what each answers.
-use crate::paths::path_at;
+use crate::telling::{done, line, path_of, text_of};
 use disk_memory::MemoryDisk;
-use outside::{Disk, DiskErr, Failed, Path};
-use std::alloc::{AllocError, Global};
+use outside::{Disk, DiskErr, Path};
+use row_files::{bad, parts};
+use std::alloc::Global;
+use std::io;
 
-fn push_line(out: &mut Vec<u8>, text: &[u8]) -> Result<(), AllocError> {
-    out.extend_from_slice(text)?;
-    out.push(b'\n')?;
-    Ok(())
-}
-
-fn push_done(out: &mut Vec<u8>, done: Result<(), Failed>) -> Result<(), AllocError> {
-    push_line(out, if done.is_ok() { b"done" } else { b"failed" })
-}
-
-// Why a call of the disk answered nothing.
-fn push_fault(out: &mut Vec<u8>, error: DiskErr) -> Result<(), AllocError> {
-    match error {
-        DiskErr::Failed => push_line(out, b"failed"),
-        DiskErr::Memory => push_line(out, b"memory"),
-    }
-}
-
-fn push_found(
-    out: &mut Vec<u8>,
-    found: Result<Option<Vec<u8>>, DiskErr>,
-) -> Result<(), AllocError> {
-    match found {
-        Ok(Some(bytes)) => push_line(out, &bytes),
-        Ok(None) => push_line(out, b"none"),
-        Err(error) => push_fault(out, error),
+// A line for what a call found.
+fn found(alloc: Global, answer: Result<Option<Vec<u8>>, DiskErr>) -> io::Result<Vec<u8>> {
+    match answer {
+        Ok(Some(bytes)) => line(alloc, &[text_of(&bytes)?]),
+        Ok(None) => line(alloc, &["none"]),
+        Err(DiskErr::Failed) => line(alloc, &["failed"]),
+        Err(DiskErr::Memory) => Err(bad()),
     }
 }
 
 // The paths, with spaces between them.
-fn push_paths(out: &mut Vec<u8>, paths: &[Path]) -> Result<(), AllocError> {
-    let mut mark: &[u8] = b"";
-    for path in paths {
-        out.extend_from_slice(mark)?;
-        out.extend_from_slice(&path.print()?)?;
-        mark = b" ";
-    }
-    out.push(b'\n')?;
-    Ok(())
-}
-
-fn push_list(out: &mut Vec<u8>, found: Result<Vec<Path>, DiskErr>) -> Result<(), AllocError> {
-    match found {
-        Ok(paths) => push_paths(out, &paths),
-        Err(error) => push_fault(out, error),
-    }
-}
-
-// Makes a call that lays or tells what is at the path, and adds what it answers. Whether there is such a call.
-fn call_at(
-    alloc: Global,
-    disk: &mut MemoryDisk,
-    out: &mut Vec<u8>,
-    word: &str,
-    path: &Path,
-    text: &str,
-) -> Result<bool, AllocError> {
-    match word {
-        "write" => push_done(out, disk.write(path, text.as_bytes()))?,
-        "replace" => push_done(out, disk.replace(path, text.as_bytes()))?,
-        "relink" => push_done(out, disk.relink(path, text.as_bytes()))?,
-        "remove" => push_done(out, disk.remove(path))?,
-        "read" => push_found(out, disk.read(alloc, path))?,
-        "read_link" => push_found(out, disk.read_link(alloc, path))?,
-        "list" => push_list(out, disk.list(alloc, path))?,
-        _ => return Ok(false),
-    }
-    Ok(true)
-}
-
-// Makes the call of the line: its word, a path, and a text.
-fn call(
-    alloc: Global,
-    disk: &mut MemoryDisk,
-    out: &mut Vec<u8>,
-    line: &str,
-) -> Result<bool, AllocError> {
-    if line == "sync" {
-        push_done(out, disk.sync())?;
-        return Ok(true);
-    }
-    let (word, rest) = line.split_once(' ').unwrap_or((line, ""));
-    let (path, text) = rest.split_once(' ').unwrap_or((rest, ""));
-    let Some(path) = path_at(alloc, path.as_bytes())? else {
-        return Ok(false);
-    };
-    call_at(alloc, disk, out, word, &path, text)
-}
-
-/// What the calls of these lines answer, a line each; none where a line is no call.
-pub fn answers(
-    alloc: Global,
-    disk: &mut MemoryDisk,
-    lines: &str,
-) -> Result<Option<Vec<u8>>, AllocError> {
+fn printed(alloc: Global, paths: &[Path]) -> io::Result<Vec<u8>> {
     let mut out = Vec::new(alloc);
-    for line in lines.lines() {
-        if !call(alloc, disk, &mut out, line)? {
-            return Ok(None);
+    for path in paths {
+        if !out.is_empty() {
+            out.push(b' ')?;
         }
+        out.extend_from_slice(&path.print()?)?;
     }
-    Ok(Some(out))
+    Ok(out)
+}
+
+fn listed(alloc: Global, answer: Result<Vec<Path>, DiskErr>) -> io::Result<Vec<u8>> {
+    match answer {
+        Ok(paths) => found(alloc, Ok(Some(printed(alloc, &paths)?))),
+        Err(error) => found(alloc, Err(error)),
+    }
+}
+
+// Makes the call of the line, its word, a path and a text, and tells what it answers.
+fn call(alloc: Global, disk: &mut MemoryDisk, text: &str) -> io::Result<Vec<u8>> {
+    let (word, rest) = parts(text);
+    let (path, bytes) = parts(rest);
+    let (path, bytes) = (path_of(alloc, path.as_bytes())?, bytes.as_bytes());
+    match word {
+        "sync" => done(alloc, "done", disk.sync()),
+        "write" => done(alloc, "done", disk.write(&path, bytes)),
+        "replace" => done(alloc, "done", disk.replace(&path, bytes)),
+        "relink" => done(alloc, "done", disk.relink(&path, bytes)),
+        "remove" => done(alloc, "done", disk.remove(&path)),
+        "read" => found(alloc, disk.read(alloc, &path)),
+        "read_link" => found(alloc, disk.read_link(alloc, &path)),
+        "list" => listed(alloc, disk.list(alloc, &path)),
+        _ => Err(bad()),
+    }
+}
+
+/// What the calls of these lines answer, a line each.
+pub fn answers(alloc: Global, disk: &mut MemoryDisk, lines: &str) -> io::Result<Vec<u8>> {
+    let mut out = Vec::new(alloc);
+    for text in lines.lines() {
+        out.extend_from_slice(&call(alloc, disk, text)?)?;
+    }
+    Ok(out)
 }

@@ -1,6 +1,6 @@
 //! Where a line holds: `@1-32`, `@40-`, `@33,39`, `@48/new`, and in a loop within a loop `@3/old:5/new`, `@:5`.
 
-/// A turn of a loop: the number of the call that fails or is the last one, and what a crash leaves.
+/// A turn of a loop: the number of the call that fails or is the last one, and what a crash leaves, if there is one.
 #[derive(Clone, Copy)]
 pub struct Turn<'a> {
     /// The number.
@@ -35,13 +35,10 @@ impl<'a> At<'a> {
 }
 
 fn is_in(range: &str, number: u64) -> bool {
-    match range.split_once('-') {
-        Some((first, last)) => {
-            first.parse::<u64>().unwrap_or(0) <= number
-                && number <= last.parse::<u64>().unwrap_or(u64::MAX)
-        }
-        None => range.parse::<u64>().unwrap_or(u64::MAX) == number,
-    }
+    let Some((first, last)) = range.split_once('-') else {
+        return range.parse::<u64>() == Ok(number);
+    };
+    first.parse::<u64>().unwrap_or(0) <= number && number <= last.parse::<u64>().unwrap_or(u64::MAX)
 }
 
 // Whether `RANGE` or `RANGE/KIND` says this turn; an empty text says each.
@@ -52,22 +49,10 @@ fn says(part: &str, turn: Turn<'_>) -> bool {
     }
 }
 
-fn part_holds(part: &str, at: At<'_>) -> bool {
-    match part.split_once(':') {
-        Some((outer, inner)) => says(outer, at.outer) && says(inner, at.inner),
-        None => says(part, at.outer),
-    }
-}
-
 /// Whether a line with this condition holds here.
 pub fn holds(when: &str, at: At<'_>) -> bool {
-    if when.is_empty() {
-        return true;
-    }
-    for part in when.split(',') {
-        if part_holds(part, at) {
-            return true;
-        }
-    }
-    false
+    when.split(',').any(|part| {
+        let (outer, inner) = part.split_once(':').unwrap_or((part, ""));
+        says(outer, at.outer) && says(inner, at.inner)
+    })
 }

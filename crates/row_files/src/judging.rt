@@ -3,7 +3,7 @@ ghost use Rattle.std.specs.Prelude.{◌≡◌, IsTrue, false};
 
 use crate::conditions::At;
 use crate::reading::Step;
-use crate::telling::{given_lines, lines_of};
+use crate::telling::lines_of;
 use std::io;
 
 /// What is done with the rows of a file.
@@ -20,6 +20,8 @@ pub enum Mode {
 /// A file that is gone through: its name, what is done with its rows, and how often rows held and did not.
 #[derive(Clone, Copy)]
 pub struct Tally<'a> {
+    /// The runtime.
+    pub rt: &'a HostRuntime,
     /// The file.
     pub file: &'a str,
     /// What is done with its rows.
@@ -28,40 +30,6 @@ pub struct Tally<'a> {
     pub held: u64,
     /// How often they did not.
     pub failed: u64,
-}
-
-// Tells what was wanted and what came, on standard error, whose end the gate shows.
-fn tell(
-    rt: &HostRuntime,
-    file: &str,
-    step: &Step,
-    at: At<'_>,
-    wanted: &[u8],
-    shown: &[u8],
-) -> io::Result<()> {
-    let (line, word) = (step.line, step.word.as_str());
-    let (number, kind) = (at.outer.number, at.outer.kind);
-    let (within, inner) = (at.inner.number, at.inner.kind);
-    let wanted = lines_of(rt.alloc(), wanted)?;
-    let shown = lines_of(rt.alloc(), shown)?;
-    let (wanted, shown) = (wanted.as_str(), shown.as_str());
-    eprint!(rt;
-        "{file}:{line}: {word} at {number} {kind}: {within} {inner}\nwanted\n{wanted}got\n{shown}"
-    )
-}
-
-// Prints the step, what it is given, and what it came to.
-fn show(rt: &HostRuntime, step: &Step, shown: &[u8]) -> io::Result<()> {
-    let text = String::from_utf8_lossy(rt.alloc(), &step.text)?;
-    let lines = given_lines(rt.alloc(), step.lines.as_deref().unwrap_or(b""))?;
-    let shown = lines_of(rt.alloc(), shown)?;
-    let (word, text, lines, shown) = (
-        step.word.as_str(),
-        text.as_str(),
-        lines.as_str(),
-        shown.as_str(),
-    );
-    print!(rt; "{word} {text}\n{lines}{shown}")
 }
 
 // Whether these are the wanted bytes, or begin with them where more may follow.
@@ -73,61 +41,48 @@ fn agrees(shown: &[u8], wanted: &[u8], more: bool) -> bool
 }
 
 impl<'a> Tally<'a> {
-    /// Nothing was compared so far.
-    pub fn new(file: &'a str, mode: Mode) -> Tally<'a> {
-        Tally {
-            file,
-            mode,
-            held: 0,
-            failed: 0,
-        }
-    }
-
     /// Compares what the step came to with what it is to come to, counts it, and tells where they differ and are not to.
-    pub fn judge(
-        &mut self,
-        rt: &HostRuntime,
-        step: &Step,
-        at: At<'_>,
-        shown: &[u8],
-    ) -> io::Result<()> {
+    pub fn judge(&mut self, step: &Step, at: At<'_>, shown: &[u8]) -> io::Result<()> {
         if matches!(self.mode, Mode::Shown) {
-            show(rt, step, shown)?;
+            self.show(step, shown)?;
         }
-        let (wanted, open) = step.wanted_at(rt.alloc(), at)?;
+        let (wanted, open) = step.wanted_at(self.rt.alloc(), at)?;
         if agrees(shown, &wanted, open) {
             self.held = self.held.saturating_add(1);
             return Ok(());
         }
-        self.fail(rt, step, at, &wanted, shown)
+        self.fail(step, at, &wanted, shown)
     }
 
-    // Counts a row that does not hold, and tells it.
-    fn fail(
-        &mut self,
-        rt: &HostRuntime,
-        step: &Step,
-        at: At<'_>,
-        wanted: &[u8],
-        shown: &[u8],
-    ) -> io::Result<()> {
+    /// Counts a row that makes no step, with why.
+    pub fn refuse(&mut self, step: &Step, at: At<'_>, why: &str) -> io::Result<()> {
+        let (wanted, _) = step.wanted_at(self.rt.alloc(), at)?;
+        self.fail(step, at, &wanted, why.as_bytes())
+    }
+
+    // Counts a row that does not hold, and tells what was wanted and what came, on standard error, whose end the gate shows.
+    fn fail(&mut self, step: &Step, at: At<'_>, wanted: &[u8], shown: &[u8]) -> io::Result<()> {
         self.failed = self.failed.saturating_add(1);
         if matches!(self.mode, Mode::Wrong) {
             return Ok(());
         }
-        tell(rt, self.file, step, at, wanted, shown)
+        let wanted = lines_of(self.rt.alloc(), "  ", wanted)?;
+        let shown = lines_of(self.rt.alloc(), "  ", shown)?;
+        let (file, line, word, At { outer, inner }) = (self.file, step.line, &step.word, at);
+        let (outer, kind) = (outer.number, outer.kind);
+        let (inner, within) = (inner.number, inner.kind);
+        eprint!(self.rt;
+            "{file}:{line}: {word} at {outer} {kind}: {inner} {within}\nwanted\n{wanted}got\n{shown}"
+        )
     }
 
-    /// Counts a row that makes no step, with why.
-    pub fn refuse(
-        &mut self,
-        rt: &HostRuntime,
-        step: &Step,
-        at: At<'_>,
-        why: &str,
-    ) -> io::Result<()> {
-        let (wanted, _) = step.wanted_at(rt.alloc(), at)?;
-        self.fail(rt, step, at, &wanted, why.as_bytes())
+    // Prints the step, what it is given, and what it came to.
+    fn show(&self, step: &Step, shown: &[u8]) -> io::Result<()> {
+        let alloc = self.rt.alloc();
+        let text = String::from_utf8_lossy(alloc, &step.text)?;
+        let lines = lines_of(alloc, "> ", step.lines.as_deref().unwrap_or(b""))?;
+        let (word, shown) = (&step.word, lines_of(alloc, "  ", shown)?);
+        print!(self.rt; "{word} {text}\n{lines}{shown}")
     }
 
     /// Whether the rows are as the file says: so many, and at least one, which all hold, or of which none does where each is wrong.

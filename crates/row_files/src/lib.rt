@@ -14,7 +14,8 @@ mod loops;
 mod reading;
 mod subject;
 mod telling;
+mod words;
 
 pub use going::all_go;
-pub use reading::{Step, Wanted, steps_of};
 pub use subject::{Fault, Given, Subject};
+pub use words::{bad, halves, parts, words_of};

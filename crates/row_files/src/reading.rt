@@ -4,15 +4,12 @@ use crate::escapes::unescaped;
 use crate::subject::Given;
 use std::alloc::{AllocError, Global};
 
-/// A line of what a step comes to.
+// A line of what a step comes to: where it holds, its bytes with the line feed, and whether anything may stand from here on, as the line is `...`.
 #[derive(Drop)]
-pub struct Wanted {
-    /// Where it holds; everywhere, where it is empty.
-    pub when: String,
-    /// Its bytes, with the line feed.
-    pub bytes: Vec<u8>,
-    /// Whether anything may stand from here on: the line is `...`.
-    pub open: bool,
+struct Wanted {
+    when: String,
+    bytes: Vec<u8>,
+    open: bool,
 }
 
 /// A step.
@@ -26,8 +23,8 @@ pub struct Step {
     pub text: Vec<u8>,
     /// What is given in lines below it; none where there are no such lines.
     pub lines: Option<Vec<u8>>,
-    /// What it is to come to.
-    pub wanted: Vec<Wanted>,
+    // What it is to come to.
+    wanted: Vec<Wanted>,
     // Where the lines hold that follow.
     when: String,
 }
@@ -69,14 +66,12 @@ fn bytes_of(alloc: Global, text: &str) -> Result<Vec<u8>, AllocError> {
 
 // The bytes of a line.
 fn line_bytes(alloc: Global, line: &str) -> Result<Vec<u8>, AllocError> {
-    match line.strip_suffix(" (no-eol)") {
-        Some(text) => bytes_of(alloc, text),
-        None => {
-            let mut bytes = bytes_of(alloc, line)?;
-            bytes.push(b'\n')?;
-            Ok(bytes)
-        }
+    if let Some(text) = line.strip_suffix(" (no-eol)") {
+        return bytes_of(alloc, text);
     }
+    let mut bytes = bytes_of(alloc, line)?;
+    bytes.push(b'\n')?;
+    Ok(bytes)
 }
 
 fn wanted_line(alloc: Global, when: &str, line: &str) -> Result<Wanted, AllocError> {
@@ -89,18 +84,18 @@ fn wanted_line(alloc: Global, when: &str, line: &str) -> Result<Wanted, AllocErr
 
 // Adds a line to what the step is to come to: a condition alone holds for the lines that follow, and one before a text for this line.
 fn want(alloc: Global, step: &mut Step, line: &str) -> Result<(), AllocError> {
-    let added = match line.strip_prefix('@') {
-        Some(rest) => match rest.split_once(' ') {
-            Some((when, text)) => wanted_line(alloc, when, text)?,
-            None => {
-                step.when = String::from_str(alloc, rest)?;
-                return Ok(());
-            }
-        },
+    let added = match line
+        .strip_prefix('@')
+        .map(|it| it.split_once(' ').ok_or(it))
+    {
+        Some(Err(when)) => {
+            step.when = String::from_str(alloc, when)?;
+            return Ok(());
+        }
+        Some(Ok((when, text))) => wanted_line(alloc, when, text)?,
         None => wanted_line(alloc, step.when.as_str(), line)?,
     };
-    step.wanted.push(added)?;
-    Ok(())
+    Ok(step.wanted.push(added)?)
 }
 
 fn step_of(alloc: Global, number: usize, line: &str) -> Result<Step, AllocError> {
@@ -117,9 +112,8 @@ fn step_of(alloc: Global, number: usize, line: &str) -> Result<Step, AllocError>
 
 // Adds a line to what is given.
 fn give(alloc: Global, step: &mut Step, line: &str) -> Result<(), AllocError> {
-    let line = line_bytes(alloc, line.strip_prefix(' ').unwrap_or(line))?;
     let mut lines = step.lines.take().unwrap_or(Vec::new(alloc));
-    lines.extend_from_slice(&line)?;
+    lines.extend_from_slice(&line_bytes(alloc, line.strip_prefix(' ').unwrap_or(line))?)?;
     step.lines = Some(lines);
     Ok(())
 }

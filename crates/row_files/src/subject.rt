@@ -1,4 +1,5 @@
 //! What a file of rows is about: a driver of one layer.
+use crate::words::bad;
 use std::alloc::Global;
 use std::io;
 
@@ -14,30 +15,28 @@ pub struct Given<'a> {
 impl<'a> Given<'a> {
     /// The lines below the step, or else what stands behind its word.
     pub fn input(&self) -> &'a [u8] {
-        match self.lines {
-            Some(lines) => lines,
-            None => self.text,
-        }
+        self.lines.unwrap_or(self.text)
+    }
+
+    /// The same as a text. The only error is `bad()`, where it is none.
+    pub fn input_text(&self) -> io::Result<&'a str> {
+        str::from_utf8(self.input()).ok().ok_or(bad())
+    }
+
+    /// What stands behind its word, as a text. The only error is `bad()`, where it is none.
+    pub fn words(&self) -> io::Result<&'a str> {
+        str::from_utf8(self.text).ok().ok_or(bad())
     }
 
     /// The same with at most so many bytes of its input.
     pub fn cut(self, count: usize) -> Given<'a> {
-        match self.lines {
-            Some(lines) => Given {
-                text: self.text,
-                lines: Some(cut_to(lines, count)),
-            },
-            None => Given {
-                text: cut_to(self.text, count),
-                lines: None,
-            },
+        let (mut text, mut lines) = (self.text, self.lines);
+        match lines {
+            Some(all) => lines = Some(all.get(..count).unwrap_or(all)),
+            None => text = text.get(..count).unwrap_or(text),
         }
+        Given { text, lines }
     }
-}
-
-// At most so many bytes.
-fn cut_to(bytes: &[u8], count: usize) -> &[u8] {
-    bytes.get(..count).unwrap_or(bytes)
 }
 
 /// How a call of a device goes wrong in a turn of a loop.
@@ -54,7 +53,8 @@ pub trait Subject {
     /// Begins a file: nothing of an earlier one is left, but what words of the driver have kept by name.
     fn begin(&mut self, alloc: Global) -> io::Result<()>;
 
-    /// What the step of this word comes to, as bytes. `None` where the word is none of the driver's, or what it is given makes no step: the row fails.
+    /// What the step of this word comes to, as bytes. `None` and `bad()` where the word is none of the driver's, or what it is given makes no step: the row
+    /// fails.
     fn make(&mut self, alloc: Global, word: &str, given: Given<'_>) -> io::Result<Option<Vec<u8>>>;
 
     /// Keeps a copy of the state on top of those that are kept.

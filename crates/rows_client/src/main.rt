@@ -8,18 +8,31 @@
 //! - `reply` tells the status and the body of the reply that it is given, or that it is none.
 #![tactic(auto)]
 
-mod replies;
 mod runs;
 
 use crate::runs::Client;
-use row_files::{Given, Subject, all_go};
-use std::alloc::Global;
+use host_client::{ReplyError, read_reply};
+use row_files::{Given, Subject, all_go, bad};
+use std::alloc::{AllocError, Global};
 use std::io;
 use std::process::ExitCode;
 
 #[derive(Drop)]
 struct Rows {
     client: Client,
+}
+
+// The status and the body of the reply, or that it is none.
+fn reply(alloc: Global, bytes: &[u8]) -> Result<Vec<u8>, AllocError> {
+    match read_reply(alloc, bytes) {
+        Ok(got) => {
+            let mut shown = format!(in alloc; "{}\n", got.status)?.into_bytes();
+            shown.extend_from_slice(got.body.as_slice())?;
+            Ok(shown)
+        }
+        Err(ReplyError::BadReply) => b"bad reply\n".to_vec(alloc),
+        Err(ReplyError::Memory) => Err(AllocError),
+    }
 }
 
 impl Subject for Rows {
@@ -29,14 +42,16 @@ impl Subject for Rows {
     }
 
     fn make(&mut self, alloc: Global, word: &str, given: Given<'_>) -> io::Result<Option<Vec<u8>>> {
+        let mut shown = Vec::new(alloc);
         match word {
-            "reply" => Ok(Some(replies::shown(alloc, given.input())?)),
-            "server" => Ok(Some(self.client.serve(alloc, given.input())?)),
-            "sent" => Ok(Some(self.client.sent(alloc)?)),
-            "fail" => self.client.fail(alloc, given.text),
-            "$" => self.client.run(alloc, given.text, given.lines),
-            _ => Ok(None),
+            "reply" => shown = reply(alloc, given.input())?,
+            "server" => self.client.answer = given.input().to_vec(alloc)?,
+            "sent" => shown.extend_from_slice(&self.client.sent)?,
+            "fail" => self.client.fail(given.words()?)?,
+            "$" => shown = self.client.run(alloc, given.words()?, given.lines)?,
+            _ => return Err(bad()),
         }
+        Ok(Some(shown))
     }
 }
 

@@ -1,6 +1,7 @@
 //! Runs of the client.
 use disk_memory::{Input, MemoryLink, MemorySink};
 use host_client::run_client;
+use row_files::{bad, parts, words_of};
 use std::alloc::{AllocError, Global};
 use std::{io, mem};
 
@@ -25,29 +26,17 @@ impl Faults {
 /// The client: what its server answers, what goes wrong in its next run, and what the last one sent.
 #[derive(Drop)]
 pub struct Client {
-    answer: Vec<u8>,
+    /// What the server answers.
+    pub answer: Vec<u8>,
+    /// What the last run sent.
+    pub sent: Vec<u8>,
     faults: Faults,
-    sent: Vec<u8>,
-}
-
-// The words between the bars; none of an empty text.
-fn words_of(alloc: Global, text: &str) -> Result<Vec<String>, AllocError> {
-    let mut words = Vec::new(alloc);
-    if text.is_empty() {
-        return Ok(words);
-    }
-    for word in text.split('|') {
-        words.push(String::from_str(alloc, word)?)?;
-    }
-    Ok(words)
 }
 
 // The link to a server that answers this in one piece.
 fn link_of(alloc: Global, answer: &[u8], faults: Faults) -> Result<MemoryLink, AllocError> {
-    let mut pieces = Vec::new(alloc);
-    pieces.push(answer.to_vec(alloc)?)?;
     let input = Input {
-        pieces,
+        pieces: vec![in alloc; answer.to_vec(alloc)?]?,
         read_fails: faults.read,
         write_fails: faults.write,
     };
@@ -76,57 +65,33 @@ impl Client {
     pub fn new(alloc: Global) -> Client {
         Client {
             answer: Vec::new(alloc),
-            faults: Faults::NONE,
             sent: Vec::new(alloc),
+            faults: Faults::NONE,
         }
     }
 
-    /// Lets the server answer this.
-    pub fn serve(&mut self, alloc: Global, answer: &[u8]) -> Result<Vec<u8>, AllocError> {
-        self.answer = answer.to_vec(alloc)?;
-        Ok(Vec::new(alloc))
-    }
-
-    /// What the last run sent.
-    pub fn sent(&self, alloc: Global) -> Result<Vec<u8>, AllocError> {
-        self.sent.to_vec(alloc)
-    }
-
     /// Lets a call fail in the next run, of a device and with a number.
-    pub fn fail(&mut self, alloc: Global, text: &[u8]) -> io::Result<Option<Vec<u8>>> {
-        let Some((device, number)) = str::from_utf8(text).ok().and_then(|it| it.split_once(' '))
-        else {
-            return Ok(None);
-        };
-        let Ok(number) = number.parse::<u64>() else {
-            return Ok(None);
-        };
+    pub fn fail(&mut self, text: &str) -> io::Result<()> {
+        let (device, number) = parts(text);
+        let number = number.parse::<u64>().ok().ok_or(bad())?;
         match device {
             "connect" => self.faults.connect = Some(number),
             "read" => self.faults.read = Some(number),
             "write" => self.faults.write = Some(number),
             "output" => self.faults.room = number,
-            _ => return Ok(None),
+            _ => return Err(bad()),
         }
-        Ok(Some(Vec::new(alloc)))
+        Ok(())
     }
 
-    /// Runs the client with the words between the bars, over a server that answers this, or what it is to answer.
-    pub fn run(
-        &mut self,
-        alloc: Global,
-        text: &[u8],
-        answer: Option<&[u8]>,
-    ) -> io::Result<Option<Vec<u8>>> {
-        let Ok(text) = str::from_utf8(text) else {
-            return Ok(None);
-        };
-        let words = words_of(alloc, text)?;
+    /// Runs the client with the words between the bars, over a server that answers this, or what it is to answer. What it comes to.
+    pub fn run(&mut self, alloc: Global, text: &str, answer: Option<&[u8]>) -> io::Result<Vec<u8>> {
+        let words = words_of(alloc, text, '|')?;
         let faults = mem::replace(&mut self.faults, Faults::NONE);
         let mut link = link_of(alloc, answer.unwrap_or(&self.answer), faults)?;
         let mut output = MemorySink::fail_from(alloc, faults.room);
         let status = run_client(alloc, &words, &mut link, &mut output);
         self.sent = link.output().to_vec(alloc)?;
-        Ok(Some(told(alloc, status, &self.sent, output.written())?))
+        Ok(told(alloc, status, &self.sent, output.written())?)
     }
 }

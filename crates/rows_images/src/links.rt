@@ -1,239 +1,163 @@
 //! What a model file links: services, files, commands, and the keys that concern them.
 use crate::models::fault;
-use crate::texts::{key_at, line, push_key, push_keys, push_names, push_word, push_words};
+use crate::texts::{key_of, listed, listed_keys};
 use key_names::{Key, read_list};
 use metadata_links::{Command, FileRow, Manifest, ManifestError, Steps};
 use model_file::Model;
-use outside::Path;
+use row_disks::{line, text_of};
+use row_files::bad;
 use settings_tree::{KeyList, Owed};
-use std::alloc::{AllocError, Global};
-
-// A line of a word and texts behind it.
-fn refusal(alloc: Global, word: &str, texts: &[&str]) -> Result<Vec<u8>, AllocError> {
-    let mut told = String::from_str(alloc, word)?;
-    for text in texts {
-        push_word(&mut told, text)?;
-    }
-    line(told)
-}
-
-fn at_key(alloc: Global, word: &str, key: &Key, text: &str) -> Result<Vec<u8>, AllocError> {
-    let mut told = String::from_str(alloc, word)?;
-    push_key(&mut told, key)?;
-    if !text.is_empty() {
-        push_word(&mut told, text)?;
-    }
-    line(told)
-}
+use std::alloc::Global;
+use std::io;
 
 // Why the links are refused, and where.
-fn refused(alloc: Global, error: &ManifestError) -> Result<Vec<u8>, AllocError> {
+fn refused(alloc: Global, error: &ManifestError) -> io::Result<Vec<u8>> {
     match error {
-        ManifestError::Incomplete { file } => refusal(alloc, "incomplete", &[file.as_str()]),
-        ManifestError::BadPath { file } => refusal(alloc, "bad-path", &[file.as_str()]),
+        ManifestError::Incomplete { file } => line(alloc, &["incomplete", file.as_str()]),
+        ManifestError::BadPath { file } => line(alloc, &["bad-path", file.as_str()]),
         ManifestError::SamePath { first, second } => {
-            refusal(alloc, "same-path", &[first.as_str(), second.as_str()])
+            line(alloc, &["same-path", first.as_str(), second.as_str()])
         }
         ManifestError::NestedPath { first, second } => {
-            refusal(alloc, "nested-path", &[first.as_str(), second.as_str()])
+            line(alloc, &["nested-path", first.as_str(), second.as_str()])
         }
         ManifestError::UnknownFile { service, file } => {
-            refusal(alloc, "unknown-file", &[service.as_str(), file.as_str()])
+            line(alloc, &["unknown-file", service.as_str(), file.as_str()])
         }
         ManifestError::EmptyCommand { service, index } => {
-            let index = format!(in alloc; "{index}")?;
-            refusal(alloc, "empty-command", &[service.as_str(), index.as_str()])
+            let text = format!(in alloc; "empty-command {} {index}\n", service.as_str())?;
+            Ok(text.into_bytes())
         }
-        ManifestError::BadMeta { key } => at_key(alloc, "bad-meta", key, ""),
+        ManifestError::BadMeta { key } => {
+            let key = key.print()?;
+            Ok(format!(in alloc; "bad-meta {}\n", key.as_str())?.into_bytes())
+        }
         ManifestError::UnknownService { key, service } => {
-            at_key(alloc, "unknown-service", key, service.as_str())
+            let (key, service) = (key.print()?, service.as_str());
+            Ok(format!(in alloc; "unknown-service {} {service}\n", key.as_str())?.into_bytes())
         }
-        ManifestError::Memory => refusal(alloc, "memory", &[]),
+        ManifestError::Memory => line(alloc, &["memory"]),
     }
 }
 
-// Adds the path. It was read from a text, so that it is one.
-fn push_path(out: &mut String, path: &Path) -> Result<(), AllocError> {
-    let path = path.print()?;
-    match str::from_utf8(&path) {
-        Ok(path) => push_word(out, path),
-        Err(_) => Ok(()),
-    }
+// A line of the file: its name, its path, its template's, and the services that list it.
+fn file_line(alloc: Global, manifest: &Manifest, file: &FileRow) -> io::Result<String> {
+    let name = file.name.as_str();
+    let services = listed(alloc, &manifest.services_of(name.as_bytes())?)?;
+    let (path, template) = (file.path.print()?, file.template.print()?);
+    let (path, template) = (text_of(&path)?, text_of(&template)?);
+    Ok(format!(in alloc; "file {name} {path} {template}:{services}\n")?)
 }
 
-// Adds a line of the file: its name, its path, its template's, and the services that list it.
-fn push_file(out: &mut String, manifest: &Manifest, file: &FileRow) -> Result<(), AllocError> {
-    out.push_str("file")?;
-    push_word(out, file.name.as_str())?;
-    push_path(out, &file.path)?;
-    push_path(out, &file.template)?;
-    out.push(':')?;
-    push_names(out, &manifest.services_of(file.name.as_str().as_bytes())?)?;
-    out.push('\n')
-}
-
-fn push_files(out: &mut String, manifest: &Manifest) -> Result<(), AllocError> {
+fn push_files(alloc: Global, out: &mut String, manifest: &Manifest) -> io::Result<()> {
     for name in &manifest.file_names()? {
         if let Some(file) = manifest.file(name.as_str().as_bytes()) {
-            push_file(out, manifest, file)?;
+            out.push_str(file_line(alloc, manifest, file)?.as_str())?;
         }
     }
     Ok(())
 }
 
 // Adds a line for each command: its service, its place, and its words.
-fn push_commands(alloc: Global, out: &mut String, commands: &[Command]) -> Result<(), AllocError> {
-    for command in commands {
-        let index = command.index;
-        out.push_str("command")?;
-        push_word(out, command.service.as_str())?;
-        out.push_str(format!(in alloc; " {index}:")?.as_str())?;
-        push_words(out, &command.words)?;
-        out.push('\n')?;
+fn push_commands(alloc: Global, out: &mut String, commands: &[Command]) -> io::Result<()> {
+    for Command {
+        service,
+        index,
+        words,
+    } in commands {
+        let (service, words) = (service.as_str(), words.join(alloc, " ")?);
+        let line = format!(in alloc; "command {service} {index}: {words}\n")?;
+        out.push_str(line.as_str())?;
     }
     Ok(())
 }
 
-// Adds a line for each key below `settings` that has a list: the key, and its list by a look-up in the index.
-fn push_lists(alloc: Global, out: &mut String, manifest: &Manifest) -> Result<(), AllocError> {
-    let Some(settings) = key_at(alloc, "settings")? else {
-        return Ok(());
+// A line of the key and its list by a look-up in the index.
+fn list_line(alloc: Global, manifest: &Manifest, key: &Key) -> io::Result<String> {
+    let names = match key.len() {
+        0 => None,
+        len => manifest.index().at(key, len, &mut Steps::new()),
     };
-    for key in &manifest.listed_below(&settings)? {
-        push_list(out, manifest, key)?;
+    let names = match names {
+        Some(names) => listed(alloc, names)?,
+        None => String::from_str(alloc, " none")?,
+    };
+    Ok(format!(in alloc; "list {}:{names}\n", key.print()?.as_str())?)
+}
+
+// Adds a line for each key below `settings` that has a list.
+fn push_lists(alloc: Global, out: &mut String, manifest: &Manifest) -> io::Result<()> {
+    for key in &manifest.listed_below(&key_of(alloc, "settings")?)? {
+        out.push_str(list_line(alloc, manifest, key)?.as_str())?;
     }
     Ok(())
 }
 
-fn push_list(out: &mut String, manifest: &Manifest, key: &Key) -> Result<(), AllocError> {
-    let mut steps = Steps::new();
-    let len = key.len();
-    out.push_str("list")?;
-    push_key(out, key)?;
-    out.push(':')?;
-    if len > 0 {
-        match manifest.index().at(key, len, &mut steps) {
-            Some(names) => push_names(out, names)?,
-            None => push_word(out, "none")?,
-        }
-    }
-    out.push('\n')
-}
-
-fn said(alloc: Global, manifest: &Manifest) -> Result<Vec<u8>, AllocError> {
+fn said(alloc: Global, manifest: &Manifest) -> io::Result<Vec<u8>> {
     let mut out = String::new(alloc);
-    push_files(&mut out, manifest)?;
+    push_files(alloc, &mut out, manifest)?;
     push_commands(alloc, &mut out, &manifest.commands_of(&Owed::All)?)?;
     push_lists(alloc, &mut out, manifest)?;
     Ok(out.into_bytes())
 }
 
 /// What the model file links, or why its links are refused; the fault of the model file, where it is none.
-pub fn told(alloc: Global, text: &[u8]) -> Result<Option<Vec<u8>>, AllocError> {
-    Ok(Some(match Model::read(alloc, text) {
+pub fn told(alloc: Global, text: &[u8]) -> io::Result<Vec<u8>> {
+    match Model::read(alloc, text) {
         Ok(model) => match Manifest::of(alloc, &model.content) {
-            Ok(manifest) => said(alloc, &manifest)?,
-            Err(error) => refused(alloc, &error)?,
+            Ok(manifest) => said(alloc, &manifest),
+            Err(error) => refused(alloc, &error),
         },
-        Err(error) => fault(alloc, &error)?,
-    }))
+        Err(error) => fault(alloc, &error),
+    }
 }
 
 // The keys that the text lists, rising, or all.
-fn owed_of(alloc: Global, text: &str) -> Option<Owed> {
+fn owed_of(alloc: Global, text: &str) -> io::Result<Owed> {
     if text == "all" {
-        return Some(Owed::All);
+        return Ok(Owed::All);
     }
-    let keys = read_list(alloc, text.as_bytes()).ok()?;
+    let keys = read_list(alloc, text.as_bytes()).ok().ok_or(bad())?;
     if KeyList::rise(&keys) {
-        return Some(Owed::Keys(KeyList::of(keys)));
+        return Ok(Owed::Keys(KeyList::of(keys)));
     }
-    None
+    Err(bad())
 }
 
 // The services of these keys, and by how many look-ups.
-fn push_services(manifest: &Manifest, out: &mut String, keys: &KeyList) -> Result<u64, AllocError> {
+fn stepped(alloc: Global, manifest: &Manifest, owed: &Owed) -> io::Result<String> {
+    let Owed::Keys(keys) = owed else {
+        return Err(bad());
+    };
     let mut steps = Steps::new();
-    push_names(out, &manifest.index().affected(keys, &mut steps)?)?;
-    Ok(steps.count())
+    let names = listed(alloc, &manifest.index().affected(keys, &mut steps)?)?;
+    Ok(format!(in alloc; "{names} by {}", steps.count())?)
 }
 
-fn stepped(alloc: Global, manifest: &Manifest, owed: &Owed) -> Result<Option<Vec<u8>>, AllocError> {
-    match owed {
-        Owed::All => Ok(None),
-        Owed::Keys(keys) => {
-            let mut out = String::from_str(alloc, "steps:")?;
-            let count = push_services(manifest, &mut out, keys)?;
-            out.push_str(format!(in alloc; " by {count}")?.as_str())?;
-            Ok(Some(line(out)?))
+// What a step of a word comes to that asks the links of this manifest.
+fn asked(alloc: Global, manifest: &Manifest, word: &str, text: &str) -> io::Result<Vec<u8>> {
+    let told = match word {
+        "near" => listed(alloc, manifest.nearest(&key_of(alloc, text)?))?,
+        "below" => listed_keys(alloc, &manifest.listed_below(&key_of(alloc, text)?)?)?,
+        "affected" => listed(alloc, &manifest.affected(&owed_of(alloc, text)?)?)?,
+        "files" => listed(alloc, &manifest.files_of(&owed_of(alloc, text)?)?)?,
+        "steps" => stepped(alloc, manifest, &owed_of(alloc, text)?)?,
+        _ => {
+            let mut out = String::new(alloc);
+            push_commands(
+                alloc,
+                &mut out,
+                &manifest.commands_of(&owed_of(alloc, text)?)?,
+            )?;
+            return Ok(out.into_bytes());
         }
-    }
-}
-
-// What a change of these keys concerns.
-fn concerned(
-    alloc: Global,
-    manifest: &Manifest,
-    word: &str,
-    owed: &Owed,
-) -> Result<Option<Vec<u8>>, AllocError> {
-    let mut out = String::new(alloc);
-    match word {
-        "affected" => {
-            out.push_str("affected:")?;
-            push_names(&mut out, &manifest.affected(owed)?)?;
-            Ok(Some(line(out)?))
-        }
-        "files" => {
-            out.push_str("files:")?;
-            push_names(&mut out, &manifest.files_of(owed)?)?;
-            Ok(Some(line(out)?))
-        }
-        "commands" => {
-            push_commands(alloc, &mut out, &manifest.commands_of(owed)?)?;
-            Ok(Some(out.into_bytes()))
-        }
-        _ => stepped(alloc, manifest, owed),
-    }
-}
-
-// The nearest list of the key, or the keys below it that have one.
-fn listed(
-    alloc: Global,
-    manifest: &Manifest,
-    word: &str,
-    key: &Key,
-) -> Result<Vec<u8>, AllocError> {
-    let mut out = String::from_str(alloc, word)?;
-    out.push(':')?;
-    match word {
-        "near" => push_names(&mut out, manifest.nearest(key))?,
-        _ => push_keys(&mut out, &manifest.listed_below(key)?)?,
-    }
-    line(out)
+    };
+    Ok(format!(in alloc; "{word}:{told}\n")?.into_bytes())
 }
 
 /// What a step of a word comes to that asks the links of this model file.
-pub fn made(
-    alloc: Global,
-    model: &[u8],
-    word: &str,
-    text: &[u8],
-) -> Result<Option<Vec<u8>>, AllocError> {
-    let (Ok(model), Ok(text)) = (Model::read(alloc, model), str::from_utf8(text)) else {
-        return Ok(None);
-    };
-    let Ok(manifest) = Manifest::of(alloc, &model.content) else {
-        return Ok(None);
-    };
-    if word == "near" || word == "below" {
-        let Some(key) = key_at(alloc, text)? else {
-            return Ok(None);
-        };
-        return Ok(Some(listed(alloc, &manifest, word, &key)?));
-    }
-    match owed_of(alloc, text) {
-        Some(owed) => concerned(alloc, &manifest, word, &owed),
-        None => Ok(None),
-    }
+pub fn made(alloc: Global, model: &[u8], word: &str, text: &str) -> io::Result<Vec<u8>> {
+    let model = Model::read(alloc, model).ok().ok_or(bad())?;
+    let manifest = Manifest::of(alloc, &model.content).ok().ok_or(bad())?;
+    asked(alloc, &manifest, word, text)
 }

@@ -1,58 +1,30 @@
-//! Texts of what is told.
-use key_names::{Key, KeyFault, Text};
+//! Keys and names in texts.
+use key_names::{Key, Text};
+use row_files::bad;
 use std::alloc::{AllocError, Global};
+use std::io;
 
-/// The key that the text spells. The only error is out of memory.
-pub fn key_at(alloc: Global, text: &str) -> Result<Option<Key>, AllocError> {
-    match Key::read(alloc, text.as_bytes()) {
-        Ok(key) => Ok(Some(key)),
-        Err(error) => {
-            if error.kind == KeyFault::Memory {
-                return Err(AllocError);
-            }
-            Ok(None)
-        }
-    }
+/// The key that the text spells.
+pub fn key_of(alloc: Global, text: &str) -> io::Result<Key> {
+    Key::read(alloc, text.as_bytes()).ok().ok_or(bad())
 }
 
-/// Adds a space and the text.
-pub fn push_word(out: &mut String, text: &str) -> Result<(), AllocError> {
-    out.push(' ')?;
-    out.push_str(text)
-}
-
-/// Adds a space and the key.
-pub fn push_key(out: &mut String, key: &Key) -> Result<(), AllocError> {
-    let key = key.print()?;
-    push_word(out, key.as_str())
-}
-
-/// Adds each of the names, behind a space.
-pub fn push_names(out: &mut String, names: &[Text]) -> Result<(), AllocError> {
+/// The names, each behind a space.
+pub fn listed(alloc: Global, names: &[Text]) -> Result<String, AllocError> {
+    let mut out = String::new(alloc);
     for name in names {
-        push_word(out, name.as_str())?;
+        out.push(' ')?;
+        out.push_str(name.as_str())?;
     }
-    Ok(())
+    Ok(out)
 }
 
-/// Adds each of the words, behind a space.
-pub fn push_words(out: &mut String, words: &[String]) -> Result<(), AllocError> {
-    for word in words {
-        push_word(out, word.as_str())?;
-    }
-    Ok(())
-}
-
-/// Adds each of the keys, behind a space.
-pub fn push_keys(out: &mut String, keys: &[Key]) -> Result<(), AllocError> {
+/// The keys, each behind a space.
+pub fn listed_keys(alloc: Global, keys: &[Key]) -> Result<String, AllocError> {
+    let mut out = String::new(alloc);
     for key in keys {
-        push_key(out, key)?;
+        out.push(' ')?;
+        out.push_str(key.print()?.as_str())?;
     }
-    Ok(())
-}
-
-/// The text as a line.
-pub fn line(mut text: String) -> Result<Vec<u8>, AllocError> {
-    text.push('\n')?;
-    Ok(text.into_bytes())
+    Ok(out)
 }

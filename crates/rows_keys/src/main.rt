@@ -10,7 +10,6 @@
 #![tactic(auto)]
 
 mod keys;
-mod lines;
 mod paths;
 
 use row_files::{Given, Subject, all_go};
@@ -27,11 +26,12 @@ impl Subject for Rows {
     }
 
     fn make(&mut self, alloc: Global, word: &str, given: Given<'_>) -> io::Result<Option<Vec<u8>>> {
-        let input = given.input();
+        let (mut out, input) = (Vec::new(alloc), given.input());
         match word {
-            "path" | "child" | "joined" | "paths" => Ok(paths::shown(alloc, word, input)?),
-            _ => Ok(keys::shown(alloc, word, input)?),
+            "path" | "child" | "joined" | "paths" => paths::tell(alloc, &mut out, word, input)?,
+            _ => keys::tell(alloc, &mut out, word, input)?,
         }
+        Ok(Some(out))
     }
 }
 

@@ -1,102 +1,75 @@
 //! Paths of files, as they are kept on a disk.
-use crate::lines::{halves, line};
+use crate::keys::line;
 use outside::{Path, PathError};
+use row_files::{bad, halves};
 use std::alloc::{AllocError, Global};
+use std::io;
 
-// The number of names, and the path as it is printed.
-fn line_of(alloc: Global, path: &Path) -> Result<Vec<u8>, AllocError> {
-    let count = path.names().len();
-    let mut text = format!(in alloc; "{count}")?.into_bytes();
-    let printed = path.print()?;
-    if !printed.is_empty() {
-        text.push(b' ')?;
-        text.extend_from_slice(&printed)?;
+// Tells the number of names, and the path as it is printed, if it has any. It is that of a copy, where this equals the path.
+fn path(out: &mut Vec<u8>, path: &Path) -> Result<(), AllocError> {
+    let copy = path.copy()?;
+    if copy != *path {
+        return line(out, b"another");
     }
-    line(alloc, &text)
+    let (count, printed) = (copy.names().len(), copy.print()?);
+    let mark = if printed.is_empty() { "" } else { " " };
+    let count = format!(in *out.allocator(); "{count}{mark}")?;
+    out.extend_from_slice(count.as_str().as_bytes())?;
+    line(out, &printed)
 }
 
-fn fault(error: PathError) -> &'static [u8] {
-    match error {
-        PathError::BadName => b"BadName",
-        PathError::TooDeep => b"TooDeep",
-        PathError::Memory => b"Memory",
-    }
-}
-
-// A copy of the path, where it equals the path, or why there is none.
-fn told(alloc: Global, read: Result<Path, PathError>) -> Result<Vec<u8>, AllocError> {
+// Tells the path, or why there is none.
+fn told(out: &mut Vec<u8>, read: Result<Path, PathError>) -> Result<(), AllocError> {
     match read {
-        Ok(path) => {
-            let copy = path.copy()?;
-            if copy != path {
-                return line(alloc, b"another");
-            }
-            line_of(alloc, &copy)
-        }
-        Err(error) => line(alloc, fault(error)),
+        Ok(read) => path(out, &read),
+        Err(PathError::BadName) => line(out, b"BadName"),
+        Err(PathError::TooDeep) => line(out, b"TooDeep"),
+        Err(PathError::Memory) => line(out, b"Memory"),
     }
 }
 
-// The path with one name more.
-fn child(alloc: Global, input: &[u8]) -> Result<Option<Vec<u8>>, AllocError> {
-    let Some((path, name)) = halves(input) else {
-        return Ok(None);
-    };
-    match Path::read(alloc, path) {
-        Ok(path) => Ok(Some(told(alloc, path.child(name))?)),
-        Err(_) => Ok(None),
+fn path_of(alloc: Global, text: &[u8]) -> io::Result<Path> {
+    Path::read(alloc, text).ok().ok_or(bad())
+}
+
+// Tells the path with its last name once more.
+fn joined(out: &mut Vec<u8>, one: &Path) -> io::Result<()> {
+    match one.names().last() {
+        Some(name) if one.names().len() < Path::MAX_NAMES => Ok(path(out, &one.join(name)?)?),
+        _ => Err(bad()),
     }
 }
 
-// The path with its last name once more.
-fn joined(alloc: Global, input: &[u8]) -> Result<Option<Vec<u8>>, AllocError> {
-    let Ok(path) = Path::read(alloc, input) else {
-        return Ok(None);
-    };
-    if path.names().len() >= Path::MAX_NAMES {
-        return Ok(None);
-    }
-    match path.names().last() {
-        Some(name) => Ok(Some(line_of(alloc, &path.join(name)?)?)),
-        None => Ok(None),
-    }
-}
-
-// Each word that is true of the two, as a line.
-fn words_of(alloc: Global, one: &Path, two: &Path) -> Result<Vec<u8>, AllocError> {
+// Tells each word that is true of the two, on a line.
+fn stands(out: &mut Vec<u8>, one: &Path, two: &Path) -> Result<(), AllocError> {
     let words = [
-        ("the same\n", one == two),
-        ("above\n", one.is_above(two)),
-        ("below\n", two.is_above(one)),
-        ("before\n", one < two),
-        ("after\n", one > two),
+        ("the same", one == two),
+        ("above", one.is_above(two)),
+        ("below", two.is_above(one)),
+        ("before", one < two),
+        ("after", one > two),
     ];
-    let mut lines = Vec::new(alloc);
     for (word, is_true) in &words {
         if *is_true {
-            lines.extend_from_slice(word.as_bytes())?;
+            line(out, word.as_bytes())?;
         }
     }
-    Ok(lines)
+    Ok(())
 }
 
-// How the first of two paths stands to the second, and how it is ordered.
-fn stands(alloc: Global, input: &[u8]) -> Result<Option<Vec<u8>>, AllocError> {
-    let Some((one, two)) = halves(input) else {
-        return Ok(None);
-    };
-    match (Path::read(alloc, one), Path::read(alloc, two)) {
-        (Ok(one), Ok(two)) => Ok(Some(words_of(alloc, &one, &two)?)),
-        _ => Ok(None),
+/// Tells what the row of this word comes to. The errors are `bad()`, where it is no row of paths, and out of memory.
+pub fn tell(alloc: Global, out: &mut Vec<u8>, word: &str, input: &[u8]) -> io::Result<()> {
+    if word == "path" {
+        return Ok(told(out, Path::read(alloc, input))?);
     }
-}
-
-/// What the row of this word comes to; `None` where it is no row of paths. The only error is out of memory.
-pub fn shown(alloc: Global, word: &str, input: &[u8]) -> Result<Option<Vec<u8>>, AllocError> {
+    if word == "joined" {
+        return joined(out, &path_of(alloc, input)?);
+    }
+    let (one, two) = halves(input)?;
+    let one = path_of(alloc, one)?;
     match word {
-        "path" => Ok(Some(told(alloc, Path::read(alloc, input))?)),
-        "child" => child(alloc, input),
-        "joined" => joined(alloc, input),
-        _ => stands(alloc, input),
+        "child" => told(out, one.child(two))?,
+        _ => stands(out, &one, &path_of(alloc, two)?)?,
     }
+    Ok(())
 }

@@ -11,18 +11,14 @@
 #![tactic(auto)]
 
 mod host;
-mod opening;
-mod replies;
 mod requests;
-mod shown;
-mod turning;
 
-use crate::host::Kept;
+use crate::host::{Kept, replayed};
 use disk_memory::MemoryDisk;
 use outside::{Disk, Path};
-use row_files::{Given, Subject, all_go};
+use row_files::{Given, Subject, all_go, bad};
 use std::alloc::Global;
-use std::io::{self, ErrorKind};
+use std::io;
 use std::process::ExitCode;
 
 // A disk with an image, and the steps since the last boot, which are made again for each further one.
@@ -33,43 +29,18 @@ struct Rows {
 }
 
 impl Rows {
-    // Puts a file of the image.
-    fn put(&mut self, alloc: Global, path: &str, bytes: &[u8]) -> io::Result<Vec<u8>> {
-        let path = Path::read(alloc, path.as_bytes())
-            .ok()
-            .ok_or(requests::bad())?;
-        self.disk.replace(&path, bytes).ok().ok_or(requests::bad())?;
-        Ok(Vec::new(alloc))
-    }
-
     // Makes a step behind those since the boot. One that makes none is not kept.
     fn step(&mut self, alloc: Global, word: &str, text: &str) -> io::Result<Vec<u8>> {
-        let Some(steps) = &mut self.steps else {
-            return Err(requests::bad());
-        };
+        let steps = self.steps.as_mut().ok_or(bad())?;
         steps.push(Kept {
             word: String::from_str(alloc, word)?,
             text: String::from_str(alloc, text)?,
         })?;
-        let shown = opening::replayed(alloc, &mut self.disk, steps);
+        let shown = replayed(alloc, &mut self.disk, steps);
         if shown.is_err() {
             steps.pop();
         }
         shown
-    }
-
-    // What the step comes to.
-    fn shown(&mut self, alloc: Global, word: &str, given: Given<'_>) -> io::Result<Vec<u8>> {
-        let text = str::from_utf8(given.text).ok().ok_or(requests::bad())?;
-        match word {
-            "put" => self.put(alloc, text, given.lines.unwrap_or(b"")),
-            "boot" => {
-                self.steps = Some(Vec::new(alloc));
-                opening::replayed(alloc, &mut self.disk, &[])
-            }
-            "values" | "pairs" => replies::shown(alloc, word, text),
-            _ => self.step(alloc, word, text),
-        }
     }
 }
 
@@ -81,11 +52,22 @@ impl Subject for Rows {
     }
 
     fn make(&mut self, alloc: Global, word: &str, given: Given<'_>) -> io::Result<Option<Vec<u8>>> {
-        match self.shown(alloc, word, given) {
-            Ok(shown) => Ok(Some(shown)),
-            Err(error) if error.kind() == ErrorKind::InvalidInput => Ok(None),
-            Err(error) => Err(error),
-        }
+        let text = given.words()?;
+        Ok(Some(match word {
+            "put" => {
+                let path = Path::read(alloc, given.text).ok().ok_or(bad())?;
+                let put = self.disk.replace(&path, given.lines.unwrap_or(b""));
+                put.ok().ok_or(bad())?;
+                Vec::new(alloc)
+            }
+            "boot" => {
+                self.steps = Some(Vec::new(alloc));
+                replayed(alloc, &mut self.disk, &[])?
+            }
+            "values" => requests::values(alloc, text)?,
+            "pairs" => requests::pending(alloc, text)?,
+            _ => self.step(alloc, word, text)?,
+        }))
     }
 }
 

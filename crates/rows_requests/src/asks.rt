@@ -1,204 +1,151 @@
 //! What bytes are read as: `not yet`, the word of a refusal, or what is asked with its values.
-use api_http::{Ask, Reading, Refusal, read_request};
+use api_http::{Ask, Reading, Refusal, bytes_wanted, read_request};
 use key_names::{Key, Text};
 use settings_tree::Pending;
 use std::alloc::{AllocError, Global};
 
-// Adds the key, printed, after a space.
-fn push_key(line: &mut Vec<u8>, key: &Key) -> Result<(), AllocError> {
-    let text = key.print()?;
-    line.push(b' ')?;
-    line.extend_from_slice(text.as_str().as_bytes())
-}
-
-fn push_keys(line: &mut Vec<u8>, keys: &[Key]) -> Result<(), AllocError> {
+// Tells the word and the keys, a space before each.
+fn keys(out: &mut String, word: &str, keys: &[Key]) -> Result<(), AllocError> {
+    out.push_str(word)?;
     for key in keys {
-        push_key(line, key)?;
+        write!(out, " {}", key.print()?.as_str())?;
     }
     Ok(())
 }
 
-fn push_names(line: &mut Vec<u8>, names: &[Text]) -> Result<(), AllocError> {
-    for name in names {
-        line.push(b' ')?;
-        line.extend_from_slice(name.as_str().as_bytes())?;
+// Tells the word and the names, a space before each.
+fn names(out: &mut String, word: &str, names: &Option<Vec<Text>>) -> Result<(), AllocError> {
+    out.push_str(word)?;
+    for name in names.as_deref().unwrap_or(&[]) {
+        write!(out, " {}", name.as_str())?;
     }
     Ok(())
 }
 
-fn push_pending(alloc: Global, line: &mut Vec<u8>, pending: &Pending) -> Result<(), AllocError> {
-    match pending {
-        Pending::Put(scalar) => {
-            let text = scalar.print(alloc)?;
-            line.extend_from_slice(text.as_str().as_bytes())
-        }
-        Pending::Gone => line.extend_from_slice(b"null"),
-    }
-}
-
-// Adds each key with its value.
-fn push_pairs(
-    alloc: Global,
-    line: &mut Vec<u8>,
-    pairs: &[(Key, Pending)],
-) -> Result<(), AllocError> {
+// Tells the transaction, and each key with its value.
+fn patch(out: &mut String, tx: &str, pairs: &[(Key, Pending)]) -> Result<(), AllocError> {
+    write!(out, "patch {tx}")?;
     for (key, pending) in pairs {
-        push_key(line, key)?;
-        line.push(b'=')?;
-        push_pending(alloc, line, pending)?;
+        write!(out, " {}=", key.print()?.as_str())?;
+        match pending {
+            Pending::Put(scalar) => {
+                let text = scalar.print(*out.allocator())?;
+                out.push_str(text.as_str())?;
+            }
+            Pending::Gone => out.push_str("null")?,
+        }
     }
     Ok(())
 }
 
-// The word of what is asked for.
-fn word_of(ask: &Ask) -> &'static str {
+/// Tells the word of what is asked, the transaction, and the values.
+pub fn ask(out: &mut String, ask: &Ask) -> Result<(), AllocError> {
     match ask {
-        Ask::Root => "root",
-        Ask::OsNames => "os",
-        Ask::Settings { keys: Some(_), .. } => "keys",
+        Ask::Root => out.push_str("root"),
+        Ask::OsNames => out.push_str("os"),
         Ask::Settings {
-            prefix: Some(_),
+            keys: Some(asked),
             ..
-        } => "prefix",
-        Ask::Settings { .. } => "settings",
-        Ask::Patch { .. } => "patch",
-        Ask::Services { .. } => "services",
-        Ask::Files { .. } => "files",
-        Ask::Affected { .. } => "affected",
-        Ask::Pending { .. } => "pending",
-        Ask::DropTx { .. } => "drop",
-        Ask::TxList => "transactions",
-        Ask::Commit { .. } => "commit",
-        Ask::Apply => "apply",
-        Ask::CommitAndApply { .. } => "commit-and-apply",
-        Ask::JobNow => "job",
-    }
-}
-
-// Adds the transaction after a space.
-fn push_tx(line: &mut Vec<u8>, ask: &Ask) -> Result<(), AllocError> {
-    match ask {
-        Ask::Patch { tx, .. }
-        | Ask::Pending { tx }
-        | Ask::DropTx { tx }
-        | Ask::Commit { tx }
-        | Ask::CommitAndApply { tx } => {
-            line.push(b' ')?;
-            line.extend_from_slice(tx.as_str().as_bytes())
-        }
-        _ => Ok(()),
-    }
-}
-
-fn push_values(alloc: Global, line: &mut Vec<u8>, ask: &Ask) -> Result<(), AllocError> {
-    match ask {
-        Ask::Settings {
-            keys: Some(keys),
-            ..
-        } => push_keys(line, keys),
+        } => keys(out, "keys", asked),
         Ask::Settings {
             prefix: Some(prefix),
             ..
-        } => push_key(line, prefix),
-        Ask::Affected { keys } => push_keys(line, keys),
-        Ask::Patch { pairs, .. } => push_pairs(alloc, line, pairs),
-        Ask::Services { names: Some(names) } | Ask::Files { names: Some(names) } => {
-            push_names(line, names)
-        }
-        _ => Ok(()),
+        } => write!(out, "prefix {}", prefix.print()?.as_str()),
+        Ask::Settings { .. } => out.push_str("settings"),
+        Ask::Patch { tx, pairs } => patch(out, tx.as_str(), pairs),
+        Ask::Services { names: asked } => names(out, "services", asked),
+        Ask::Files { names: asked } => names(out, "files", asked),
+        Ask::Affected { keys: asked } => keys(out, "affected", asked),
+        Ask::Pending { tx } => write!(out, "pending {}", tx.as_str()),
+        Ask::DropTx { tx } => write!(out, "drop {}", tx.as_str()),
+        Ask::TxList => out.push_str("transactions"),
+        Ask::Commit { tx } => write!(out, "commit {}", tx.as_str()),
+        Ask::Apply => out.push_str("apply"),
+        Ask::CommitAndApply { tx } => write!(out, "commit-and-apply {}", tx.as_str()),
+        Ask::JobNow => out.push_str("job"),
     }
 }
 
-// The word of the refusal.
-fn word_of_refusal(refusal: &Refusal) -> &'static str {
-    match refusal {
+/// Tells the word of the refusal, with the path where it tells one.
+pub fn refusal(out: &mut String, refusal: &Refusal) -> Result<(), AllocError> {
+    let word = match refusal {
         Refusal::HeadTooLong => "head-too-long",
         Refusal::Head => "head",
         Refusal::NoPath => "no-path",
-        Refusal::Method { .. } => "method",
+        Refusal::Method { path } => return write!(out, "method {}", path.as_str()),
         Refusal::Query => "query",
         Refusal::Length => "length",
         Refusal::BodyTooLong => "body-too-long",
         Refusal::Body => "body",
         _ => "not of reading",
-    }
+    };
+    out.push_str(word)
 }
 
-/// The word of the refusal as a line, with the path where it tells one.
-pub fn refused(alloc: Global, refusal: &Refusal) -> Result<Vec<u8>, AllocError> {
-    let mut line = word_of_refusal(refusal).as_bytes().to_vec(alloc)?;
-    if let Refusal::Method { path } = refusal {
-        line.push(b' ')?;
-        line.extend_from_slice(path.as_str().as_bytes())?;
-    }
-    line.push(b'\n')?;
-    Ok(line)
-}
-
-/// The word of what is asked, the transaction, and the values, as a line.
-pub fn line_of(alloc: Global, ask: &Ask) -> Result<Vec<u8>, AllocError> {
-    let mut line = word_of(ask).as_bytes().to_vec(alloc)?;
-    push_tx(&mut line, ask)?;
-    push_values(alloc, &mut line, ask)?;
-    line.push(b'\n')?;
-    Ok(line)
-}
-
-// What a whole request asks, and how many of the bytes come after it, if any.
-fn whole(alloc: Global, ask: &Ask, length: usize, count: usize) -> Result<Vec<u8>, AllocError> {
-    let mut lines = line_of(alloc, ask)?;
-    if length != count {
-        let more = count.saturating_sub(length);
-        let line = format!(in alloc; "and {more} more\n")?;
-        lines.extend_from_slice(line.as_str().as_bytes())?;
-    }
-    Ok(lines)
-}
-
-/// What the bytes are read as, as a line, and how many come after a whole request, if any, as a second one. The only error is out of memory.
-pub fn shown(alloc: Global, bytes: &[u8]) -> Result<Vec<u8>, AllocError> {
+/// Tells what the bytes are read as, as a line, and how many come after a whole request, if any, as a second one. The only error is out of memory.
+pub fn read(alloc: Global, out: &mut String, bytes: &[u8]) -> Result<(), AllocError> {
+    let mut more = 0;
     match read_request(alloc, bytes)? {
-        Reading::Whole { ask, length } => whole(alloc, &ask, length, bytes.len()),
-        Reading::NotYet => b"not yet\n".to_vec(alloc),
-        Reading::Refused { refusal } => refused(alloc, &refusal),
+        Reading::Whole { ask: asked, length } => {
+            more = bytes.len().saturating_sub(length);
+            ask(out, &asked)?;
+        }
+        Reading::NotYet => out.push_str("not yet")?,
+        Reading::Refused { refusal: why } => refusal(out, &why)?,
+    }
+    match more {
+        0 => out.push('\n'),
+        _ => write!(out, "\nand {more} more\n"),
     }
 }
 
 // The head with these lines, each with CR LF after it, and an empty one.
-fn head(alloc: Global, lines: &[u8]) -> Result<Vec<u8>, AllocError> {
+fn head_of(alloc: Global, lines: &[u8]) -> Result<Vec<u8>, AllocError> {
     let mut bytes = Vec::new(alloc);
-    for byte in lines {
-        if *byte == b'\n' {
-            bytes.push(b'\r')?;
-        }
-        bytes.push(*byte)?;
-    }
-    if lines.last() != Some(&b'\n') {
+    for line in lines
+        .strip_suffix(b"\n")
+        .unwrap_or(lines)
+        .split(|byte| *byte == b'\n')
+    {
+        bytes.extend_from_slice(line)?;
         bytes.extend_from_slice(b"\r\n")?;
     }
     bytes.extend_from_slice(b"\r\n")?;
     Ok(bytes)
 }
 
-/// What the head of these lines is read as.
-pub fn head_shown(alloc: Global, lines: &[u8]) -> Result<Vec<u8>, AllocError> {
-    shown(alloc, &head(alloc, lines)?)
+/// Tells what the head of these lines is read as.
+pub fn head(alloc: Global, out: &mut String, lines: &[u8]) -> Result<(), AllocError> {
+    read(alloc, out, &head_of(alloc, lines)?)
 }
 
-/// What a patch with this body is read as: without its last byte, whole, and with three bytes after it.
-pub fn patch_shown(alloc: Global, body: &[u8]) -> Result<Vec<u8>, AllocError> {
+/// Tells what a patch with this body is read as: without its last byte, whole, and with three bytes after it.
+pub fn bodies(alloc: Global, out: &mut String, body: &[u8]) -> Result<(), AllocError> {
     let count = body.len();
     let lines = format!(in alloc; "PATCH /settings?tx=t HTTP/1.1\nContent-Length: {count}")?;
-    let mut bytes = head(alloc, lines.as_str().as_bytes())?;
+    let mut bytes = head_of(alloc, lines.as_str().as_bytes())?;
     bytes.extend_from_slice(body)?;
-    let length = bytes.len();
+    let front = bytes.get(..bytes.len().saturating_sub(1)).unwrap_or(b"");
+    read(alloc, out, front)?;
+    read(alloc, out, &bytes)?;
     bytes.extend_from_slice(b"GET")?;
-    let longer = shown(alloc, &bytes)?;
-    bytes.truncate(length);
-    let whole = shown(alloc, &bytes)?;
-    bytes.truncate(length.saturating_sub(1));
-    let mut lines = shown(alloc, &bytes)?;
-    lines.extend_from_slice(&whole)?;
-    lines.extend_from_slice(&longer)?;
-    Ok(lines)
+    read(alloc, out, &bytes)
+}
+
+/// Tells how often the bytes are read until they are a request, where so many come at a time; 0 where they never are.
+pub fn times(alloc: Global, out: &mut String, bytes: &[u8], size: usize) -> Result<(), AllocError> {
+    let (mut times, mut wanted, mut come) = (0u64, 0, 0usize);
+    for _ in 0..bytes.len() {
+        come = come.saturating_add(size).min(bytes.len());
+        let front = bytes.get(..come).unwrap_or(bytes);
+        if come >= wanted {
+            times = times.saturating_add(1);
+            let reading = read_request(alloc, front)?;
+            if !matches!(&reading, Reading::NotYet) {
+                return writeln!(out, "{times}");
+            }
+            wanted = bytes_wanted(front);
+        }
+    }
+    out.push_str("0\n")
 }

@@ -5,36 +5,20 @@ ghost use Rattle.outside.specs.Door.{Accepts, Opens, LastBy, finished};
 ghost use Rattle.outside.specs.Told.{Moves};
 ghost use Rattle.outside.specs.Faults.{HasCause};
 
-use crate::asks::{line_of, refused};
+use crate::asks::{ask, refusal};
+use api_server::{Heard, hear, say};
 use disk_memory::{Input, MemoryDoor};
-use door_requests::{Heard, hear, say};
 use outside::{Door, Failed};
-use row_files::Given;
+use row_files::bad;
 use std::alloc::{AllocError, Global};
+use std::io;
 
-/// The numbers of the calls of a connection that fail.
-#[derive(Clone, Copy)]
-pub struct Plan {
-    /// The read that fails.
-    pub read_fails: Option<u64>,
-    /// The write that fails.
-    pub write_fails: Option<u64>,
-}
-
-impl Plan {
-    /// None fails.
-    pub const NONE: Plan = Plan {
-        read_fails: None,
-        write_fails: None,
-    };
-}
-
-/// How many calls a connection had.
+/// Numbers of calls of a connection: those that fail, 0 where none does, or how many there were.
 #[derive(Clone, Copy)]
 pub struct Calls {
-    /// The reads.
+    /// Of its reads.
     pub reads: u64,
-    /// The writes.
+    /// Of its writes.
     pub writes: u64,
 }
 
@@ -49,12 +33,10 @@ impl Calls {
 /// A door in memory that counts the calls of its connections, and the bytes that they gave.
 #[derive(Drop)]
 pub struct CountedDoor {
-    /// The door.
-    pub door: MemoryDoor,
+    door: MemoryDoor,
     /// The calls.
     pub calls: Calls,
-    /// How many bytes were given.
-    pub given: usize,
+    given: usize,
 }
 
 impl Door for CountedDoor {
@@ -89,8 +71,13 @@ impl Door for CountedDoor {
     }
 }
 
-// The bytes in pieces of so many.
-fn pieces(alloc: Global, bytes: &[u8], size: usize) -> Result<Vec<Vec<u8>>, AllocError> {
+// What comes to a door: one connection, on which the bytes come in pieces of so many.
+fn inputs_of(
+    alloc: Global,
+    bytes: &[u8],
+    size: usize,
+    fails: Calls,
+) -> Result<Vec<Input>, AllocError> {
     let mut pieces = Vec::new(alloc);
     let mut rest = bytes;
     for _ in 0..bytes.len() {
@@ -101,99 +88,62 @@ fn pieces(alloc: Global, bytes: &[u8], size: usize) -> Result<Vec<Vec<u8>>, Allo
             break;
         }
     }
-    Ok(pieces)
-}
-
-// What comes to a door: one connection, on which the bytes come in pieces of so many.
-fn inputs_of(
-    alloc: Global,
-    bytes: &[u8],
-    size: usize,
-    plan: Plan,
-) -> Result<Vec<Input>, AllocError> {
-    let mut inputs = Vec::new(alloc);
-    inputs.push(Input {
-        pieces: pieces(alloc, bytes, size)?,
-        read_fails: plan.read_fails,
-        write_fails: plan.write_fails,
-    })?;
-    Ok(inputs)
+    let input = Input {
+        pieces,
+        read_fails: Some(fails.reads),
+        write_fails: Some(fails.writes),
+    };
+    Ok(vec![in alloc; input]?)
 }
 
 // What was heard, as a line.
-fn told(alloc: Global, heard: &Heard) -> Result<Vec<u8>, AllocError> {
+fn told(out: &mut String, heard: &Heard) -> Result<(), AllocError> {
     match heard {
-        Heard::Asked { ask } => line_of(alloc, ask),
-        Heard::Refused { refusal } => refused(alloc, refusal),
-        Heard::Ended => b"ended\n".to_vec(alloc),
-        Heard::Memory => b"memory\n".to_vec(alloc),
+        Heard::Asked { ask: asked } => ask(out, asked)?,
+        Heard::Refused { refusal: why } => refusal(out, why)?,
+        Heard::Ended => out.push_str("ended")?,
+        Heard::Memory => out.push_str("memory")?,
     }
+    out.push('\n')
 }
 
-// Adds how many bytes are left, if any.
-fn push_left(alloc: Global, lines: &mut Vec<u8>, left: usize) -> Result<(), AllocError> {
-    if left == 0 {
-        return Ok(());
-    }
-    let line = format!(in alloc; "{left} left\n")?;
-    lines.extend_from_slice(line.as_str().as_bytes())
-}
-
-// What comes of the connection, and how many of these bytes are left.
-fn hears(
+/// Tells what comes of a connection on which the bytes come in pieces of so many, and how many of them are left, if any. How many calls it had.
+pub fn heard(
     alloc: Global,
-    inputs: Vec<Input>,
-    count: usize,
-) -> Result<Option<(Vec<u8>, Calls)>, AllocError> {
+    out: &mut String,
+    bytes: &[u8],
+    size: usize,
+    fails: Calls,
+) -> io::Result<Calls> {
+    let inputs = inputs_of(alloc, bytes, size, fails)?;
     let mut door = CountedDoor {
         door: MemoryDoor::of_inputs(alloc, inputs),
         calls: Calls::NONE,
         given: 0,
     };
     let Ok(true) = door.accept() else {
-        return Ok(None);
+        return Err(bad());
     };
-    let heard = hear(alloc, &mut door);
-    let mut lines = told(alloc, &heard)?;
-    push_left(alloc, &mut lines, count.saturating_sub(door.given))?;
-    Ok(Some((lines, door.calls)))
-}
-
-/// What comes of a connection on which the lines come in pieces of so many bytes as the text says, and how many calls it had. `None` where there are no lines
-/// or the text is no such number.
-pub fn heard(
-    alloc: Global,
-    given: Given<'_>,
-    plan: Plan,
-) -> Result<Option<(Vec<u8>, Calls)>, AllocError> {
-    let size = str::from_utf8(given.text).unwrap_or("").parse::<usize>();
-    let (Ok(size), Some(bytes)) = (size, given.lines) else {
-        return Ok(None);
-    };
-    if size == 0 {
-        return Ok(None);
+    told(out, &hear(alloc, &mut door))?;
+    let left = bytes.len().saturating_sub(door.given);
+    if left > 0 {
+        writeln!(out, "{left} left")?;
     }
-    hears(alloc, inputs_of(alloc, bytes, size, plan)?, bytes.len())
+    Ok(door.calls)
 }
 
 /// What is written to a connection of what is said to it, and how many calls it had.
-pub fn said(
-    alloc: Global,
-    text: &[u8],
-    plan: Plan,
-) -> Result<Option<(Vec<u8>, Calls)>, AllocError> {
-    let inputs = inputs_of(alloc, b"", 1, plan)?;
+pub fn said(alloc: Global, text: &[u8], fails: Calls) -> io::Result<(Vec<u8>, Calls)> {
+    let inputs = inputs_of(alloc, b"", 1, fails)?;
     let mut door = CountedDoor {
         door: MemoryDoor::of_inputs(alloc, inputs),
         calls: Calls::NONE,
         given: 0,
     };
     let Ok(true) = door.accept() else {
-        return Ok(None);
+        return Err(bad());
     };
     say(&mut door, text);
-    match door.door.output(0) {
-        Some(written) => Ok(Some((written.to_vec(alloc)?, door.calls))),
-        None => Ok(None),
-    }
+    let written = door.door.output(0).ok_or(bad())?;
+    Ok((written.to_vec(alloc)?, door.calls))
 }

@@ -12,10 +12,10 @@
 mod asks;
 mod doors;
 mod replies;
-mod waits;
 
-use doors::{Calls, Plan};
-use row_files::{Fault, Given, Subject, all_go};
+use api_http::bytes_wanted;
+use doors::Calls;
+use row_files::{Fault, Given, Subject, all_go, bad};
 use std::alloc::Global;
 use std::io;
 use std::process::ExitCode;
@@ -23,75 +23,82 @@ use std::process::ExitCode;
 // Which calls of the next connection fail, and how many the last one had.
 #[derive(Clone, Copy)]
 struct Rows {
-    plan: Plan,
+    fails: Calls,
     calls: Calls,
 }
 
-impl Rows {
-    // What a step on a connection comes to, of which these calls fail; `None` where it is none.
-    fn connected(
-        &mut self,
-        alloc: Global,
-        word: &str,
-        given: Given<'_>,
-        plan: Plan,
-    ) -> io::Result<Option<Vec<u8>>> {
-        let heard = match word {
-            "hear" => doors::heard(alloc, given, plan)?,
-            "say" => doors::said(alloc, given.input(), plan)?,
-            _ => None,
-        };
-        let Some((shown, calls)) = heard else {
-            return Ok(None);
-        };
-        self.calls = calls;
-        Ok(Some(shown))
+// The size of pieces that the step says, and the bytes in the lines below it.
+fn pieces(given: Given<'_>) -> io::Result<(usize, &[u8])> {
+    let size = given.words()?.parse::<usize>().ok().ok_or(bad())?;
+    match given.lines {
+        Some(bytes) if size > 0 => Ok((size, bytes)),
+        _ => Err(bad()),
     }
+}
+
+// Tells what bytes are read as.
+fn read(alloc: Global, out: &mut String, word: &str, given: Given<'_>) -> io::Result<()> {
+    let input = given.input();
+    match word {
+        "http" => asks::head(alloc, out, input)?,
+        "wire" => asks::read(alloc, out, input)?,
+        "patch" => asks::bodies(alloc, out, input)?,
+        "wants" => writeln!(out, "{}", bytes_wanted(input))?,
+        "times" => {
+            let (size, bytes) = pieces(given)?;
+            asks::times(alloc, out, bytes, size)?;
+        }
+        _ => return Err(bad()),
+    }
+    Ok(())
 }
 
 impl Subject for Rows {
     fn begin(&mut self, _alloc: Global) -> io::Result<()> {
-        self.plan = Plan::NONE;
+        self.fails = Calls::NONE;
         self.calls = Calls::NONE;
         Ok(())
     }
 
     fn make(&mut self, alloc: Global, word: &str, given: Given<'_>) -> io::Result<Option<Vec<u8>>> {
-        let input = given.input();
-        let plan = self.plan;
-        self.plan = Plan::NONE;
+        let (fails, mut out) = (self.fails, String::new(alloc));
+        self.fails = Calls::NONE;
         match word {
-            "http" => Ok(Some(asks::head_shown(alloc, input)?)),
-            "wire" => Ok(Some(asks::shown(alloc, input)?)),
-            "patch" => Ok(Some(asks::patch_shown(alloc, input)?)),
-            "wants" => Ok(Some(waits::wanted(alloc, input)?)),
-            "times" => Ok(waits::times(alloc, given)?),
-            "reply" => Ok(replies::shown(alloc, input)?),
-            _ => self.connected(alloc, word, given, plan),
+            "reply" => return Ok(Some(replies::shown(alloc, given.input_text()?)?)),
+            "hear" => {
+                let (size, bytes) = pieces(given)?;
+                self.calls = doors::heard(alloc, &mut out, bytes, size, fails)?;
+            }
+            "say" => {
+                let (written, calls) = doors::said(alloc, given.input(), fails)?;
+                self.calls = calls;
+                return Ok(Some(written));
+            }
+            _ => read(alloc, &mut out, word, given)?,
         }
+        Ok(Some(out.into_bytes()))
     }
 
     fn arm(&mut self, _alloc: Global, device: &str, fault: Fault, number: u64) -> io::Result<bool> {
         match (device, fault) {
-            ("read", Fault::Fail) => self.plan.read_fails = Some(number),
-            ("write", Fault::Fail) => self.plan.write_fails = Some(number),
+            ("read", Fault::Fail) => self.fails.reads = number,
+            ("write", Fault::Fail) => self.fails.writes = number,
             _ => return Ok(false),
         }
         Ok(true)
     }
 
     fn calls(&self, device: &str) -> u64 {
-        if device == "read" {
-            self.calls.reads
-        } else {
-            self.calls.writes
+        match device {
+            "read" => self.calls.reads,
+            _ => self.calls.writes,
         }
     }
 }
 
 fn main(rt: HostRuntime) -> io::Result<ExitCode> {
     let mut rows = Rows {
-        plan: Plan::NONE,
+        fails: Calls::NONE,
         calls: Calls::NONE,
     };
     all_go(&rt, &mut rows)

@@ -1,122 +1,83 @@
 //! The bytes of replies.
 use api_http::{Answer, Refusal, Reply, print_reply};
 use key_names::{Key, Text};
+use row_files::{bad, parts};
 use settings_tree::TxName;
 use std::alloc::{AllocError, Global};
-
-// The status as a line, and then the bytes as they are sent.
-fn lines_of(alloc: Global, reply: &Reply) -> Result<Vec<u8>, AllocError> {
-    let status = reply.status();
-    let mut lines = format!(in alloc; "{status}\n")?.into_bytes();
-    lines.extend_from_slice(reply.bytes())?;
-    Ok(lines)
-}
-
-// The refusal of a value of another type than its key's: the key, a space, and the word of the type.
-fn type_refusal(alloc: Global, text: &str) -> Result<Option<Refusal>, AllocError> {
-    let Some((key, wanted)) = text.split_once(' ') else {
-        return Ok(None);
-    };
-    let wanted = Text::from_str(alloc, wanted)?;
-    match Key::read(alloc, key.as_bytes()) {
-        Ok(key) => Ok(Some(Refusal::BadType { key, wanted })),
-        Err(_) => Ok(None),
-    }
-}
-
-fn key_refusal(alloc: Global, text: &str) -> Option<Refusal> {
-    let key = Key::read(alloc, text.as_bytes()).ok()?;
-    Some(Refusal::NoKey { key })
-}
-
-fn tx_refusal(alloc: Global, text: &str) -> Result<Option<Refusal>, AllocError> {
-    match TxName::read(alloc, text.as_bytes())? {
-        Some(tx) => Ok(Some(Refusal::NoPending { tx })),
-        None => Ok(None),
-    }
-}
+use std::io;
 
 // The refusal of the word, of which nothing else is told.
-fn plain_refusal(word: &str) -> Option<Refusal> {
-    match word {
-        "head-too-long" => Some(Refusal::HeadTooLong),
-        "head" => Some(Refusal::Head),
-        "no-path" => Some(Refusal::NoPath),
-        "query" => Some(Refusal::Query),
-        "length" => Some(Refusal::Length),
-        "body-too-long" => Some(Refusal::BodyTooLong),
-        "body" => Some(Refusal::Body),
-        "memory" => Some(Refusal::Memory),
-        "disk" => Some(Refusal::DiskFault),
-        _ => None,
-    }
+fn plain_refusal(word: &str) -> io::Result<Refusal> {
+    Ok(match word {
+        "head-too-long" => Refusal::HeadTooLong,
+        "head" => Refusal::Head,
+        "no-path" => Refusal::NoPath,
+        "query" => Refusal::Query,
+        "length" => Refusal::Length,
+        "body-too-long" => Refusal::BodyTooLong,
+        "body" => Refusal::Body,
+        "memory" => Refusal::Memory,
+        "disk" => Refusal::DiskFault,
+        _ => return Err(bad()),
+    })
 }
 
-// The refusal of the word, with what is told of it.
-fn refusal_of(alloc: Global, word: &str, text: &str) -> Result<Option<Refusal>, AllocError> {
+fn key_of(alloc: Global, text: &str) -> io::Result<Key> {
+    Key::read(alloc, text.as_bytes()).ok().ok_or(bad())
+}
+
+// The refusal of the word that tells a key, the type that is wanted or a transaction.
+fn named_refusal(alloc: Global, word: &str, text: &str) -> io::Result<Refusal> {
     match word {
-        "method" => {
-            let path = Text::from_str(alloc, text)?;
-            Ok(Some(Refusal::Method { path }))
+        "type" => {
+            let (key, wanted) = text.split_once(' ').ok_or(bad())?;
+            let (key, wanted) = (key_of(alloc, key)?, Text::from_str(alloc, wanted)?);
+            Ok(Refusal::BadType { key, wanted })
         }
-        "type" => type_refusal(alloc, text),
-        "no-key" => Ok(key_refusal(alloc, text)),
-        "no-name" => {
-            let name = Text::from_str(alloc, text)?;
-            Ok(Some(Refusal::NoName { name }))
-        }
-        "no-pending" => tx_refusal(alloc, text),
-        "store" => {
-            let at = Text::from_str(alloc, text)?;
-            Ok(Some(Refusal::Store { at }))
-        }
-        _ if text.is_empty() => Ok(plain_refusal(word)),
-        _ => Ok(None),
+        "no-key" => Ok(Refusal::NoKey {
+            key: key_of(alloc, text)?,
+        }),
+        "no-pending" => match TxName::read(alloc, text.as_bytes())? {
+            Some(tx) => Ok(Refusal::NoPending { tx }),
+            None => Err(bad()),
+        },
+        _ if text.is_empty() => plain_refusal(word),
+        _ => Err(bad()),
     }
 }
 
 // The answer of the word, with what is told of it.
-fn answer_of(alloc: Global, word: &str, text: &str) -> Result<Option<Answer>, AllocError> {
-    match word {
-        "json" => {
-            let text = Text::from_str(alloc, text)?;
-            Ok(Some(Answer::Json { text }))
-        }
-        "empty" => Ok(Some(Answer::Empty)),
-        _ => match refusal_of(alloc, word, text)? {
-            Some(refusal) => Ok(Some(Answer::Refused { refusal })),
-            None => Ok(None),
-        },
-    }
-}
-
-// The reply that is fixed, so that it takes no memory.
-fn fixed(text: &str) -> Option<Reply> {
-    match text {
-        "memory" => Some(Reply::memory()),
-        "disk" => Some(Reply::disk()),
-        _ => None,
-    }
-}
-
-fn reply_of(alloc: Global, word: &str, text: &str) -> Result<Option<Reply>, AllocError> {
-    if word == "fixed" {
-        return Ok(fixed(text));
-    }
-    match answer_of(alloc, word, text)? {
-        Some(answer) => Ok(Some(print_reply(alloc, &answer)?)),
-        None => Ok(None),
-    }
-}
-
-/// The status and the bytes of the reply; `None` where there is no such answer. The only error is out of memory.
-pub fn shown(alloc: Global, input: &[u8]) -> Result<Option<Vec<u8>>, AllocError> {
-    let Ok(line) = str::from_utf8(input) else {
-        return Ok(None);
+fn answer_of(alloc: Global, word: &str, told: &str) -> io::Result<Answer> {
+    let text = Text::from_str(alloc, told)?;
+    let refusal = match word {
+        "json" => return Ok(Answer::Json { text }),
+        "empty" => return Ok(Answer::Empty),
+        "method" => Refusal::Method { path: text },
+        "no-name" => Refusal::NoName { name: text },
+        "store" => Refusal::Store { at: text },
+        _ => named_refusal(alloc, word, told)?,
     };
-    let (word, text) = line.split_once(' ').unwrap_or((line, ""));
-    match reply_of(alloc, word, text)? {
-        Some(reply) => Ok(Some(lines_of(alloc, &reply)?)),
-        None => Ok(None),
+    Ok(Answer::Refused { refusal })
+}
+
+// The reply of the word; a fixed one takes no memory.
+fn reply_of(alloc: Global, word: &str, text: &str) -> io::Result<Reply> {
+    match (word, text) {
+        ("fixed", "memory") => Ok(Reply::memory()),
+        ("fixed", "disk") => Ok(Reply::disk()),
+        _ => Ok(print_reply(alloc, &answer_of(alloc, word, text)?)?),
     }
+}
+
+// The status as a line, and then the bytes as they are sent.
+fn told(alloc: Global, reply: &Reply) -> Result<Vec<u8>, AllocError> {
+    let mut lines = format!(in alloc; "{}\n", reply.status())?.into_bytes();
+    lines.extend_from_slice(reply.bytes())?;
+    Ok(lines)
+}
+
+/// The status and the bytes of the reply. The errors are `bad()`, where there is no such answer, and out of memory.
+pub fn shown(alloc: Global, line: &str) -> io::Result<Vec<u8>> {
+    let (word, text) = parts(line);
+    Ok(told(alloc, &reply_of(alloc, word, text)?)?)
 }

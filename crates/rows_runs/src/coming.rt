@@ -1,24 +1,30 @@
 //! What comes to the next run besides its words and its requests.
-use crate::programs::{Says, copies};
-use std::alloc::{AllocError, Global};
+use disk_memory::MemorySpawner;
+use outside::Answer;
+use row_disks::text_of;
+use row_files::{Given, bad, parts};
+use std::alloc::Global;
+use std::{io, mem};
 
-/// How its programs end and answer, and which calls of its devices fail.
-#[derive(Drop)]
+/// How its programs end and answer, and which calls of its devices fail beside those of the disk.
+#[derive(Clone, Drop)]
 pub struct Coming {
-    /// The exit statuses of programs that are run, and 0 after them. One without a status can't be run.
-    pub ends: Vec<Option<u16>>,
-    /// What programs do that are asked; after them they end with 0 and say nothing.
-    pub says: Vec<Says>,
+    // The exit statuses of programs that are run, and 0 after them. One without a status can't be run.
+    ends: Vec<Option<u16>>,
+    // The exit statuses and the outputs of programs that are asked, and 0 and nothing after them. One without a status can't be asked.
+    answers: Vec<Option<(u16, Vec<u8>)>>,
     /// The connection whose first read fails, from 0.
-    pub read: Option<u64>,
+    pub read: u64,
     /// The connection whose first write fails, from 0.
-    pub write: Option<u64>,
+    pub write: u64,
     /// The accept that fails, from 1.
     pub accept: u64,
     /// The byte of the output from which on it fails.
     pub output: u64,
-    /// The calls of the disk that fail, counted from 1 from the run on.
-    pub disk: Vec<u64>,
+}
+
+fn status_of(text: &str) -> io::Result<u16> {
+    text.parse::<u16>().ok().ok_or(bad())
 }
 
 impl Coming {
@@ -26,38 +32,56 @@ impl Coming {
     pub fn nothing(alloc: Global) -> Coming {
         Coming {
             ends: Vec::new(alloc),
-            says: Vec::new(alloc),
-            read: None,
-            write: None,
+            answers: Vec::new(alloc),
+            read: u64::MAX,
+            write: u64::MAX,
             accept: u64::MAX,
             output: u64::MAX,
-            disk: Vec::new(alloc),
         }
     }
 
-    /// The same once more.
-    pub fn copy(&self, alloc: Global) -> Result<Coming, AllocError> {
-        Ok(Coming {
-            ends: self.ends.to_vec(alloc)?,
-            says: copies(alloc, &self.says)?,
-            read: self.read,
-            write: self.write,
-            accept: self.accept,
-            output: self.output,
-            disk: self.disk.to_vec(alloc)?,
-        })
-    }
-
-    /// Lets this call of a device fail. Whether there is such a device.
-    pub fn fail(&mut self, device: &str, number: u64) -> Result<bool, AllocError> {
+    /// Lets a call of a device fail, by its name and a number.
+    pub fn fail(&mut self, alloc: Global, text: &str) -> io::Result<Vec<u8>> {
+        let (device, number) = parts(text);
+        let number = number.parse::<u64>().ok().ok_or(bad())?;
         match device {
-            "disk" => self.disk.push(number)?,
             "accept" => self.accept = number,
-            "read" => self.read = Some(number),
-            "write" => self.write = Some(number),
+            "read" => self.read = number,
+            "write" => self.write = number,
             "output" => self.output = number,
-            _ => return Ok(false),
+            _ => return Err(bad()),
         }
-        Ok(true)
+        Ok(Vec::new(alloc))
+    }
+
+    /// Adds what a program does. One that is run does not come with one that is asked.
+    pub fn program(&mut self, alloc: Global, given: Given<'_>) -> io::Result<Vec<u8>> {
+        match parts(text_of(given.text)?) {
+            ("fails", "") => self.ends.push(None)?,
+            ("ends", status) => self.ends.push(Some(status_of(status)?))?,
+            ("is", "missing") => self.answers.push(None)?,
+            ("answers", status) => {
+                let output = given.lines.unwrap_or(b"").to_vec(alloc)?;
+                self.answers.push(Some((status_of(status)?, output)))?;
+            }
+            _ => return Err(bad()),
+        }
+        if self.ends.is_empty() || self.answers.is_empty() {
+            return Ok(Vec::new(alloc));
+        }
+        Err(bad())
+    }
+
+    /// The programs, after which none comes.
+    pub fn spawner(&mut self, alloc: Global) -> io::Result<MemorySpawner> {
+        let ends = mem::replace(&mut self.ends, Vec::new(alloc));
+        if self.answers.is_empty() {
+            return Ok(MemorySpawner::of_statuses(alloc, ends));
+        }
+        let mut answers = Vec::new(alloc);
+        for answer in mem::replace(&mut self.answers, Vec::new(alloc)) {
+            answers.push(answer.map(|(status, output)| Answer { status, output }))?;
+        }
+        Ok(MemorySpawner::of_answers(alloc, answers))
     }
 }

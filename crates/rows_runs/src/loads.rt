@@ -1,20 +1,19 @@
 //! The requests of a load run.
 use load_input::requests;
-use std::alloc::{AllocError, Global};
+use row_files::{bad, parts};
+use std::alloc::Global;
+use std::io;
 
-/// The request at the second number of those of a load run of the first. None where the text is no such two numbers.
-pub fn sent(alloc: Global, text: &str) -> Result<Option<Vec<u8>>, AllocError> {
-    let Some((count, place)) = text.split_once(' ') else {
-        return Ok(None);
-    };
-    let (Ok(count), Ok(place)) = (count.parse::<u32>(), place.parse::<usize>()) else {
-        return Ok(None);
-    };
+/// The request at the second number of those of a load run of the first.
+pub fn sent(alloc: Global, text: &str) -> io::Result<Vec<u8>> {
+    let (count, place) = parts(text);
+    let count = count.parse::<u32>().ok().ok_or(bad())?;
+    let place = place.parse::<usize>().ok().ok_or(bad())?;
     if count < 1 || count > 10000 {
-        return Ok(None);
+        return Err(bad());
     }
     match requests(alloc, count)?.get(place) {
-        Some(bytes) => Ok(Some(bytes.as_slice().to_vec(alloc)?)),
-        None => Ok(Some(b"no request\n".to_vec(alloc)?)),
+        Some(bytes) => Ok(bytes.as_slice().to_vec(alloc)?),
+        None => Ok(b"no request\n".to_vec(alloc)?),
     }
 }

@@ -2,6 +2,7 @@
 use crate::coming::Coming;
 use disk_memory::Input;
 use std::alloc::{AllocError, Global};
+use std::io;
 
 // A request as curl sends it: its method, its target, and its body, if it has one.
 fn request(alloc: Global, text: &str) -> Result<String, AllocError> {
@@ -18,24 +19,17 @@ fn request(alloc: Global, text: &str) -> Result<String, AllocError> {
     }
 }
 
-// The connection with this number, from 0, and the request of this line.
-fn input(alloc: Global, coming: &Coming, number: u64, line: &str) -> Result<Input, AllocError> {
-    let sent = request(alloc, line)?.into_bytes();
-    let read_fails = coming.read == Some(number);
-    let write_fails = coming.write == Some(number);
-    Ok(Input {
-        pieces: vec![in alloc; sent]?,
-        read_fails: read_fails.then_some(1),
-        write_fails: write_fails.then_some(1),
-    })
-}
-
 /// The connections on which the requests of these lines come.
-pub fn inputs(alloc: Global, coming: &Coming, lines: &str) -> Result<Vec<Input>, AllocError> {
+pub fn inputs(alloc: Global, coming: &Coming, lines: &str) -> io::Result<Vec<Input>> {
     let mut inputs = Vec::new(alloc);
     let mut number = 0u64;
     for line in lines.lines() {
-        inputs.push(input(alloc, coming, number, line)?)?;
+        let sent = request(alloc, line)?.into_bytes();
+        inputs.push(Input {
+            pieces: vec![in alloc; sent]?,
+            read_fails: (coming.read == number).then_some(1),
+            write_fails: (coming.write == number).then_some(1),
+        })?;
         number = number.saturating_add(1);
     }
     Ok(inputs)

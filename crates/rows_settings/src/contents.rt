@@ -1,117 +1,62 @@
 //! Contents: what stands where, and what may be put there.
-use crate::lines::{key_of, keys_of, line, parts, push_pair, scalar_of};
-use crate::trees::listed;
+use crate::lines::{self, key_of, keys_of, scalar_of};
 use key_names::{Key, Text};
+use row_files::parts;
 use settings_maps::is_meta_name;
-use settings_tree::{Content, Scalar, is_setting};
-use std::alloc::{AllocError, Global};
+use settings_tree::{Content, Scalar};
+use std::alloc::AllocError;
 use std::io;
 
-/// Whether the key is one of a setting.
-pub fn setting(alloc: Global, text: &str) -> io::Result<String> {
-    let is_one = is_setting(&key_of(alloc, text)?);
-    line(alloc, if is_one { "yes" } else { "no" })
-}
-
-// The values, from the least key to the greatest.
-fn values(alloc: Global, content: &Content) -> Result<String, AllocError> {
-    let mut text = String::new(alloc);
-    let mut after = None;
-    for _ in 0..u64::MAX {
-        let Some((key, value)) = content.next_value(after) else {
-            break;
-        };
-        push_pair(&mut text, "", key, value.print(alloc)?.as_str())?;
-        after = Some(key);
-    }
-    Ok(text)
-}
-
-// Adds the metadata of the key, from the least name to the greatest.
-fn push_metas(
-    text: &mut String,
-    alloc: Global,
-    content: &Content,
-    key: &Key,
-) -> Result<(), AllocError> {
-    let mut after: Option<&Text> = None;
-    for _ in 0..u64::MAX {
-        let last = after.map(|it| it.as_str().as_bytes());
-        let Some((name, value)) = content.next_meta(key, last) else {
-            break;
-        };
-        let word = format!(in alloc; "{} of ", name.as_str())?;
-        push_pair(text, word.as_str(), key, value.print(alloc)?.as_str())?;
-        after = Some(name);
+/// Tells what the content says: what is below a key, or whether keys may be weak.
+pub fn tell(out: &mut String, content: &Content, word: &str, text: &str) -> io::Result<()> {
+    let alloc = *out.allocator();
+    match word {
+        "below" => lines::pairs(out, &content.below(&key_of(alloc, text)?)?)?,
+        _ if content.may_be_weak(&keys_of(alloc, text)?) => out.push_str("may\n")?,
+        _ => out.push_str("may not\n")?,
     }
     Ok(())
 }
 
-// The metadata, key by key.
-fn metas(alloc: Global, content: &Content) -> Result<String, AllocError> {
-    let mut text = String::new(alloc);
-    let mut after = None;
-    for _ in 0..u64::MAX {
-        let Some(key) = content.next_meta_key(after) else {
-            break;
-        };
-        push_metas(&mut text, alloc, content, key)?;
-        after = Some(key);
-    }
-    Ok(text)
-}
-
-/// What the content says.
-pub fn shown(alloc: Global, content: &Content, word: &str, text: &str) -> io::Result<String> {
-    match word {
-        "values" => Ok(values(alloc, content)?),
-        "metas" => Ok(metas(alloc, content)?),
-        "below" => Ok(listed(alloc, &content.below(&key_of(alloc, text)?)?)?),
-        _ => {
-            let may = content.may_be_weak(&keys_of(alloc, text)?);
-            line(alloc, if may { "may" } else { "may not" })
-        }
-    }
-}
-
-// What was taken, and what then stands there.
-fn told(alloc: Global, taken: Option<Scalar>, left: Option<&Scalar>) -> io::Result<String> {
+// Tells what was taken, and whether something then stands there.
+fn told(out: &mut String, taken: Option<Scalar>, left: Option<&Scalar>) -> Result<(), AllocError> {
     match taken {
         Some(taken) => {
-            let (taken, left) = (taken.print(alloc)?, left.is_some());
-            Ok(format!(in alloc; "{}, then {left}\n", taken.as_str())?)
+            let taken = taken.print(*out.allocator())?;
+            writeln!(out, "{}, then {}", taken.as_str(), left.is_some())
         }
-        None => line(alloc, "none"),
+        None => out.push_str("none\n"),
     }
+}
+
+// Puts the metadata of a name and its value, where that may be a name.
+fn put_meta(out: &mut String, content: &mut Content, key: Key, text: &str) -> io::Result<()> {
+    let alloc = *out.allocator();
+    let (name, json) = parts(text);
+    if !is_meta_name(name.as_bytes()) {
+        return Ok(out.push_str("no name\n")?);
+    }
+    let (name, value) = (Text::from_str(alloc, name)?, scalar_of(alloc, json)?);
+    Ok(content.put_meta(key, name, value)?)
 }
 
 /// Changes the content, where it may be changed so.
-pub fn changed(alloc: Global, content: &mut Content, word: &str, text: &str) -> io::Result<String> {
+pub fn change(out: &mut String, content: &mut Content, word: &str, text: &str) -> io::Result<()> {
+    let alloc = *out.allocator();
     let (key, rest) = parts(text);
     let key = key_of(alloc, key)?;
     match word {
         "take" => {
             let taken = content.take(&key);
-            told(alloc, taken, content.value(&key))
+            told(out, taken, content.value(&key))?;
         }
         "take-meta" => {
             let taken = content.take_meta(&key, rest.as_bytes());
-            told(alloc, taken, content.meta(&key, rest.as_bytes()))
+            told(out, taken, content.meta(&key, rest.as_bytes()))?;
         }
-        "put" if content.fits(&key) => {
-            content.put(key, scalar_of(alloc, rest)?)?;
-            Ok(String::new(alloc))
-        }
-        "put-meta" => {
-            let (name, json) = parts(rest);
-            if is_meta_name(name.as_bytes()) {
-                let value = scalar_of(alloc, json)?;
-                let name = Text::from_str(alloc, name)?;
-                content.put_meta(key, name, value)?;
-                return Ok(String::new(alloc));
-            }
-            line(alloc, "no name")
-        }
-        _ => line(alloc, "no fit"),
+        "put-meta" => put_meta(out, content, key, rest)?,
+        _ if content.fits(&key) => content.put(key, scalar_of(alloc, rest)?)?,
+        _ => out.push_str("no fit\n")?,
     }
+    Ok(())
 }

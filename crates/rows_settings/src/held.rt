@@ -1,7 +1,7 @@
 //! Held texts.
-use crate::lines::line;
 use held_text::{HeldError, HeldText};
 use key_names::Bytes;
+use row_files::{bad, parts};
 use settings_tree::{Content, Held, KeyList, Owed, PendMaps};
 use std::alloc::{AllocError, Global};
 use std::io;
@@ -18,14 +18,12 @@ pub fn nothing(alloc: Global) -> Held {
 
 // The value of the member: an empty list, where it is left out.
 fn value_of<'a>(members: &'a str, member: &str) -> &'a str {
-    match members.split_once(member) {
-        Some((_, rest)) => rest.split_once(' ').unwrap_or((rest, "")).0,
-        None => "[]",
-    }
+    let (_, rest) = members.split_once(member).unwrap_or(("", "[]"));
+    parts(rest.trim_end()).0
 }
 
-// The held text of the members, which have spaces between them and none inside. The image text is `hello`.
-fn text_of(alloc: Global, members: &str) -> Result<String, AllocError> {
+/// The held text of the members, which have spaces between them and none inside. The image text is `hello`.
+pub fn text_of(alloc: Global, members: &str) -> Result<String, AllocError> {
     let live = value_of(members, "live:");
     let meta = value_of(members, "meta:");
     let owed = value_of(members, "owed:");
@@ -36,28 +34,34 @@ fn text_of(alloc: Global, members: &str) -> Result<String, AllocError> {
     )
 }
 
-/// Prints a copy of what is held.
-pub fn printed(alloc: Global, held: &Held) -> io::Result<String> {
-    line(alloc, held.copy()?.print()?.as_str())
+/// What is held of the members.
+pub fn held_of(alloc: Global, members: &str) -> io::Result<Held> {
+    let text = text_of(alloc, members)?;
+    Held::read(alloc, text.as_str().as_bytes())
+        .ok()
+        .ok_or(bad())
 }
 
-// Reads the text, which is held from then on.
-fn hold(alloc: Global, held: &mut Held, word: &str, text: &str) -> io::Result<String> {
+/// Tells what is held.
+pub fn print(out: &mut String, held: &Held) -> Result<(), AllocError> {
+    writeln!(out, "{}", held.print()?.as_str())
+}
+
+/// Holds the text, and tells a copy of it if that is to be told, or tells that it is none.
+pub fn hold(
+    out: &mut String,
+    held: &mut Held,
+    text: &str,
+    is_told: bool,
+) -> Result<(), AllocError> {
+    let alloc = *out.allocator();
     match Held::read(alloc, text.as_bytes()) {
-        Ok(read) => *held = read,
-        Err(HeldError::BadHeld) => return line(alloc, "bad"),
-        Err(HeldError::Memory) => return line(alloc, "memory"),
+        Ok(read) => *held = read.copy()?,
+        Err(HeldError::BadHeld) => return out.push_str("bad\n"),
+        Err(HeldError::Memory) => return Err(AllocError),
     }
-    match word {
-        "with" => Ok(String::new(alloc)),
-        _ => printed(alloc, held),
+    if is_told {
+        print(out, held)?;
     }
-}
-
-/// Reads the text, or that of the members.
-pub fn read(alloc: Global, held: &mut Held, word: &str, text: &str) -> io::Result<String> {
-    match word {
-        "text" => hold(alloc, held, word, text),
-        _ => hold(alloc, held, word, text_of(alloc, text)?.as_str()),
-    }
+    Ok(())
 }

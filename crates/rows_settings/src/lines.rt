@@ -1,18 +1,10 @@
-//! Words that are read, and lines that are shown.
+//! Keys and values that are read, and lines that are told of them.
+use json_trees::{Pending, Scalar};
 use key_names::{Key, Text, read_list};
-use settings_tree::{Pending, Scalar};
+use row_files::bad;
 use std::alloc::{AllocError, Global};
-use std::io::{self, ErrorKind};
-
-/// The error where what a step is given makes no step.
-pub fn bad() -> io::Error {
-    io::Error::from(ErrorKind::InvalidInput)
-}
-
-/// The first word of the text, and what stands after it.
-pub fn parts(text: &str) -> (&str, &str) {
-    text.split_once(' ').unwrap_or((text, ""))
-}
+use std::fmt::Debug;
+use std::io;
 
 /// The key that the text spells.
 pub fn key_of(alloc: Global, text: &str) -> io::Result<Key> {
@@ -29,34 +21,39 @@ pub fn scalar_of(alloc: Global, json: &str) -> io::Result<Scalar> {
     Scalar::of_json(alloc, json.as_bytes()).ok().ok_or(bad())
 }
 
-/// A line.
-pub fn line(alloc: Global, text: &str) -> io::Result<String> {
-    Ok(format!(in alloc; "{text}\n")?)
+/// Tells a word, and the key with its value behind a `=`.
+pub fn pair(out: &mut String, word: &str, key: &Key, value: &Scalar) -> Result<(), AllocError> {
+    let (key, value) = (key.print()?, value.print(*out.allocator())?);
+    write!(out, "{word}{}={}", key.as_str(), value.as_str())
 }
 
-/// Adds a line with a word, the key, a `=` and the value.
-pub fn push_pair(text: &mut String, word: &str, key: &Key, value: &str) -> Result<(), AllocError> {
-    text.push_str(word)?;
-    text.push_str(key.print()?.as_str())?;
-    text.push('=')?;
-    text.push_str(value)?;
-    text.push('\n')
-}
-
-/// The value, or `null` for a removal.
-pub fn pending_text(alloc: Global, value: &Pending) -> Result<Text, AllocError> {
-    match value {
-        Pending::Put(value) => value.print(alloc),
-        Pending::Gone => Text::from_str(alloc, "null"),
+/// Tells the same of what is pending; a removal is `null`.
+pub fn change(out: &mut String, word: &str, key: &Key, value: &Pending) -> Result<(), AllocError> {
+    if let Pending::Put(value) = value {
+        return pair(out, word, key, value);
     }
+    write!(out, "{word}{}=null", key.print()?.as_str())
 }
 
-/// Adds a line with a word and the keys, a space before each.
-pub fn push_keys(text: &mut String, word: &str, keys: &[Key]) -> Result<(), AllocError> {
-    text.push_str(word)?;
+/// Tells each pair on a line.
+pub fn pairs(out: &mut String, pairs: &[(Key, Scalar)]) -> Result<(), AllocError> {
+    for (key, value) in pairs {
+        pair(out, "", key, value)?;
+        out.push('\n')?;
+    }
+    Ok(())
+}
+
+/// Tells a word and the keys, a space before each.
+pub fn keys(out: &mut String, word: &str, keys: &[Key]) -> Result<(), AllocError> {
+    out.push_str(word)?;
     for key in keys {
-        text.push(' ')?;
-        text.push_str(key.print()?.as_str())?;
+        write!(out, " {}", key.print()?.as_str())?;
     }
-    text.push('\n')
+    out.push('\n')
+}
+
+/// Tells a fault, and where it is.
+pub fn fault<K: Debug + Drop>(out: &mut String, kind: K, at: &Text) -> Result<(), AllocError> {
+    writeln!(out, "{kind:?} {}", at.as_str())
 }

@@ -1,80 +1,115 @@
-//! `rows_settings FILE ..`: rows of scalars, trees, sets of keys, contents, held texts and transactions.
+//! `rows_settings FILE ..`: rows of scalars, trees, sets of keys, contents, held texts and transactions, and of what operators write: words of commands,
+//! releases, migrations, user data and generators.
 //!
 //! - `scalar JSON` is a copy of the scalar, printed. `tree JSON` are the pairs that the text is, nested again, `patch-tree JSON` those of a patch of
 //!   `settings`, and `pairs KEY JSON` the pairs below the key. `names TEXT` says what the text may name.
 //! - `joined`, `without` and `shares` take two lists of keys, and `removed` a list and a key.
 //! - `text TEXT` reads a held text, `held MEMBERS` that of the members, as `live:[["a",1]]`: both print a copy of it. `with MEMBERS` comes to nothing.
 //!   `print` prints what is held.
-//! - Of the live settings: `values`, `below KEY`, `put KEY JSON`, `take KEY`, `metas`, `put-meta KEY NAME JSON`, `take-meta KEY NAME`, `may-be-weak KEYS`;
-//!   `setting KEY` of none. What is taken is told, and what then stands there.
+//! - Of the live settings: `below KEY`, `put KEY JSON`, `take KEY`, `put-meta KEY NAME JSON`, `take-meta KEY NAME` and `may-be-weak KEYS`; `setting KEY` of
+//!   none. What is taken is told, and what then stands there.
 //! - Of transactions: `transactions`, `pending NAME`, `put-pending NAME KEY JSON`, `take-pending NAME KEY`, `patch NAME PAIRS`, `commit NAME` and
 //!   `drop NAME`.
+//! - `words A|B` tells the command that the words between the bars spell, or `usage`.
+//! - `release` tells of the release of the lines below it how many transitions and migrations it has, or its first fault. `plan FROM TO` tells the steps of
+//!   the plan from one version to another by that release.
+//! - `forward KIND WORDS` and `backward KIND WORDS` tell the held text that a migration of this kind makes of that of the members below, as
+//!   `live:[["a",1]]`. `remove-weak` and `no-op` have no words; `add-settings`, `add-prefixes` and `remove-settings` have a list of keys, `rename-settings`
+//!   the two keys of each pair, `replace-string` a key and two texts, `add-metadata` and `remove-metadata` a key and a name, and `replace-metadata` a key, a
+//!   name and two values.
+//! - `user-data` tells the pairs of the text below it, or its first fault.
+//! - `generators` tells the generators of the text below it, or its first fault. `answer STATUS OUTPUT` is how the next program answers, in order, and `asks`
+//!   tells what those last generators give where no key has a value, or the one that it names: the pairs or the refusal, and each program that was asked.
+//!   After the answers that there are, a program fails.
 #![tactic(auto)]
 
-mod changes;
+mod commands;
 mod contents;
+mod generators;
 mod held;
 mod lines;
+mod migrations;
+mod releases;
 mod sets;
 mod transactions;
 mod trees;
 
-use row_files::{Given, Subject, all_go};
-use settings_tree::Held;
+use crate::generators::Asking;
+use row_files::{Given, Subject, all_go, bad};
+use settings_tree::{Held, is_setting};
 use std::alloc::Global;
-use std::io::{self, ErrorKind};
+use std::io;
 use std::process::ExitCode;
 
 #[derive(Drop)]
 struct Rows {
     held: Box<Held>,
+    asking: Asking,
 }
 
 impl Rows {
-    // What the step comes to.
-    fn shown(&mut self, alloc: Global, word: &str, text: &str) -> io::Result<String> {
+    // Tells what the step on what is held comes to.
+    fn tell(&mut self, out: &mut String, word: &str, text: &str) -> io::Result<()> {
+        let alloc = *out.allocator();
         match word {
-            "scalar" | "tree" | "patch-tree" | "pairs" => trees::shown(alloc, word, text),
-            "joined" | "without" | "shares" | "removed" => sets::shown(alloc, word, text),
-            "with" | "held" | "text" => held::read(alloc, &mut self.held, word, text),
-            "print" => held::printed(alloc, &self.held),
-            "setting" => contents::setting(alloc, text),
-            "values" | "metas" | "below" | "may-be-weak" => {
-                contents::shown(alloc, &self.held.live, word, text)
+            "with" | "held" => {
+                let text = held::text_of(alloc, text)?;
+                held::hold(out, &mut self.held, text.as_str(), word == "held")?;
+            }
+            "text" => held::hold(out, &mut self.held, text, true)?,
+            "print" => held::print(out, &self.held)?,
+            "setting" => {
+                let is_one = is_setting(&lines::key_of(alloc, text)?);
+                out.push_str(if is_one { "yes\n" } else { "no\n" })?;
+            }
+            "below" | "may-be-weak" => {
+                contents::tell(out, &self.held.live, word, text)?;
             }
             "put" | "take" | "put-meta" | "take-meta" => {
-                contents::changed(alloc, &mut self.held.live, word, text)
+                contents::change(out, &mut self.held.live, word, text)?;
             }
             "put-pending" | "take-pending" => {
-                transactions::changed(alloc, &mut self.held.pending, word, text)
+                transactions::change(out, &mut self.held.pending, word, text)?;
             }
-            _ => transactions::shown(alloc, &self.held, word, text),
+            _ => transactions::tell(out, &self.held, word, text)?,
         }
+        Ok(())
     }
 }
 
 impl Subject for Rows {
     fn begin(&mut self, alloc: Global) -> io::Result<()> {
         self.held = Box::new(alloc, held::nothing(alloc))?;
+        self.asking = Asking::new(alloc);
         Ok(())
     }
 
     fn make(&mut self, alloc: Global, word: &str, given: Given<'_>) -> io::Result<Option<Vec<u8>>> {
-        let shown = match str::from_utf8(given.input()) {
-            _ if word == "names" => sets::names(alloc, given.input()),
-            Ok(text) => self.shown(alloc, word, text),
-            Err(_) => Err(lines::bad()),
-        };
-        match shown {
-            Ok(shown) => Ok(Some(shown.into_bytes())),
-            Err(error) if error.kind() == ErrorKind::InvalidInput => Ok(None),
-            Err(error) => Err(error),
+        let mut told = String::new(alloc);
+        let (out, input) = (&mut told, given.input());
+        match word {
+            "scalar" | "tree" | "patch-tree" | "pairs" => {
+                trees::tell(out, word, given.input_text()?)?;
+            }
+            "joined" | "without" | "shares" | "removed" => {
+                sets::tell(out, word, given.input_text()?)?;
+            }
+            "names" => sets::names(out, input)?,
+            "words" => commands::tell(out, given.words()?)?,
+            "release" => releases::tell(out, input)?,
+            "plan" => releases::plans(out, given)?,
+            "forward" | "backward" => migrations::tell(out, word, given)?,
+            "user-data" => generators::user_data(out, input)?,
+            "generators" | "answer" | "asks" => self.asking.tell(out, word, given)?,
+            _ => self.tell(out, word, given.input_text()?)?,
         }
+        Ok(Some(told.into_bytes()))
     }
 }
 
 fn main(rt: HostRuntime) -> io::Result<ExitCode> {
     let alloc = rt.alloc();
     let held = Box::new(alloc, held::nothing(alloc))?;
-    all_go(&rt, &mut Rows { held })
+    let asking = Asking::new(alloc);
+    all_go(&rt, &mut Rows { held, asking })
 }

@@ -11,80 +11,37 @@ mod held;
 mod journals;
 mod links;
 mod stores;
-mod telling;
 
-use row_disks::Disks;
-use row_files::{Fault, Given, Subject, all_go};
-use std::alloc::{AllocError, Global};
+use row_disks::{Disks, Words, text_of};
+use row_files::Given;
+use std::alloc::Global;
 use std::io;
 use std::process::ExitCode;
 
-// What the files are gone through with.
-#[derive(Drop)]
-struct Rows {
-    disks: Disks,
-}
+#[derive(Clone, Copy)]
+struct StoreWords;
 
-impl Rows {
-    // What the step comes to.
-    fn made(
+impl Words for StoreWords {
+    fn make(
         &mut self,
         alloc: Global,
+        disks: &mut Disks,
         word: &str,
         given: Given<'_>,
-    ) -> Result<Option<Vec<u8>>, AllocError> {
-        let disk = &mut self.disks.disk;
+    ) -> io::Result<Vec<u8>> {
+        let disk = &mut disks.disk;
         match word {
             "journal" | "change" | "recover" => journals::made(alloc, disk, word, given),
             "version" | "directory" | "leads" | "fresh" | "flip" => {
-                links::made(alloc, disk, word, given.text)
+                links::made(alloc, disk, word, text_of(given.text)?)
             }
             "stands" | "load" | "save" | "commit" => held::made(alloc, disk, word, given),
-            "init" | "open" => stores::made(alloc, disk, word, given.text),
-            _ => self.disks.make(alloc, word, given),
+            "init" | "open" => stores::made(alloc, disk, word, text_of(given.text)?),
+            _ => disks.make(alloc, word, given),
         }
     }
 }
 
-impl Subject for Rows {
-    fn begin(&mut self, alloc: Global) -> io::Result<()> {
-        Ok(self.disks.begin(alloc)?)
-    }
-
-    fn make(&mut self, alloc: Global, word: &str, given: Given<'_>) -> io::Result<Option<Vec<u8>>> {
-        let began = self.disks.calls();
-        let made = self.made(alloc, word, given)?;
-        self.disks.end_step(alloc, word, began);
-        Ok(made)
-    }
-
-    fn save(&mut self, alloc: Global) -> io::Result<()> {
-        Ok(self.disks.save(alloc)?)
-    }
-
-    fn restore(&mut self, alloc: Global) -> io::Result<()> {
-        Ok(self.disks.restore(alloc)?)
-    }
-
-    fn forget(&mut self) {
-        self.disks.forget();
-    }
-
-    fn arm(&mut self, alloc: Global, device: &str, fault: Fault, number: u64) -> io::Result<bool> {
-        Ok(self.disks.arm(alloc, device.as_bytes(), fault, number)?)
-    }
-
-    fn crash(&mut self, alloc: Global, kind: &str) -> io::Result<bool> {
-        Ok(self.disks.crash(alloc, kind)?)
-    }
-
-    fn calls(&self, _device: &str) -> u64 {
-        self.disks.calls()
-    }
-}
-
 fn main(rt: HostRuntime) -> io::Result<ExitCode> {
-    let disks = Disks::new(rt.alloc())?;
-    let mut rows = Rows { disks };
-    all_go(&rt, &mut rows)
+    row_disks::all_go(&rt, StoreWords)
 }

@@ -6,16 +6,16 @@
 //! the source in the lines below it, or is its fault, and `kept FILE` is how many nodes the kept template has, and then its source.
 #![tactic(auto)]
 
-mod keeping;
 mod rendering;
 mod trees;
 
-use row_files::{Given, Subject, all_go};
+use key_names::{Bytes, Text};
+use row_files::{Given, Subject, all_go, bad};
 use settings_tree::{Content, Os};
-use std::alloc::{AllocError, Global};
+use std::alloc::Global;
 use std::io;
 use std::process::ExitCode;
-use template_reader::Templates;
+use template_reader::{Templates, read};
 
 // What templates are rendered over, and those that are kept.
 #[derive(Drop)]
@@ -25,40 +25,50 @@ struct Texts {
     kept: Templates,
 }
 
+// Keeps the source for the file, which has none, or tells its fault.
+fn keep(alloc: Global, kept: &mut Templates, file: &str, source: &[u8]) -> io::Result<Vec<u8>> {
+    let file = Text::from_str(alloc, file)?;
+    let source = Bytes::of(source.to_vec(alloc)?);
+    if kept.source(file.as_str().as_bytes()).is_some() {
+        return Err(bad());
+    }
+    match kept.add(file, source) {
+        Ok(()) => Ok(Vec::new(alloc)),
+        Err(error) => Ok(trees::fault(alloc, error)?),
+    }
+}
+
+// How many nodes the template of the file has, and its source; or that none is kept.
+fn kept(alloc: Global, kept: &Templates, file: &[u8]) -> io::Result<Vec<u8>> {
+    match (kept.source(file), kept.parsed(file)) {
+        (Some(source), Some(parsed)) => {
+            let count = parsed.template.nodes.as_slice().len();
+            let mut text = format!(in alloc; "{count}\n")?.into_bytes();
+            text.extend_from_slice(source)?;
+            Ok(text)
+        }
+        (None, None) => Ok(b"none\n".to_vec(alloc)?),
+        _ => Err(bad()),
+    }
+}
+
 impl Texts {
     // Takes away all settings and names.
-    fn unset(&mut self, alloc: Global) -> Result<(), AllocError> {
+    fn unset(&mut self, alloc: Global) -> io::Result<()> {
         self.content = Box::new(alloc, Content::new(alloc))?;
         self.os = rendering::no_names(alloc);
         Ok(())
     }
 
-    // What a step comes to that is none of reading; `None` where it is none of these either.
-    fn others(
-        &mut self,
-        alloc: Global,
-        word: &str,
-        given: Given<'_>,
-    ) -> io::Result<Option<Vec<u8>>> {
-        let input = given.input();
+    // Makes a step that comes to nothing.
+    fn set(&mut self, alloc: Global, word: &str, given: Given<'_>) -> io::Result<Vec<u8>> {
         match word {
-            "unset" => {
-                self.unset(alloc)?;
-                Ok(Some(Vec::new(alloc)))
-            }
-            "value" => rendering::put(alloc, &mut self.content, input),
-            "os" => match rendering::os_of(alloc, input)? {
-                Some(os) => {
-                    self.os = os;
-                    Ok(Some(Vec::new(alloc)))
-                }
-                None => Ok(None),
-            },
-            "render" => Ok(rendering::shown(alloc, &self.content, &self.os, input)?),
-            "keep" => Ok(keeping::keep(alloc, &mut self.kept, given)?),
-            "kept" => Ok(keeping::shown(alloc, &self.kept, input)?),
-            _ => Ok(None),
+            "unset" => self.unset(alloc)?,
+            "value" => rendering::put(alloc, &mut self.content, given.input_text()?)?,
+            "os" => self.os = rendering::os_of(alloc, given.input_text()?)?,
+            _ => return Err(bad()),
         }
+        Ok(Vec::new(alloc))
     }
 }
 
@@ -71,12 +81,19 @@ impl Subject for Texts {
 
     fn make(&mut self, alloc: Global, word: &str, given: Given<'_>) -> io::Result<Option<Vec<u8>>> {
         let input = given.input();
-        match word {
-            "read" => Ok(Some(trees::shown(alloc, input, false)?)),
-            "spans" => Ok(Some(trees::shown(alloc, input, true)?)),
-            "is-read" => Ok(Some(trees::is_read(alloc, input)?)),
-            _ => self.others(alloc, word, given),
-        }
+        Ok(Some(match word {
+            "read" => trees::shown(alloc, input, false)?,
+            "spans" => trees::shown(alloc, input, true)?,
+            "is-read" if read(alloc, input).is_ok() => b"yes\n".to_vec(alloc)?,
+            "is-read" => b"no\n".to_vec(alloc)?,
+            "render" => rendering::shown(alloc, &self.content, &self.os, input)?,
+            "keep" => {
+                let source = given.lines.ok_or(bad())?;
+                keep(alloc, &mut self.kept, given.words()?, source)?
+            }
+            "kept" => kept(alloc, &self.kept, input)?,
+            _ => self.set(alloc, word, given)?,
+        }))
     }
 }
 

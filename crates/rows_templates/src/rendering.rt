@@ -1,32 +1,21 @@
 //! What templates render to.
 use key_names::{Key, Text};
+use row_files::bad;
 use settings_tree::{Content, Os, OsName, Scalar};
 use std::alloc::{AllocError, Global};
 use std::io;
 use template_eval::{RenderError, render};
 use template_reader::read;
 
-// What stands before the first space, and what stands after it.
-fn halves(bytes: &[u8]) -> Option<(&str, &str)> {
-    str::from_utf8(bytes).ok()?.split_once(' ')
-}
-
-/// Puts the value at the key, both of a line: the key, a space and JSON. `None` where there is no such setting.
-pub fn put(alloc: Global, content: &mut Content, line: &[u8]) -> io::Result<Option<Vec<u8>>> {
-    let Some((key, json)) = halves(line) else {
-        return Ok(None);
-    };
-    let (Ok(key), Ok(value)) = (
-        Key::read(alloc, key.as_bytes()),
-        Scalar::of_json(alloc, json.as_bytes()),
-    ) else {
-        return Ok(None);
-    };
+/// Puts the value at the key, both of a line: the key, a space and JSON. The errors are `bad()`, where there is no such setting, and out of memory.
+pub fn put(alloc: Global, content: &mut Content, line: &str) -> io::Result<()> {
+    let (key, json) = line.split_once(' ').ok_or(bad())?;
+    let key = Key::read(alloc, key.as_bytes()).ok().ok_or(bad())?;
+    let value = Scalar::of_json(alloc, json.as_bytes()).ok().ok_or(bad())?;
     if !content.fits(&key) {
-        return Ok(None);
+        return Err(bad());
     }
-    content.put(key, value)?;
-    Ok(Some(Vec::new(alloc)))
+    Ok(content.put(key, value)?)
 }
 
 /// An operating system without names.
@@ -43,41 +32,28 @@ fn named(alloc: Global, name: &str, text: &str) -> Result<Os, AllocError> {
     Ok(Os::of(names))
 }
 
-/// An operating system with one name, of a line: the name, a space and the text. `None` where there is no space.
-pub fn os_of(alloc: Global, line: &[u8]) -> Result<Option<Os>, AllocError> {
-    match halves(line) {
-        Some((name, text)) => Ok(Some(named(alloc, name, text)?)),
-        None => Ok(None),
-    }
-}
-
-fn with_path(alloc: Global, kind: &str, path: &Text) -> Result<Vec<u8>, AllocError> {
-    let path = path.as_str();
-    Ok(format!(in alloc; "{kind} {path}\n")?.into_bytes())
+/// An operating system with one name, of a line: the name, a space and the text. The errors are `bad()`, where there is no space, and out of memory.
+pub fn os_of(alloc: Global, line: &str) -> io::Result<Os> {
+    let (name, text) = line.split_once(' ').ok_or(bad())?;
+    Ok(named(alloc, name, text)?)
 }
 
 fn refusal(alloc: Global, error: &RenderError) -> Result<Vec<u8>, AllocError> {
-    match error {
-        RenderError::Missing { path } => with_path(alloc, "missing", path),
-        RenderError::NotScalar { path } => with_path(alloc, "not-scalar", path),
-        RenderError::NotList { path } => with_path(alloc, "not-list", path),
-        RenderError::BadBase64 { path } => with_path(alloc, "bad-base64", path),
-        RenderError::Memory => b"memory\n".to_vec(alloc),
-    }
+    let (kind, path) = match error {
+        RenderError::Missing { path } => ("missing", path),
+        RenderError::NotScalar { path } => ("not-scalar", path),
+        RenderError::NotList { path } => ("not-list", path),
+        RenderError::BadBase64 { path } => ("bad-base64", path),
+        RenderError::Memory => return Err(AllocError),
+    };
+    Ok(format!(in alloc; "{kind} {}\n", path.as_str())?.into_bytes())
 }
 
-/// The text that the source renders to, or its refusal with the path as a line. `None` where the source is no template.
-pub fn shown(
-    alloc: Global,
-    content: &Content,
-    os: &Os,
-    source: &[u8],
-) -> Result<Option<Vec<u8>>, AllocError> {
-    let Ok(template) = read(alloc, source) else {
-        return Ok(None);
-    };
+/// The text that the source renders to, or its refusal with the path as a line. The errors are `bad()`, where the source is no template, and out of memory.
+pub fn shown(alloc: Global, content: &Content, os: &Os, source: &[u8]) -> io::Result<Vec<u8>> {
+    let template = read(alloc, source).ok().ok_or(bad())?;
     match render(alloc, &template, source, content, os) {
-        Ok(text) => Ok(Some(text)),
-        Err(error) => Ok(Some(refusal(alloc, &error)?)),
+        Ok(text) => Ok(text),
+        Err(error) => Ok(refusal(alloc, &error)?),
     }
 }

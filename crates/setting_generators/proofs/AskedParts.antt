@@ -4,7 +4,7 @@ use Rattle.std.specs.FinMap.{contains_key, get}
 use Rattle.std.specs.Option.{option_copied}
 use Rattle.std.specs.Result.{IfOk, IfErr, result_ok}
 use Rattle.std.proofs.lemmas.Bool.{lt-leb}
-use Rattle.std.proofs.lemmas.List.{take_more, take_all, take-append-drop, map-append}
+use Rattle.std.proofs.lemmas.List.{take_more, take-append-drop, map-append}
 use Rattle.std.proofs.lemmas.List.Elements.{filter-append}
 use Rattle.json_trees.specs.Collected.{result_map}
 use Rattle.json_trees.specs.Scalar.{scalar_read}
@@ -19,7 +19,7 @@ use Rattle.outside.specs.declared.spawner.AskErr.{AskErr}
 use Rattle.outside.proofs.Told.{moves_map, moves_then}
 use Rattle.settings_tree.specs.Content.{Contents}
 use Rattle.setting_generators.specs.Generators.{Path, Given, seen}
-use Rattle.setting_generators.specs.Asking.{Generated, wanted, most_output, output_value, answer_value, question, IsAsked, with_pair, AreAsked, Asks, FailsBy, AsksOne, Appends}
+use Rattle.setting_generators.specs.Asking.{Generated, wanted, most_output, output_value, answer_value, question, with_pair, AreAsked, Asks, FailsBy, AsksOne, Appends}
 use Rattle.setting_generators.specs.declared.generator.Generator.{Generator}
 use Rattle.setting_generators.specs.declared.generate_error.GenerateError.{GenerateError}
 use Rattle.setting_generators.specs.declared.generate_error.GenerateError.TheVariants.{Failed, Status, BadOutput, Memory}
@@ -126,27 +126,11 @@ present (Some x) o is some = ap is_some (sym is)
 wanted_one : (live : Contents) (g : Given) → is_some (get live.values g.0) ≡ false → wanted live (g ∷ []) ≡ g ∷ []
 wanted_one live g none = ap (λ b. cond (not b) (g ∷ []) []) none
 
-wanted_none : (live : Contents) (g : Given) → is_some (get live.values g.0) ≡ true → wanted live (g ∷ []) ≡ []
-wanted_none live g some = ap (λ b. cond (not b) (g ∷ []) []) some
-
-memory_after : (g : Given) (questions : List Question) (v : Scalar) → IsAsked g questions (Ok v) → IsAsked g questions (Err Memory)
-memory_after g questions v (inl is) = inl (record { status = is.status; output = is.output; asked = is.asked; value_is = inr refl })
-memory_after g questions v (inr is) = absurd (none is.value_is)
-  where
-    none : (Ok v ≡ Err (Failed g.0)) ⊎ (Ok v ≡ Err Memory) → ⊥
-    none (inl clash) = cc
-    none (inr clash) = cc
-
 module _ (live : Contents) (g : Generator) (before after : Option (List Question)) (none : is_some (get live.values g.key) ≡ false) where
   -- It gives none.
   pub refused_one : (ps : List (Path × Scalar)) (e : GenerateError) → AsksOne (seen g) before after (Err e) → Appends (wanted live (seen g ∷ [])) before after ps ps (Err e)
   refused_one ps e one =
       rw (wanted_one live (seen g) none) (record { questions = one.questions; told = one.told; is = inr (record { error = e; refused = one.is; generated_is = refl }) })
-
-  -- It gives one, and memory is wanting then.
-  pub memory_one : (ps qs : List (Path × Scalar)) (v : Scalar) → AsksOne (seen g) before after (Ok v) → Appends (wanted live (seen g ∷ [])) before after ps qs (Err Memory)
-  memory_one ps qs v one =
-      rw (wanted_one live (seen g) none) (record { questions = one.questions; told = one.told; is = inr (record { error = Memory; refused = memory_after (seen g) one.questions v one.is; generated_is = refl }) })
 
   -- It gives one.
   pub pushed_one : (ps more : List (Path × Scalar)) (key : Path) (v : Scalar) → AsksOne (seen g) before after (Ok v) → key ≡ g.key → more ≡ ps ++ (key, v) ∷ [] → Appends (wanted live (seen g ∷ [])) before after ps more (Ok tt)
@@ -160,11 +144,6 @@ module _ (live : Contents) (g : Generator) (before after : Option (List Question
           pushed ∙ ap (λ (k : Path). ps ++ (k, v) ∷ []) same,
         );
       })
-
--- A key with a live value is passed over.
-pub passed_one : (live : Contents) (g : Generator) (told : Option (List Question)) (ps : List (Path × Scalar)) → is_some (get live.values g.key) ≡ true → Moves told told (λ old new. new ≡ old) → Appends (wanted live (seen g ∷ [])) told told ps ps (Ok tt)
-passed_one live g told ps some stays =
-    rw (wanted_none live (seen g) some) (record { questions = []; told = moves_map (λ old new is. is ∙ sym (append-nil old)) stays; is = ([], (refl, refl), sym (append-nil ps)) })
 
 -- ---- one after the other
 
@@ -266,10 +245,6 @@ all_refused live xs whole i x a b c ps qs e within is all so_far one = subst (λ
 -- At first none was asked.
 pub none_asked : (told : Option (List Question)) (ps : List (Path × Scalar)) → ps ≡ [] → Moves told told (λ old new. new ≡ old) → Asks [] told told (Ok ps)
 none_asked told ps none stays = rw none (record { questions = []; told = moves_map (λ old new is. is ∙ sym (append-nil old)) stays; outcome = (refl, refl) })
-
--- At last all were.
-pub all_asked : (live : Contents) (xs : List Generator) (whole : List Given) (i : ℕ) (a b : Option (List Question)) (o : Generated) → length xs ≤ i → map seen xs ≡ whole → Asks (wanted live (map seen (take i xs))) a b o → Asks (wanted live whole) a b o
-all_asked live xs whole i a b o done is so_far = subst (λ (l : List Given). Asks (wanted live l) a b o) (ap (map seen) (take_all i xs done) ∙ is) so_far
 
 -- What a refusal says of the count of faults, it says where it is handed on.
 pub fails_handed : {T U : Type 0} (before now : ℕ) (e : GenerateError) → FailsBy {T = T} before now (Err e) → FailsBy {T = U} before now (Err e)

@@ -4,13 +4,13 @@
 mod usage;
 
 use crate::usage::PAGE;
+use api_http::WholeRequests;
 use outside_real::{RealDisk, RealDoor, RealSink, RealSpawner, words_of};
 use program_version::VERSION;
 use settings_run::run;
 use std::alloc::AllocError;
 use std::io::{self, Write};
 use std::process::ExitCode;
-use whole_requests::WholeRequests;
 
 /// The exit status of a program that could not make its devices for want of memory, as that of a command.
 const OUT_OF_MEMORY: u8 = 1;

@@ -8,7 +8,7 @@ use Rattle.setting_generators.specs.Reading.{IsFault}
 use Rattle.setting_generators.specs.declared.generators_error.GeneratorsError.{GeneratorsError}
 use Rattle.setting_generators.specs.declared.generators_error.GeneratorsKind.TheVariants as fault
 use Rattle.command_outcome.specs.declared.refusal.Refusal.{Refusal}
-use Rattle.settings_cmd.specs.Generators.{TellsOfGenerators, TellsOfFault, TellsOfText, IsOfGenerators}
+use Rattle.settings_cmd.specs.Generators.{TellsOfFault, TellsOfText, IsOfGenerators}
 use Rattle.settings_cmd.specs.UserData.{TellsOfData, TellsOfDataFault, IsOfData}
 
 -- ---- user data
@@ -35,9 +35,3 @@ generators_fault_told table text error refusal (inr told) fault = inr (error.kin
 pub generators_fault_of : (error : GeneratorsError) (refusal : Refusal) → TellsOfFault error refusal → IsOfGenerators refusal
 generators_fault_of error refusal (inl is) = subst IsOfGenerators (sym is) tt
 generators_fault_of error refusal (inr told) = subst IsOfGenerators (sym told.1) tt
-
--- A fault of the text of a file is one of the file.
-pub file_fault_told : (table : List Row) (text : List ℕ) (refusal : Refusal) → TellsOfText table text refusal → TellsOfGenerators table (Some text) refusal
-file_fault_told table text refusal (inl is) = subst (TellsOfGenerators table (Some text)) (sym is) tt
-file_fault_told table text refusal (inr told) =
-    subst (TellsOfGenerators table (Some text)) (sym told.3) (refl, record { text = text; there = refl; which = told.0; fault = told.2; word_is = refl })

@@ -9,7 +9,7 @@ use Rattle.command_outcome.specs.Ends.{Outcome}
 use Rattle.command_outcome.specs.declared.refusal.Refusal.{Refusal}
 use Rattle.command_outcome.specs.declared.refusal.Refusal.TheVariants as refused
 use Rattle.core_commands.specs.Handing.{HasSpawnCause}
-use Rattle.load_run.specs.Loads.{Loads}
+use Rattle.load_input.specs.Loads.{Loads}
 use Rattle.settings_cmd.specs.Carried.{Carried, IsLoaded}
 use Rattle.settings_cmd.proofs.Making.{is_none_of, spawn_none}
 

@@ -14,13 +14,11 @@ use Rattle.json_trees.specs.Collected.{result_map}
 use Rattle.json_trees.specs.declared.scalar.Scalar.{Scalar}
 use Rattle.store_image.specs.Paths.{sources_in}
 use Rattle.store_open.specs.declared.opened.Opened.{Opened}
-use Rattle.store_open.specs.declared.open_error.OpenError.{OpenError}
-use Rattle.store_open.specs.declared.open_error.OpenError.TheVariants as opening
 use Rattle.command_outcome.specs.Ends.{Outcome}
 use Rattle.command_outcome.specs.declared.refusal.Refusal.{Refusal}
 use Rattle.command_outcome.specs.declared.refusal.Refusal.TheVariants as refused
 use Rattle.core_commands.specs.Committing.{Commits, IsOfCommit}
-use Rattle.core_commands.specs.Handing.{HasSpawnCause, not_opened}
+use Rattle.core_commands.specs.Handing.{HasSpawnCause}
 use Rattle.core_commands.proofs.Causes.{quiet_spawn}
 use Rattle.setting_generators.specs.Asking.{FailsBy, wanted}
 use Rattle.setting_generators.specs.Generators.{Given}
@@ -126,18 +124,6 @@ module _ (before now : ℕ) where
       quiet_spawn refusal before now (not_failed asking.Memory (λ k same. cc same) fails)
       (λ name told. let clash : refused.Memory ≡ refused.Spawn name = sym is ∙ told in cc clash)
       (λ told. let clash : refused.Memory ≡ refused.Door = sym is ∙ told in cc clash)
-
--- Why a store was not opened tells of no program.
-pub unopened_unspawned : (e : OpenError) (name : List ℕ) → not_opened e ≡ refused.Spawn name → ⊥
-unopened_unspawned opening.NoStore name is = cc is
-unopened_unspawned (opening.BadLink path) name is = cc is
-unopened_unspawned (opening.BadJournal path) name is = cc is
-unopened_unspawned (opening.Damaged path) name is = cc is
-unopened_unspawned (opening.OldFormat directory) name is = cc is
-unopened_unspawned (opening.BadImage file kind at) name is = cc is
-unopened_unspawned (opening.IllTyped key) name is = cc is
-unopened_unspawned opening.Failed name is = cc is
-unopened_unspawned opening.Memory name is = cc is
 
 -- ---- what generators give to an open store
 

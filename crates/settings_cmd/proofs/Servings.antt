@@ -1,6 +1,5 @@
 -- A store is opened and served.
-use Rattle.std.proofs.Common.{◌≡◌, ℕ, Bool, true, false, List, Option, Ok, Err, IsOk, refl, sym, ◌∙◌, ap, subst}
-use Rattle.std.specs.Result.{IsErrOf}
+use Rattle.std.proofs.Common.{◌≡◌, ℕ, Bool, false, List, Option, Ok, Err, sym, ◌∙◌, ap, subst}
 use Rattle.outside.specs.Exchange.{Exchange}
 use Rattle.outside.specs.History.{History}
 use Rattle.outside.specs.Spawner.{Run}
@@ -15,16 +14,13 @@ use Rattle.store_open.specs.Laws.{HoldsImage, IsImageOfFolder}
 use Rattle.store_open.specs.Opening.{Opens}
 use Rattle.store_open.specs.declared.opened.Opened.{Opened}
 use Rattle.store_open.specs.declared.open_error.OpenError.{OpenError}
-use Rattle.store_open.specs.declared.open_error.OpenError.TheVariants as opening
 use Rattle.store_open.proofs.MachineRuns.{openings_run}
 use Rattle.api_core.specs.Cores.{core_state}
 use Rattle.api_core.specs.declared.serving.Core.{Core}
 use Rattle.api_server.specs.Serving as server
 use Rattle.api_server.specs.Serving.{AreServed}
-use Rattle.command_outcome.specs.declared.refusal.Refusal.TheVariants as refused
 use Rattle.core_commands.specs.Carried.{core_over}
-use Rattle.core_commands.specs.Handing.{not_opened}
-use Rattle.settings_cmd.specs.Serving.{served, Serves, OpensAndServes}
+use Rattle.settings_cmd.specs.Serving.{Serves, OpensAndServes}
 
 opened_job : (I : Image) (W : World) (boot : Bool) → W.job ≡ Idle → Idle ≡ (opened I W boot).job
 unfolding opened
@@ -66,40 +62,3 @@ refusal_serves boot slice e x x' r r' old new opens = record {
 }
 
 -- ---- how it ends
-
--- It ends well exactly where no accept failed,
-pub served_fine : (fine : Bool) → IsOk (served fine) → fine ≡ true
-served_fine true ok = refl
-served_fine false ok = absurd (cc ok)
-
-pub served_door : (fine : Bool) → IsErrOf (served fine) refused.Door → fine ≡ false
-served_door true is = absurd (cc is)
-served_door false is = refl
-
--- and never tells of the disk then.
-pub served_disk : (fine : Bool) → IsErrOf (served fine) refused.Disk → ⊥
-served_disk true is = cc is
-served_disk false is = cc is
-
--- A store that was not opened tells of the disk only where that failed, and never of the door.
-pub unopened_disk : (e : OpenError) → not_opened e ≡ refused.Disk → e ≡ opening.Failed
-unopened_disk opening.NoStore is = absurd (cc is)
-unopened_disk (opening.BadLink path) is = absurd (cc is)
-unopened_disk (opening.BadJournal path) is = absurd (cc is)
-unopened_disk (opening.Damaged path) is = absurd (cc is)
-unopened_disk (opening.OldFormat directory) is = absurd (cc is)
-unopened_disk (opening.BadImage file kind at) is = absurd (cc is)
-unopened_disk (opening.IllTyped key) is = absurd (cc is)
-unopened_disk opening.Failed is = refl
-unopened_disk opening.Memory is = absurd (cc is)
-
-pub unopened_door : (e : OpenError) → not_opened e ≡ refused.Door → ⊥
-unopened_door opening.NoStore is = cc is
-unopened_door (opening.BadLink path) is = cc is
-unopened_door (opening.BadJournal path) is = cc is
-unopened_door (opening.Damaged path) is = cc is
-unopened_door (opening.OldFormat directory) is = cc is
-unopened_door (opening.BadImage file kind at) is = cc is
-unopened_door (opening.IllTyped key) is = cc is
-unopened_door opening.Failed is = cc is
-unopened_door opening.Memory is = cc is

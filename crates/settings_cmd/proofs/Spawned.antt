@@ -1,5 +1,5 @@
 -- What a refusal tells of the spawner and of the door.
-use Rattle.std.proofs.Common.{arith, ◌≡◌, ℕ, Ok, Err, refl, sym, ◌∙◌, subst}
+use Rattle.std.proofs.Common.{arith, ◌≡◌, ℕ, Ok, Err, refl, subst}
 use Rattle.std.specs.Prelude.{IfErr}
 use Rattle.std.specs.Result.{IsErrOf}
 use Rattle.migrate_chain.specs.Causes.{HasNamedCause}
@@ -7,10 +7,7 @@ use Rattle.command_outcome.specs.Ends.{Outcome}
 use Rattle.command_outcome.specs.declared.refusal.Refusal.{Refusal}
 use Rattle.command_outcome.specs.declared.refusal.Refusal.TheVariants as refused
 use Rattle.core_commands.specs.Handing.{HasSpawnCause}
-use Rattle.migrate_chain.specs.declared.move_error.MoveError.{MoveError}
-use Rattle.migrate_chain.specs.declared.move_error.MoveError.TheVariants as moving
 use Rattle.settings_cmd.specs.Checks.{IsOfImage}
-use Rattle.settings_cmd.specs.Handing.{HandsMoving}
 
 same_error : (y e : Refusal) → ◌≡◌ {A = Outcome} (Err y) (Err e) → y ≡ e
 same_error y e is = cc
@@ -34,17 +31,3 @@ cause_named (Err refusal) before now cause no_door = record {
   kept = λ not memory. cause.other refl not;
   no_door = no_door;
 }
-
--- Why a store was not moved tells of no door.
-pub moving_no_door : (e : MoveError) (outcome : Outcome) → HandsMoving e outcome → IsErrOf outcome refused.Door → ⊥
-moving_no_door moving.NoStore outcome hands is = cc (sym hands ∙ is)
-moving_no_door (moving.BadLink path) outcome hands is = cc (sym hands ∙ is)
-moving_no_door (moving.BadJournal path) outcome hands is = cc (sym hands ∙ is)
-moving_no_door (moving.Damaged path) outcome hands is = cc (sym hands ∙ is)
-moving_no_door (moving.Missing at target) outcome hands is = cc (sym hands ∙ is)
-moving_no_door (moving.Conflict key) outcome hands is = cc (sym hands ∙ is)
-moving_no_door (moving.Status name number) outcome hands is = cc (sym hands ∙ is)
-moving_no_door (moving.BadAnswer name) outcome hands is = cc (sym hands ∙ is)
-moving_no_door (moving.Spawn name) outcome hands is = cc (sym hands ∙ is)
-moving_no_door moving.Failed outcome hands is = cc (sym hands ∙ is)
-moving_no_door moving.Memory outcome hands is = cc (sym hands ∙ is)

@@ -16,7 +16,7 @@ use Rattle.store_open.specs.declared.opened.Opened.{Opened}
 use Rattle.release_file.specs.declared.release.Release.{Release}
 use Rattle.migrate_chain.specs.declared.moving.Moved.{Moved}
 use Rattle.migrate_chain.specs.declared.move_error.MoveError.{MoveError}
-use Rattle.migrate_programs.specs.Moving.{MovesByPrograms}
+use Rattle.migrate_chain.specs.ByPrograms.{MovesByPrograms}
 use Rattle.migrate_chain.specs.Pruning.{Prunes}
 use Rattle.migrate_chain.specs.declared.prune_error.PruneError.{PruneError}
 use Rattle.command_words.specs.Orders.{Spells, serve, set, apply, migrate, generate}
@@ -25,7 +25,7 @@ use Rattle.command_outcome.specs.Ends.{Outcome}
 use Rattle.command_outcome.specs.declared.refusal.Refusal.{Refusal}
 use Rattle.command_outcome.specs.declared.refusal.Refusal.TheVariants as refused
 use Rattle.core_commands.specs.Handing.{not_opened}
-use Rattle.load_run.specs.Loads.{Loads}
+use Rattle.load_input.specs.Loads.{Loads}
 use Rattle.settings_cmd.specs.Checks.{TellsOfImage}
 use Rattle.settings_cmd.specs.Committing.{Made, CommitsMade}
 use Rattle.settings_cmd.specs.Generators.{generate_tx, IsGenerated}

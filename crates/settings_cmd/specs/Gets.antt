@@ -4,7 +4,7 @@ use Rattle.settings_tree.specs.Content.{settings_key}
 use Rattle.api_http.specs.declared.refusal.Refusal.{Refusal}
 use Rattle.api_http.specs.declared.refusal.Refusal.TheVariants as http
 use Rattle.api_http.specs.Replies.{status_of, refusal_text}
-use Rattle.live_trees.specs.Below.{Values, HasBelow, IsFirstWithout}
+use Rattle.settings_tree.specs.Below.{Values, HasBelow, IsFirstWithout}
 use Rattle.store_open.specs.declared.open_error.OpenError.{OpenError}
 use Rattle.store_open.specs.declared.opened.Opened.{Opened}
 use Rattle.command_outcome.specs.Ends.{Outcome}

@@ -27,7 +27,11 @@ fn refusal_of(error: InitError) -> Result<Bytes, Refusal>
 ///
 /// `AlreadyThere` exactly where the links lead to a store; `BadLink` where a link of the chain is missing or bad; `Disk` where the
 /// disk failed; `Memory` where memory is wanting, and never once the store is begun.
-pub fn begin<D: Disk>(alloc: Global, disk: &mut D, version: &Version) -> Result<Bytes, Refusal>
+pub(crate) fn begin<D: Disk>(
+    alloc: Global,
+    disk: &mut D,
+    version: &Version,
+) -> Result<Bytes, Refusal>
     ensures begun { Carried (IsBegun version.now) result (D.told disk.old) (D.told disk.new) }
     ensures cause { HasCauseOf Refusal.Disk (D.faults disk.old) (D.faults disk.new) result }
 {

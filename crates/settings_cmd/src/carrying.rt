@@ -27,7 +27,7 @@ use command_outcome::Refusal;
 use command_words::{Command, WordsError};
 use core_commands::{apply, set};
 use key_names::Bytes;
-use load_run::load;
+use load_input::load;
 use outside::{Asker, Disk, Door};
 use std::alloc::Global;
 

@@ -45,7 +45,7 @@ fn report(alloc: Global, image: &Image) -> Result<Bytes, Refusal>
 ///
 /// `BadImage` exactly where the files make no image, with the first fault; `Disk` where the disk failed; `Memory` where memory
 /// is wanting. It takes the time of `read_image` and of `check_files`.
-pub fn check<D: Disk>(alloc: Global, disk: &mut D) -> Result<Bytes, Refusal>
+pub(crate) fn check<D: Disk>(alloc: Global, disk: &mut D) -> Result<Bytes, Refusal>
     ensures same { D.told disk.new ≡ D.told disk.old }
     ensures tells { WhereTold (D.told disk.old) (λ h. TellsOfImage (sources_in (tree_of h)) result) }
     ensures of_image { IfErr result IsOfImage }

@@ -121,7 +121,7 @@ fn generate_in<D: Disk, S: Asker>(
 /// first; then, by the first command that gives no value, `GeneratorStatus`, `GeneratorOutput`, or `Spawn` with the printed key where it
 /// could not be asked; then `Refused` where the types refuse a value. Nothing is set after any of these. `Disk` where the disk failed;
 /// `Memory` where memory is wanting.
-pub fn generate<D: Disk, S: Asker>(
+pub(crate) fn generate<D: Disk, S: Asker>(
     alloc: Global,
     disk: &mut D,
     spawner: &mut S,

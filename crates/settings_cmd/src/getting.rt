@@ -7,9 +7,8 @@ ghost use Rattle.settings_cmd.specs.Gets.{Answers, IsNoKey, asked};
 use command_outcome::Refusal;
 use core_commands::{not_opened, tree_line};
 use key_names::{Bytes, Key};
-use live_trees::first_without;
 use outside::Disk;
-use settings_tree::Content;
+use settings_tree::{Content, first_without};
 use std::alloc::Global;
 use store_open::open_store;
 
@@ -54,7 +53,7 @@ fn tree_of(alloc: Global, live: &Content, given: &[Key]) -> Result<Bytes, Refusa
 ///
 /// Why the store can't be opened comes first; then `Refused` with `NoKey` for the first given key at and below which no value
 /// stands. `Disk` where the disk failed; `Memory` where memory is wanting. Besides the opening it takes one pass over all values.
-pub fn get<D: Disk>(alloc: Global, disk: &mut D, keys: &[Key]) -> Result<Bytes, Refusal>
+pub(crate) fn get<D: Disk>(alloc: Global, disk: &mut D, keys: &[Key]) -> Result<Bytes, Refusal>
     ensures got { IsGot keys.now result (D.told disk.old) (D.told disk.new) }
     ensures cause { HasCauseOf Refusal.Disk (D.faults disk.old) (D.faults disk.new) result }
 {

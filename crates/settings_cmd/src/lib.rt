@@ -15,13 +15,5 @@ mod releasing;
 mod serving;
 mod version_line;
 
-pub use beginning::begin;
 pub use carrying::carry_out;
-pub use checking::check;
-pub use generating::generate;
-pub use getting::get;
 pub use law::laws;
-pub use migrating::migrate_to;
-pub use provisioning::provision;
-pub use pruning::prune_others;
-pub use serving::serve_store;

@@ -9,8 +9,7 @@ use crate::releasing::read_release;
 use crate::version_line::version_line;
 use command_outcome::Refusal;
 use key_names::Bytes;
-use migrate_chain::MoveError;
-use migrate_programs::migrate_by_programs;
+use migrate_chain::{MoveError, migrate_by};
 use outside::{Asker, Disk};
 use std::alloc::Global;
 use version_links::Version;
@@ -37,11 +36,11 @@ fn refused(error: MoveError) -> Result<Bytes, Refusal>
 /// Reads the release of the image, moves the store to this version along its transitions, asks the programs on the way, and
 /// answers the version and a line feed.
 ///
-/// `BadImage` where the release is missing or has a fault comes first. Then, by `migrate_by_programs`: `NoStore`, `BadLink`,
+/// `BadImage` where the release is missing or has a fault comes first. Then, by `migrate_by`: `NoStore`, `BadLink`,
 /// `BadJournal`, `Damaged`, `Missing`, `Conflict`, `MigrationStatus` and `MigrationOutput` by what a program answered, `Spawn` where
 /// it could not be asked, and nothing was moved. `Disk` where the disk failed; `Memory` where memory is wanting, and never once the
 /// store is moved.
-pub fn migrate_to<D: Disk, S: Asker>(
+pub(crate) fn migrate_to<D: Disk, S: Asker>(
     alloc: Global,
     disk: &mut D,
     spawner: &mut S,
@@ -55,7 +54,7 @@ pub fn migrate_to<D: Disk, S: Asker>(
 {
     let line = version_line(alloc, to)?;
     let release = read_release(alloc, disk)?;
-    match migrate_by_programs(alloc, disk, to, &release, spawner) {
+    match migrate_by(alloc, disk, to, &release, spawner) {
         Ok(_) => Ok(line),
         Err(error) => refused(error),
     }

@@ -123,7 +123,7 @@ fn provide<D: Disk>(
 /// Why the store can't be opened comes first; then `UserData` exactly where no file is at the path or it has a fault, with the first;
 /// then `Refused` where the types refuse a value, and nothing is set then. `Disk` where the disk failed; `Memory` where memory is
 /// wanting.
-pub fn provision<D: Disk>(alloc: Global, disk: &mut D, path: &Path) -> Result<Bytes, Refusal>
+pub(crate) fn provision<D: Disk>(alloc: Global, disk: &mut D, path: &Path) -> Result<Bytes, Refusal>
     ensures provided { Carried (IsProvided path.now) result (D.told disk.old) (D.told disk.new) }
     ensures unspawned { (name : List ℕ) → IsErrOf result (Refusal.Spawn name) → ⊥ }
     ensures no_door { IsErrOf result Refusal.Door → ⊥ }

@@ -29,7 +29,7 @@ fn ended(alloc: Global, fine: bool) -> Result<Bytes, Refusal>
 ///
 /// Why the store can't be opened comes first. Once it is open, `Door` exactly where an accept failed: a running job is then left, and
 /// its keys stay owed. Failures of requests, of turns and of single connections don't end it, and are told to their clients alone.
-pub fn serve_store<D: Disk, S: Spawner, N: Door>(
+pub(crate) fn serve_store<D: Disk, S: Spawner, N: Door>(
     alloc: Global,
     boot: bool,
     slice: Option<u32>,

@@ -14,7 +14,7 @@ use Rattle.settings_machine.specs.Requests.{Request, Root, OsNames, Settings, Se
 use Rattle.settings_machine.specs.Requests.{Commit, Apply, CommitAndApply, JobNow}
 use Rattle.settings_machine.specs.Step.{Outcome, Answered, WithoutMemory, Unopened, Faulted, Answer, Fine, NoRoom, FileFault, NoSpawn, SyncFault, OwedFault}
 use Rattle.settings_machine.specs.Step.{patch_next, commit_next, commit_and_apply_next, answered, request_next}
-use Rattle.settings_machine.specs.Step.{wrote, Command, last_turn, after_files_turn, work_turn, job_turn, turn_next, opened}
+use Rattle.settings_machine.specs.Step.{wrote, Command, after_files_turn, work_turn, job_turn, turn_next, opened}
 use Rattle.settings_machine.specs.Events.{Event, Opening, Succeeded, Failing, Opened, Asked, Unread, Turned, Began, Moved, opening_next, next, after}
 use Rattle.settings_machine.specs.Jobs.{Ending, Course, run_at, run_of, is_last, ending_of, followed, begun_by, next_courses}
 use Rattle.settings_machine.specs.Jobs.{courses, runs_in, IsHistoryOf, JobsRunInOrder}
@@ -71,14 +71,6 @@ module _ (I : Image) where
   wrote_runs : (W : World) (f : List ℕ) (fs : List (List ℕ)) (w : Work) (r : Rendered) → (wrote I W f fs w r).runs ≡ W.runs
   wrote_runs W f fs w (Ok bytes) = refl
   wrote_runs W f fs w (Err e) = refl
-
-  last_runs : (W : World) (w : Work) (a : Answer) → (last_turn I W w a).runs ≡ W.runs
-  last_runs W w (Fine status) = refl
-  last_runs W w NoRoom = refl
-  last_runs W w (FileFault left) = refl
-  last_runs W w NoSpawn = refl
-  last_runs W w SyncFault = refl
-  last_runs W w (OwedFault stored) = refl
 
   command_runs : (W : World) (w : Work) (a : Answer) (commands : List Command) → w.files ≡ [] → w.commands ≡ commands
       → (after_files_turn I W commands w a).runs ≡ W.runs ++ run_of (Turned a) (Running w)

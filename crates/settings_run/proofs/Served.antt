@@ -8,7 +8,7 @@ use Rattle.settings_machine.specs.Events.{Event, Asked, are_served, after, fault
 use Rattle.settings_machine.proofs.Sequences.{served-append}
 use Rattle.machine_disk.specs.Ran.{Reopens, Handled}
 use Rattle.machine_disk.proofs.Runs.{slice_served, driven_served}
-use Rattle.core_turns.specs.Turned.{AreTurns}
+use Rattle.affected_apply.specs.Turned.{AreTurns}
 use Rattle.core_commands.specs.Asking.{asked_all, Succeeds, Stops}
 use Rattle.core_commands.specs.Carried.{HasStopped, HasEnded, Comes}
 use Rattle.core_commands.specs.Committing.{ComesTo}

@@ -4,7 +4,7 @@ ghost use Rattle.outside.specs.Told.{Moves};
 ghost use Rattle.outside.specs.Faults.{Rose};
 ghost use Rattle.outside.specs.Spawner.{texts};
 ghost use Rattle.json_trees.specs.declared.scalar.Scalar.{Scalar as Value};
-ghost use Rattle.sink_text.specs.Said.{IsSaid};
+ghost use Rattle.outside.specs.Said.{IsSaid};
 ghost use Rattle.command_words.specs.Orders.{Spells, SpellsNone};
 ghost use Rattle.command_words.specs.Orders.{init as InitOrder, serve as ServeOrder, set as SetOrder, get as GetOrder, apply as ApplyOrder, check as CheckOrder};
 ghost use Rattle.command_words.specs.Orders.{migrate as MigrateOrder, prune as PruneOrder, generate as GenerateOrder, user_data as UserDataOrder, load as LoadOrder};

@@ -74,7 +74,4 @@ module _ {X : Type 0} (m : FinMap key_cmp X) (p : List (List ℕ)) where
   pub none_later : (a : List (List ℕ)) → HasNoneAfter m (Some a) → HasNoneBelow m p (Some a)
   none_later a end = record { none = λ q past longer. end.none q past }
 
-  pub none_past : (a : List (List ℕ)) → HasNoneBelow m p None → HasNoneBelow m p (Some a)
-  none_past a end = record { none = λ q past longer. end.none q tt longer }
-
 pub ruleset below_prefix = (first_least, first_none, later_least, later_none, none_from_prefix, none_later)

@@ -5,7 +5,7 @@ use Rattle.std.specs.declared.result.Result.{Result}
 use Rattle.std.specs.declared.result.Result.TheVariants.{Ok, Err}
 use Rattle.std.specs.Ordering.{eq_by_cmp}
 use Rattle.std.specs.Cmp.{eq_by_cmp_equiv}
-use Rattle.std.specs.FinMap.{FinMap, get, insert, remove, empty, get-empty, get-insert, same_map}
+use Rattle.std.specs.FinMap.{FinMap, get, insert, remove, empty, get-empty, get-insert}
 use Rattle.std.proofs.lemmas.List.Elements.{All-nil, All-cons, All-head, All-tail, All-weaker, All-filter}
 use Rattle.key_names.specs.Order.{key_cmp, key_total, key_cmp-IsAntisymmetric, bytes_cmp, bytes_total, bytes_cmp-IsAntisymmetric}
 use Rattle.json_trees.specs.declared.scalar.Scalar.{Scalar}
@@ -14,7 +14,7 @@ use Rattle.settings_maps.specs.KeyList.{without_key}
 use Rattle.settings_maps.specs.Maps.{value_at, with_value, without_value, IsFull}
 use Rattle.settings_tree.specs.Rule.{IsPrefixFree, Fits}
 use Rattle.settings_maps.specs.TxName.{is_meta_name}
-use Rattle.settings_maps.proofs.NestedMaps.{get-remove_other, full_empty, full_with, full_without, same_nested, value_at-with, value_at-without, tied_by}
+use Rattle.settings_maps.proofs.NestedMaps.{get-remove_other, full_empty, full_with, full_without, value_at-with, value_at-without, tied_by}
 use Rattle.settings_tree.proofs.PrefixRule.{empty_free, put_free, take_free}
 
 named_empty : IsNamed empty
@@ -137,12 +137,5 @@ module _ (values : FinMap key_cmp Scalar) (metadata : FinMap key_cmp (FinMap byt
     named = content.named;
     weak = subst (λ (c : Contents). All (MayBeWeak c.values) keys) (sym seen) may;
   }
-
--- Contents with equal values, metadata and weak keys are equal.
-pub same_contents : (c d : Contents) → IsContent c → IsContent d → ((k : List (List ℕ)) → get c.values k ≡ get d.values k) → ((k : List (List ℕ)) (n : List ℕ) → value_at c.metadata k n ≡ value_at d.metadata k n) → c.weak ≡ d.weak → c ≡ d
-same_contents c d one other values metadata weak =
-    let v : c.values ≡ d.values = same_map key_total key_cmp-IsAntisymmetric c.values d.values values in
-    let m : c.metadata ≡ d.metadata = same_nested key_total key_cmp-IsAntisymmetric bytes_total bytes_cmp-IsAntisymmetric c.metadata d.metadata one.full other.full metadata in
-    λ i. record { values = v i; metadata = m i; weak = weak i }
 
 pub ruleset contents = (no_rules, without_absent_key, put_keeps, put_new_keeps, take_keeps, put_meta_keeps, take_meta_keeps, set_weak_keeps)

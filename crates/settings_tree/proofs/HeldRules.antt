@@ -1,75 +1,22 @@
 -- A change that is laid keeps the rules of what is held.
-use Rattle.std.proofs.Common.{arith, ◌≡◌, ℕ, suc, List, [], ◌∷◌, Bool, true, false, cond, IsTrue, IsSome, slice_index_or, refl, sym, ◌∙◌, ap, subst}
+use Rattle.std.proofs.Common.{arith, ◌≡◌, ℕ, suc, List, [], ◌∷◌, IsTrue, IsSome, slice_index_or, refl, sym, ◌∙◌, ap, subst}
 use Rattle.std.specs.Prelude.{All, Contains, OnOk, OnErr}
 use Rattle.std.specs.List.{list_all}
 use Rattle.std.specs.declared.result.Result.{Result}
 use Rattle.std.specs.declared.result.Result.TheVariants.{Ok, Err}
-use Rattle.std.specs.Ordering.{eq_by_cmp}
-use Rattle.std.specs.FinMap.{FinMap, remove}
 use Rattle.std.proofs.lemmas.Bool.{and_parts}
-use Rattle.key_names.specs.Order.{key_cmp, bytes_cmp, bytes_total}
-use Rattle.json_trees.specs.declared.scalar.Scalar.{Scalar}
-use Rattle.json_trees.specs.declared.pending.Pending.{Pending}
 use Rattle.settings_tree.specs.Change.{is_unnamed, has_bare_name}
 use Rattle.settings_tree.specs.Change.{Live, TheWeak}
 use Rattle.settings_tree.specs.Content.{IsContent, IsNamed, MayBeWeak}
 use Rattle.settings_tree.specs.Laid.{laid, laid_one, KeepsPrefixRule, NamesWeak, TellsWeak}
-use Rattle.settings_maps.specs.Maps.{inner}
-use Rattle.settings_maps.proofs.NestedMaps.{inner-with, inner-with_inner}
 use Rattle.settings_tree.specs.Pending.{IsPending}
-use Rattle.settings_tree.specs.Rule.{IsPrefixFree, Fits}
 use Rattle.settings_tree.specs.Rooms.{IsFullHeld}
 use Rattle.settings_tree.specs.declared.entry.Entry.{Entry}
 use Rattle.settings_tree.specs.declared.entry.Entry.TheVariants.{LiveSet, LiveGone, MetaSet, MetaGone, PendSet, PendGone, OwedSet, ImageSet, WeakIs}
-use Rattle.settings_tree.specs.declared.entry.Owed.{Owed}
 use Rattle.settings_tree.specs.declared.held.Held.{Held}
 use Rattle.settings_tree.proofs.Contents.{named_with, named_without}
 use Rattle.settings_tree.proofs.LaidAt.{value_unnamed}
 use Rattle.settings_tree.proofs.Laying.{full_laid}
-use Rattle.settings_tree.proofs.PrefixRule.{put_free, take_free}
-
--- What is held with its rules keeps the prefix rule.
-pub rule_held : (h : Held) → IsContent h.live → IsPending h.pending → KeepsPrefixRule h
-rule_held h content pending = record { live = content.rule; pending = pending.rule }
-
-free_cond : {X : Type 0} (b : Bool) (m n : FinMap key_cmp X) → IsPrefixFree m → IsPrefixFree n → IsPrefixFree (cond b m n)
-free_cond true m n one other = one
-free_cond false m n one other = other
-
--- Laws for the crates above: what each kind of entry needs, so that the prefix rule is kept.
-pub rule_live_set : (h : Held) (k : List (List ℕ)) (v : Scalar) → KeepsPrefixRule h → Fits h.live.values k → KeepsPrefixRule (laid_one h (LiveSet k v))
-rule_live_set h k v rule fits = record { live = put_free h.live.values k v rule.live fits; pending = rule.pending }
-
-pub rule_live_gone : (h : Held) (k : List (List ℕ)) → KeepsPrefixRule h → KeepsPrefixRule (laid_one h (LiveGone k))
-rule_live_gone h k rule = record { live = take_free h.live.values k rule.live; pending = rule.pending }
-
-pub rule_pend_set : (h : Held) (t : List ℕ) (k : List (List ℕ)) (v : Pending) → KeepsPrefixRule h → Fits (inner h.pending t) k → KeepsPrefixRule (laid_one h (PendSet t k v))
-rule_pend_set h t k v rule fits = record {
-  live = rule.live;
-  pending = λ u. subst IsPrefixFree (sym (inner-with bytes_total h.pending t u k v)) (free_cond (eq_by_cmp bytes_cmp u t) _ _ (put_free (inner h.pending t) k v (rule.pending t) fits) (rule.pending u));
-}
-
-pub rule_pend_gone : (h : Held) (t : List ℕ) (k : List (List ℕ)) → KeepsPrefixRule h → KeepsPrefixRule (laid_one h (PendGone t k))
-rule_pend_gone h t k rule = record {
-  live = rule.live;
-  pending = λ u. subst IsPrefixFree (sym (inner-with_inner bytes_total h.pending t u (remove (inner h.pending t) k))) (free_cond (eq_by_cmp bytes_cmp u t) _ _ (take_free (inner h.pending t) k (rule.pending t)) (rule.pending u));
-}
-
--- Every other kind needs nothing.
-pub rule_meta_set : (h : Held) (k : List (List ℕ)) (n : List ℕ) (v : Scalar) → KeepsPrefixRule h → KeepsPrefixRule (laid_one h (MetaSet k n v))
-rule_meta_set h k n v rule = record { live = rule.live; pending = rule.pending }
-
-pub rule_meta_gone : (h : Held) (k : List (List ℕ)) (n : List ℕ) → KeepsPrefixRule h → KeepsPrefixRule (laid_one h (MetaGone k n))
-rule_meta_gone h k n rule = record { live = rule.live; pending = rule.pending }
-
-pub rule_owed : (h : Held) (o : Owed) → KeepsPrefixRule h → KeepsPrefixRule (laid_one h (OwedSet o))
-rule_owed h o rule = record { live = rule.live; pending = rule.pending }
-
-pub rule_image : (h : Held) (i : List ℕ) → KeepsPrefixRule h → KeepsPrefixRule (laid_one h (ImageSet i))
-rule_image h i rule = record { live = rule.live; pending = rule.pending }
-
-pub rule_weak : (h : Held) (w : List (List (List ℕ))) → KeepsPrefixRule h → KeepsPrefixRule (laid_one h (WeakIs w))
-rule_weak h w rule = record { live = rule.live; pending = rule.pending }
 
 -- What is held has full maps.
 pub held_full : (h : Held) → IsContent h.live → IsPending h.pending → IsFullHeld h

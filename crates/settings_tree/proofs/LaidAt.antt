@@ -1,21 +1,16 @@
 -- What stands where after a change is laid: laws for the crates above.
-use Rattle.std.proofs.Common.{arith, ◌≡◌, ◌<◌, ◌++◌, ◌&&◌, ℕ, zero, suc, List, [], ◌∷◌, length, slice_index_or, Some, None, Bool, true, false, cond, not, IsTrue, refl, ◌∙◌, ap, subst}
+use Rattle.std.proofs.Common.{arith, ◌≡◌, ◌<◌, ◌++◌, ◌&&◌, ℕ, zero, suc, List, [], ◌∷◌, length, slice_index_or, None, Bool, true, false, cond, not, IsTrue, refl, ◌∙◌, ap, subst}
 use Rattle.std.specs.Prelude.{Contains}
-use Rattle.std.specs.Ordering.{eq_by_cmp}
 use Rattle.std.specs.FinMap.{get}
 use Rattle.std.proofs.lemmas.Bool.{and_parts, not-true}
-use Rattle.key_names.specs.Order.{key_cmp, key_total, bytes_cmp, bytes_total}
-use Rattle.json_trees.specs.declared.scalar.Scalar.{Scalar}
-use Rattle.json_trees.specs.declared.pending.Pending.{Pending}
+use Rattle.key_names.specs.Order.{key_total}
 use Rattle.settings_tree.specs.Change.{Place, place, is_same, is_unnamed, is_once}
-use Rattle.settings_tree.specs.Change.{Live, Meta, Pend, TheOwed, TheImage, TheWeak}
+use Rattle.settings_tree.specs.Change.{Live, TheOwed, TheWeak}
 use Rattle.settings_tree.specs.Laid.{laid, laid_one}
-use Rattle.settings_maps.specs.Maps.{value_at}
 use Rattle.settings_tree.specs.declared.entry.Entry.{Entry}
 use Rattle.settings_tree.specs.declared.entry.Entry.TheVariants.{LiveSet, LiveGone, MetaSet, MetaGone, PendSet, PendGone, OwedSet, ImageSet, WeakIs}
-use Rattle.settings_tree.specs.declared.entry.Owed.{Owed}
 use Rattle.settings_tree.specs.declared.held.Held.{Held}
-use Rattle.settings_maps.proofs.NestedMaps.{get-insert_same, get-insert_other, get-remove_same, get-remove_other, value_at-with, value_at-without, value_at-with_same, value_at-without_same}
+use Rattle.settings_maps.proofs.NestedMaps.{get-insert_other, get-remove_same, get-remove_other}
 
 -- One change after another is both in one.
 pub laid-append : (h : Held) (es fs : List Entry) → laid h (es ++ fs) ≡ laid (laid h es) fs
@@ -59,9 +54,6 @@ live_other k h (WeakIs w) apart = refl
 pub value_unnamed : (h : Held) (es : List Entry) (k : List (List ℕ)) → IsTrue (is_unnamed (Live k) es) → get (laid h es).live.values k ≡ get h.live.values k
 value_unnamed h es k = unnamed_stays (λ h. get h.live.values k) (Live k) (live_other k) h es
 
-pub value_set : (h : Held) (es : List Entry) (k : List (List ℕ)) (v : Scalar) → IsTrue (is_once es) → Contains es (LiveSet k v) → get (laid h es).live.values k ≡ Some v
-value_set h es k v = named_changes (λ h. get h.live.values k) (Live k) (live_other k) (LiveSet k v) (Some v) refl (λ h. get-insert_same key_total h.live.values k v) h es
-
 pub value_gone : (h : Held) (es : List Entry) (k : List (List ℕ)) → IsTrue (is_once es) → Contains es (LiveGone k) → get (laid h es).live.values k ≡ None
 value_gone h es k = named_changes (λ h. get h.live.values k) (Live k) (live_other k) (LiveGone k) None refl (λ h. get-remove_same key_total h.live.values k) h es
 
@@ -69,28 +61,6 @@ kept : {A : Type 0} (a b : Bool) (x y : A) → IsTrue (not (a && b)) → cond a 
 kept true true x y apart = absurd (grind arith)
 kept true false x y apart = refl
 kept false b x y apart = refl
-
-meta_other : (k : List (List ℕ)) (n : List ℕ) (h : Held) (e : Entry) → IsTrue (not (is_same (Meta k n) (place e))) → value_at (laid_one h e).live.metadata k n ≡ value_at h.live.metadata k n
-meta_other k n h (MetaSet q r v) apart = value_at-with key_total bytes_total h.live.metadata q k r n v ∙ kept (eq_by_cmp key_cmp k q) (eq_by_cmp bytes_cmp n r) _ _ apart
-meta_other k n h (MetaGone q r) apart = value_at-without key_total bytes_total h.live.metadata q k r n ∙ kept (eq_by_cmp key_cmp k q) (eq_by_cmp bytes_cmp n r) _ _ apart
-meta_other k n h (LiveSet q v) apart = refl
-meta_other k n h (LiveGone q) apart = refl
-meta_other k n h (PendSet t q v) apart = refl
-meta_other k n h (PendGone t q) apart = refl
-meta_other k n h (OwedSet o) apart = refl
-meta_other k n h (ImageSet i) apart = refl
-meta_other k n h (WeakIs w) apart = refl
-
-pend_other : (t : List ℕ) (k : List (List ℕ)) (h : Held) (e : Entry) → IsTrue (not (is_same (Pend t k) (place e))) → value_at (laid_one h e).pending t k ≡ value_at h.pending t k
-pend_other t k h (PendSet u q v) apart = value_at-with bytes_total key_total h.pending u t q k v ∙ kept (eq_by_cmp bytes_cmp t u) (eq_by_cmp key_cmp k q) _ _ apart
-pend_other t k h (PendGone u q) apart = value_at-without bytes_total key_total h.pending u t q k ∙ kept (eq_by_cmp bytes_cmp t u) (eq_by_cmp key_cmp k q) _ _ apart
-pend_other t k h (LiveSet q v) apart = refl
-pend_other t k h (LiveGone q) apart = refl
-pend_other t k h (MetaSet q n v) apart = refl
-pend_other t k h (MetaGone q n) apart = refl
-pend_other t k h (OwedSet o) apart = refl
-pend_other t k h (ImageSet i) apart = refl
-pend_other t k h (WeakIs w) apart = refl
 
 owed_other : (h : Held) (e : Entry) → IsTrue (not (is_same TheOwed (place e))) → (laid_one h e).owed ≡ h.owed
 owed_other h (OwedSet o) apart = absurd (grind arith)
@@ -103,17 +73,6 @@ owed_other h (PendGone t q) apart = refl
 owed_other h (ImageSet i) apart = refl
 owed_other h (WeakIs w) apart = refl
 
-image_other : (h : Held) (e : Entry) → IsTrue (not (is_same TheImage (place e))) → (laid_one h e).image ≡ h.image
-image_other h (ImageSet i) apart = absurd (grind arith)
-image_other h (LiveSet q v) apart = refl
-image_other h (LiveGone q) apart = refl
-image_other h (MetaSet q n v) apart = refl
-image_other h (MetaGone q n) apart = refl
-image_other h (PendSet t q v) apart = refl
-image_other h (PendGone t q) apart = refl
-image_other h (OwedSet o) apart = refl
-image_other h (WeakIs w) apart = refl
-
 weak_other : (h : Held) (e : Entry) → IsTrue (not (is_same TheWeak (place e))) → (laid_one h e).live.weak ≡ h.live.weak
 weak_other h (WeakIs w) apart = absurd (grind arith)
 weak_other h (LiveSet q v) apart = refl
@@ -125,38 +84,9 @@ weak_other h (PendGone t q) apart = refl
 weak_other h (OwedSet o) apart = refl
 weak_other h (ImageSet i) apart = refl
 
--- The same for metadata.
-pub meta_unnamed : (h : Held) (es : List Entry) (k : List (List ℕ)) (n : List ℕ) → IsTrue (is_unnamed (Meta k n) es) → value_at (laid h es).live.metadata k n ≡ value_at h.live.metadata k n
-meta_unnamed h es k n = unnamed_stays (λ h. value_at h.live.metadata k n) (Meta k n) (meta_other k n) h es
-
-pub meta_set : (h : Held) (es : List Entry) (k : List (List ℕ)) (n : List ℕ) (v : Scalar) → IsTrue (is_once es) → Contains es (MetaSet k n v) → value_at (laid h es).live.metadata k n ≡ Some v
-meta_set h es k n v = named_changes (λ h. value_at h.live.metadata k n) (Meta k n) (meta_other k n) (MetaSet k n v) (Some v) refl (λ h. value_at-with_same key_total bytes_total h.live.metadata k n v) h es
-
-pub meta_gone : (h : Held) (es : List Entry) (k : List (List ℕ)) (n : List ℕ) → IsTrue (is_once es) → Contains es (MetaGone k n) → value_at (laid h es).live.metadata k n ≡ None
-meta_gone h es k n = named_changes (λ h. value_at h.live.metadata k n) (Meta k n) (meta_other k n) (MetaGone k n) None refl (λ h. value_at-without_same key_total bytes_total h.live.metadata k n) h es
-
--- The same for the pending maps.
-pub pend_unnamed : (h : Held) (es : List Entry) (t : List ℕ) (k : List (List ℕ)) → IsTrue (is_unnamed (Pend t k) es) → value_at (laid h es).pending t k ≡ value_at h.pending t k
-pend_unnamed h es t k = unnamed_stays (λ h. value_at h.pending t k) (Pend t k) (pend_other t k) h es
-
-pub pend_set : (h : Held) (es : List Entry) (t : List ℕ) (k : List (List ℕ)) (v : Pending) → IsTrue (is_once es) → Contains es (PendSet t k v) → value_at (laid h es).pending t k ≡ Some v
-pend_set h es t k v = named_changes (λ h. value_at h.pending t k) (Pend t k) (pend_other t k) (PendSet t k v) (Some v) refl (λ h. value_at-with_same bytes_total key_total h.pending t k v) h es
-
-pub pend_gone : (h : Held) (es : List Entry) (t : List ℕ) (k : List (List ℕ)) → IsTrue (is_once es) → Contains es (PendGone t k) → value_at (laid h es).pending t k ≡ None
-pend_gone h es t k = named_changes (λ h. value_at h.pending t k) (Pend t k) (pend_other t k) (PendGone t k) None refl (λ h. value_at-without_same bytes_total key_total h.pending t k) h es
-
 -- The same for the owed keys, the image and the weak keys.
 pub owed_unnamed : (h : Held) (es : List Entry) → IsTrue (is_unnamed TheOwed es) → (laid h es).owed ≡ h.owed
 owed_unnamed h es = unnamed_stays (λ h. h.owed) TheOwed owed_other h es
-
-pub owed_set : (h : Held) (es : List Entry) (o : Owed) → IsTrue (is_once es) → Contains es (OwedSet o) → (laid h es).owed ≡ o
-owed_set h es o = named_changes (λ h. h.owed) TheOwed owed_other (OwedSet o) o refl (λ h. refl) h es
-
-pub image_unnamed : (h : Held) (es : List Entry) → IsTrue (is_unnamed TheImage es) → (laid h es).image ≡ h.image
-image_unnamed h es = unnamed_stays (λ h. h.image) TheImage image_other h es
-
-pub image_set : (h : Held) (es : List Entry) (i : List ℕ) → IsTrue (is_once es) → Contains es (ImageSet i) → (laid h es).image ≡ i
-image_set h es i = named_changes (λ h. h.image) TheImage image_other (ImageSet i) i refl (λ h. refl) h es
 
 pub weak_unnamed : (h : Held) (es : List Entry) → IsTrue (is_unnamed TheWeak es) → (laid h es).live.weak ≡ h.live.weak
 weak_unnamed h es = unnamed_stays (λ h. h.live.weak) TheWeak weak_other h es

@@ -13,3 +13,5 @@ pub mod RoomsUndone
 pub mod SettingKeys
 pub mod Stores
 pub mod Walks
+pub mod Firsts
+pub mod Walked

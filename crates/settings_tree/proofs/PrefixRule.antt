@@ -56,13 +56,6 @@ module _ {X : Type 0} where
   pub take_free : (m : FinMap key_cmp X) (k : List (List ℕ)) → IsPrefixFree m → IsPrefixFree (remove m k)
   take_free m k free = record { alone = λ p q has other begins. free.alone p q (left_at m k p has) (left_at m k q other) begins }
 
-  -- Each key fits a map that has none.
-  pub fits_none : (m : FinMap key_cmp X) (k : List (List ℕ)) → HasNoneAfter m None → Fits m k
-  fits_none m k empty = record {
-    longer = record { alone = λ q has begins. absurd (none_there (get m q) (empty.none q tt) has) };
-    shorter = record { alone = λ q has begins. absurd (none_there (get m q) (empty.none q tt) has) };
-  }
-
   -- Each key fits the empty map.
   pub fits_empty : (m : FinMap key_cmp X) (k : List (List ℕ)) → m ≡ empty → Fits m k
   fits_empty m k is = record {
@@ -71,15 +64,6 @@ module _ {X : Type 0} where
   } where
     nothing : (q : List (List ℕ)) → get m q ≡ None
     nothing q = ap (λ (w : FinMap key_cmp X). get w q) is ∙ get-empty key_cmp q
-
-  -- A map whose keys are those of two maps that keep the rule keeps it, where each key of the second fits the first.
-  pub joined_free : (m p n : FinMap key_cmp X) → IsPrefixFree m → IsPrefixFree p → ((k : List (List ℕ)) → IsSome (get p k) → Fits m k) → ((k : List (List ℕ)) → IsSome (get n k) → IsSome (get m k) ⊎ IsSome (get p k)) → IsPrefixFree n
-  joined_free m p n first second fits from = record { alone = λ k q has other begins. by k q begins (from k has) (from q other) } where
-    by : (k q : List (List ℕ)) → IsTrue (is_prefix k q) → IsSome (get m k) ⊎ IsSome (get p k) → IsSome (get m q) ⊎ IsSome (get p q) → k ≡ q
-    by k q begins (inl a) (inl b) = first.alone k q a b begins
-    by k q begins (inr a) (inr b) = second.alone k q a b begins
-    by k q begins (inl a) (inr b) = let fit : Fits m q = fits q b in fit.shorter.alone k a begins
-    by k q begins (inr a) (inl b) = let fit : Fits m k = fits k a in fit.longer.alone q b begins
 
   -- Where no key is above k, or the next one does not begin with it, none does.
   pub longer_none : (m : FinMap key_cmp X) (k : List (List ℕ)) → HasNoneAfter m (Some k) → HasNoLonger m k

@@ -1,21 +1,17 @@
 -- Keys that begin with `settings`, and which of them may be weak.
-use Rattle.std.proofs.Common.{arith, ◌≡◌, ◌<◌, ℕ, List, [], ◌∷◌, length, Option, Some, None, Bor, Bool, true, false, IsSome, IsTrue, is_some, slice_index_or, codes, refl, sym, ◌∙◌, ap, subst}
-use Rattle.std.specs.Prelude.{All}
-use Rattle.std.specs.FinMap.{get}
+use Rattle.std.proofs.Common.{arith, ◌≡◌, ◌<◌, ℕ, List, [], ◌∷◌, length, Bool, true, false, slice_index_or, codes, refl, sym, ◌∙◌, ap, subst}
 use Rattle.std.specs.List.Sorted.{IsStrictlySortedBy}
-use Rattle.std.specs.Option.{option_copied}
 use Rattle.std.specs.Ordering.{eq_by_cmp, is_eq}
 use Rattle.std.specs.Str.{bytes_eq}
 use Rattle.std.proofs.lemmas.Bool.{false_from_ne_true}
 use Rattle.std.proofs.lemmas.Cmp.{tied_itself}
-use Rattle.std.proofs.lemmas.List.Elements.{All-nil, All-cons}
 use Rattle.std.proofs.lemmas.Slice.Eq.{bytes_eq-Decides}
 use Rattle.std.proofs.Math.Bool.{and-true}
 use Rattle.key_names.specs.Order.{bytes_cmp, bytes_total}
 use Rattle.key_names.specs.Key.{is_prefix}
 use Rattle.key_names.proofs.Ties.{same_bytes}
 use Rattle.settings_maps.specs.KeyList.{IsRising}
-use Rattle.settings_tree.specs.Content.{Contents, MayBeWeak, settings_key}
+use Rattle.settings_tree.specs.Content.{settings_key}
 
 -- A key begins with `settings` where its first segment is that.
 pub is_below_settings : (k : List (List ℕ)) (b : Bool) → 0 < length k → b ≡ bytes_eq (slice_index_or k 0 []) (codes "settings") → b ≡ is_prefix settings_key k
@@ -27,16 +23,7 @@ is_below_settings (x ∷ xs) b low is = is ∙ by (bytes_eq x (codes "settings")
       sym (ap (eq_by_cmp bytes_cmp (codes "settings")) one ∙ ap is_eq (tied_itself bytes_total (codes "settings")))
   by false is = sym (false_from_ne_true _ (λ ties. absurd (cc (is, (bytes_eq-Decides x (codes "settings")).1 (sym ((same_bytes (codes "settings") x _ _ refl refl).0 ties))))))
 
--- One key that has a value and begins with `settings` may be weak.
-pub one_may : (v : Contents) (k : List (List ℕ)) (keys : List (List (List ℕ))) → keys ≡ k ∷ [] → IsSome (get v.values k) → IsTrue (is_prefix settings_key k) → All (MayBeWeak v.values) keys
-one_may v k keys is stands begins = subst (All (MayBeWeak v.values)) (sym is) (All-cons (MayBeWeak v.values) k [] (record { stands = stands; setting = begins }) (All-nil (MayBeWeak v.values)))
-
 -- One key alone rises.
 pub one_rises : (k : List (List ℕ)) (keys : List (List (List ℕ))) → keys ≡ k ∷ [] → IsRising keys
 unfolding IsStrictlySortedBy
 one_rises k keys is = subst IsRising (sym is) (tt, tt)
-
--- What is found is some copy.
-pub copied_some : {T : Type 0} (found : Option (Bor T)) → is_some found ≡ true → IsSome (option_copied found)
-copied_some None is = is
-copied_some (Some x) is = refl

@@ -6,3 +6,4 @@ pub mod Pending
 pub mod Rooms
 pub mod Rule
 pub mod Walks
+pub mod Below

@@ -6,6 +6,7 @@ mod change;
 mod content;
 mod entry;
 mod held;
+mod live_trees;
 mod made_of_parts;
 mod os;
 mod parts;
@@ -21,6 +22,7 @@ pub use json_trees::{
     Item, Items, Pending, Scalar, ScalarError, TreeError, flatten, flatten_patch, nest,
     nest_pending,
 };
+pub use live_trees::{first_without, tree_below};
 pub use os::{Os, OsName};
 pub use pend_maps::PendMaps;
 pub use rule::fits;

@@ -8,14 +8,14 @@ use Rattle.outside.specs.Names.{Names, path_cmp}
 use Rattle.outside.specs.Order.{path_total}
 use Rattle.outside.specs.History.{History, tree_of}
 use Rattle.outside.proofs.Trees.{path_cases, path_itself, path_same}
-use Rattle.settings_maps.specs.Maps.{IsLeastAfter, HasNoneAfter}
+use Rattle.settings_maps.specs.Maps.{IsLeastAfter}
 use Rattle.settings_tree.specs.Walks.{is_past}
 use Rattle.settings_tree.proofs.Walks.{past_fact}
 use Rattle.template_reader.specs.Parses.{fault}
 use Rattle.template_reader.specs.declared.template_error.TemplateError.{TemplateError}
 use Rattle.store_image.specs.Paths.{sources_in, template_path}
 use Rattle.store_image.specs.Refused.{Fault, template_fault}
-use Rattle.store_image.specs.Reading.{UpTo, AreAt, AreFaultless, AreThere, IsBadAt, IsFirstBadOf}
+use Rattle.store_image.specs.Reading.{UpTo, AreFaultless, AreThere, IsBadAt, IsFirstBadOf}
 use Rattle.key_names.proofs.Ties.{tied}
 
 abbrev Paths : Type 0
@@ -56,12 +56,6 @@ upto_next paths after k x sources source next upto = record {
     | inr other ↦ subst IsSome (sym (put_apart sources k source p other)) (upto.each p some (passed paths after k x next p some low other))
   ];
 }
-
-pub upto_all : (paths : Paths) (after : Option Names) (sources : Texts) → HasNoneAfter paths after → UpTo paths after sources → AreAt paths sources
-upto_all paths after sources end upto = record { only = upto.only; each = λ p some. by p some (is_past path_cmp after p) refl } where
-  by : (p : Names) → IsSome (get paths p) → (b : Bool) → is_past path_cmp after p ≡ b → IsSome (get sources p)
-  by p some true past = absurd (cc (ap is_some (end.none p (past_fact path_cmp after p past)), some))
-  by p some false past = upto.each p some past
 
 pub faultless_none : AreFaultless empty
 faultless_none = record { none = λ p source e. absurd (cc (get-empty {X = List ℕ} path_cmp p, e)) }

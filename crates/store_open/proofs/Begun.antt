@@ -18,7 +18,7 @@ use Rattle.store_open.specs.Handing.{HandsDisk, HandsLinkOn}
 use Rattle.outside.proofs.Since.{since_start, since_map, since_both, since_joined}
 use Rattle.outside.proofs.Goes.{since_goes, goes_stay, goes_map, goes_joined, tree_untouched, may_leave_untouched}
 use Rattle.commit_journal.specs.Files.{files_below, IsBelow}
-use Rattle.store_files.specs.Stands.{Stands}
+use Rattle.fs_datastore.specs.Stands.{Stands}
 use Rattle.fs_datastore.specs.Saving.{IsEmptyBelow, Saves}
 use Rattle.fs_datastore.proofs.Listing.{each_listed, in_list}
 use Rattle.version_links.specs.Names.{Target, store, directory, directory_name, is_in_store}
@@ -33,7 +33,7 @@ use Rattle.settings_machine.specs.Events.{new_held}
 use Rattle.store_open.specs.Beginning.{first_world, HasBegun, IsBegun, Begins, Places}
 use Rattle.store_open.specs.declared.begin_error.InitError.{InitError}
 use Rattle.store_open.specs.declared.begin_error.InitError.TheVariants as refused
-use Rattle.store_files.proofs.Alike.{stand_alike, stands_without_journal}
+use Rattle.fs_datastore.proofs.Alike.{stand_alike, stands_without_journal}
 use Rattle.store_open.proofs.Worlds.{store_apart, holds_plain}
 
 -- ---- a free directory has nothing below it

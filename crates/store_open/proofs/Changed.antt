@@ -15,8 +15,8 @@ use Rattle.commit_journal.specs.Stands.{journal, TreeStandsFor, ChangesOnlyBelow
 use Rattle.commit_journal.specs.Recovery.{Recovers, FromSyncOn}
 use Rattle.commit_journal.proofs.Elsewhere.{only_below}
 use Rattle.settings_tree.specs.declared.held.Held.{Held}
-use Rattle.store_files.specs.Stands.{Stands}
-use Rattle.store_files.proofs.Meaning.{one_meaning}
+use Rattle.fs_datastore.specs.Stands.{Stands}
+use Rattle.fs_datastore.proofs.Meaning.{one_meaning}
 use Rattle.store_image.specs.declared.image.Image.{Image}
 use Rattle.store_image.specs.Paths.{sources_in}
 use Rattle.version_links.specs.Names.{store}
@@ -28,7 +28,7 @@ use Rattle.settings_machine.specs.Typed.{IsTypedHeld}
 use Rattle.store_open.specs.Step.{opened}
 use Rattle.store_open.specs.Opening.{IsImageIn, HasOpened, HasEither, IsNotTaken}
 use Rattle.store_open.specs.Phases.{IsReadyWith, HoldsEither, IsKept, Lays}
-use Rattle.store_files.proofs.Alike.{stands_without_journal}
+use Rattle.fs_datastore.proofs.Alike.{stands_without_journal}
 use Rattle.store_open.proofs.Worlds.{links_kept, links_since, sources_kept}
 use Rattle.store_open.proofs.Recovered.{one_place, ready_with}
 

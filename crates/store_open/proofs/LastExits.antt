@@ -8,7 +8,7 @@ use Rattle.commit_journal.specs.Files.{files_below}
 use Rattle.commit_journal.specs.Recovery.{Recovers, FromSyncOn}
 use Rattle.commit_journal.specs.Stands.{ChangesOnlyBelow}
 use Rattle.settings_tree.specs.declared.held.Held.{Held}
-use Rattle.store_files.specs.Stands.{Stands}
+use Rattle.fs_datastore.specs.Stands.{Stands}
 use Rattle.store_image.specs.declared.image.Image.{Image}
 use Rattle.version_links.specs.Names.{store}
 use Rattle.version_links.specs.Chain.{found, Resolves}

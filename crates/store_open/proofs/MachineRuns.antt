@@ -9,9 +9,9 @@ use Rattle.outside.proofs.Since.{since_map}
 use Rattle.commit_journal.specs.Files.{Files, files_below}
 use Rattle.commit_journal.specs.Stands.{TreeStandsFor, ChangesOnlyBelow}
 use Rattle.commit_journal.specs.Recovery.{FromSyncOn}
-use Rattle.store_files.specs.Stands.{Stands}
-use Rattle.store_files.proofs.Faults.{faultless}
-use Rattle.store_files.proofs.Meaning.{one_meaning}
+use Rattle.fs_datastore.specs.Stands.{Stands}
+use Rattle.fs_datastore.proofs.Faults.{faultless}
+use Rattle.fs_datastore.proofs.Meaning.{one_meaning}
 use Rattle.settings_tree.specs.declared.held.Held.{Held}
 use Rattle.typed_settings.specs.Order.{IsTable}
 use Rattle.typed_settings.specs.declared.row.Row.{Row}
@@ -19,7 +19,7 @@ use Rattle.store_image.specs.Paths.{Sources, sources_in}
 use Rattle.store_image.specs.declared.image.Image as own
 use Rattle.store_image.specs.Refused.{IsRefused}
 use Rattle.store_image.proofs.OneOutcome.{makes_unrefused}
-use Rattle.store_files.specs.Damage.{IsFaultBelow}
+use Rattle.fs_datastore.specs.Damage.{IsFaultBelow}
 use Rattle.version_links.specs.Chain.{Outcome, Resolves, found}
 use Rattle.version_links.specs.declared.version.Version.{Version}
 use Rattle.version_links.specs.declared.chain.Place.{Place}

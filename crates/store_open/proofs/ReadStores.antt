@@ -9,8 +9,8 @@ use Rattle.commit_journal.specs.Files.{files_below}
 use Rattle.fs_datastore.specs.declared.load_error.LoadError.{LoadError}
 use Rattle.fs_datastore.specs.declared.load_error.LoadError.TheVariants as load
 use Rattle.settings_tree.specs.declared.held.Held.{Held}
-use Rattle.store_files.specs.Damage.{IsFaultBelow}
-use Rattle.store_files.specs.Stands.{Stands}
+use Rattle.fs_datastore.specs.Damage.{IsFaultBelow}
+use Rattle.fs_datastore.specs.Stands.{Stands}
 use Rattle.store_image.specs.Paths.{sources_in}
 use Rattle.store_image.specs.Image.{IsImageOf}
 use Rattle.store_image.specs.Refused.{IsRefused}

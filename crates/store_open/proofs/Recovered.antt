@@ -5,13 +5,13 @@ use Rattle.outside.specs.Tree.{Tree}
 use Rattle.outside.specs.History.{History, next, synced, tree_of}
 use Rattle.outside.specs.Since.{EachSince, Touches}
 use Rattle.outside.proofs.Since.{since_map, since_both}
-use Rattle.commit_journal.specs.Files.{Files, files_below, IsBelow}
+use Rattle.commit_journal.specs.Files.{files_below, IsBelow}
 use Rattle.commit_journal.specs.Stands.{TreeStandsFor, ChangesOnlyBelow}
 use Rattle.commit_journal.specs.Recovery.{Recovers, FromSyncOn}
 use Rattle.commit_journal.specs.declared.journal_error.JournalError.{JournalError}
 use Rattle.commit_journal.proofs.Elsewhere.{only_below}
 use Rattle.settings_tree.specs.declared.held.Held.{Held}
-use Rattle.store_files.specs.Stands.{Stands}
+use Rattle.fs_datastore.specs.Stands.{Stands}
 use Rattle.version_links.specs.Names.{store}
 use Rattle.version_links.specs.Chain.{found, Resolves}
 use Rattle.version_links.specs.declared.version.Version.{Version}
@@ -20,7 +20,7 @@ use Rattle.machine_disk.specs.Store.{HoldsIn}
 use Rattle.store_open.specs.World.{World, HasWorld}
 use Rattle.store_open.specs.Opening.{IsNotTaken}
 use Rattle.store_open.specs.Phases.{IsReadyWith}
-use Rattle.store_files.proofs.Alike.{stands_without_journal}
+use Rattle.fs_datastore.proofs.Alike.{stands_without_journal}
 use Rattle.store_open.proofs.Worlds.{links_kept, links_since}
 
 -- a world by its parts
@@ -36,9 +36,6 @@ pub untouched : (before : World) (old new : History) → new ≡ old → HasWorl
 untouched before old new is has = record { tree = subst (λ (h : History). HasWorld before (tree_of h)) (sym is) has; images = inl is }
 
 module _ (name : List ℕ) (result : Result Bool JournalError) (old new : History) (r : Recovers (store name) result old new) where
-  from_first : (files : Files) → TreeStandsFor (store name) files (tree_of old) → (new ≡ old) ⊎ EachSince (TreeStandsFor (store name) files) (next synced old) new
-  from_first files stands = r.keeps files stands
-
   -- from the first sync on nothing changes elsewhere
   pub elsewhere : FromSyncOn (ChangesOnlyBelow (store name)) old new
   elsewhere = elim r.sync_first [

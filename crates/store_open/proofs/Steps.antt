@@ -16,8 +16,8 @@ use Rattle.commit_journal.specs.Change.{files_before, files_after, StandsForEith
 use Rattle.settings_tree.specs.Laid as state
 use Rattle.settings_tree.specs.declared.entry.Entry.{Entry}
 use Rattle.settings_tree.specs.declared.held.Held.{Held}
-use Rattle.store_files.specs.Stands.{Stands}
-use Rattle.store_files.specs.Batches.{Follows}
+use Rattle.fs_datastore.specs.Stands.{Stands}
+use Rattle.fs_datastore.specs.Batches.{Follows}
 use Rattle.machine_disk.specs.Store.{HoldsIn}
 use Rattle.store_open.specs.Phases.{IsReadyWith, HoldsEither, Lays}
 use Rattle.store_open.proofs.Worlds.{holds_plain}

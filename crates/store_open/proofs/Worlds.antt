@@ -7,8 +7,8 @@ use Rattle.outside.specs.Since.{EachSince, GoesOn, IsAtOrSync, Touches}
 use Rattle.outside.proofs.Goes.{since_goes, tree_untouched, may_leave_untouched}
 use Rattle.commit_journal.specs.Files.{files_below, IsBelow}
 use Rattle.settings_tree.specs.declared.held.Held.{Held}
-use Rattle.store_files.proofs.Alike.{stands_without_journal}
-use Rattle.store_files.specs.Stands.{Stands}
+use Rattle.fs_datastore.proofs.Alike.{stands_without_journal}
+use Rattle.fs_datastore.specs.Stands.{Stands}
 use Rattle.store_image.specs.Paths.{sources_in}
 use Rattle.version_links.specs.Names.{store, is_in_store}
 use Rattle.version_links.specs.Chain.{Outcome, Resolves}

@@ -10,8 +10,8 @@ use Rattle.commit_journal.specs.Files.{files_below, IsBelow}
 use Rattle.commit_journal.specs.Recovery.{Recovers}
 use Rattle.commit_journal.specs.Stands.{IsReady}
 use Rattle.settings_tree.specs.declared.held.Held.{Held}
-use Rattle.store_files.specs.Damage.{IsFaultBelow}
-use Rattle.store_files.specs.Stands.{Stands}
+use Rattle.fs_datastore.specs.Damage.{IsFaultBelow}
+use Rattle.fs_datastore.specs.Stands.{Stands}
 use Rattle.store_image.specs.Paths.{sources_in}
 use Rattle.store_image.specs.Refused.{IsRefused}
 use Rattle.store_image.specs.declared.image.Image.{Image}

@@ -6,7 +6,7 @@ use Rattle.outside.specs.History.{History, tree_of, IsSettled}
 use Rattle.commit_journal.specs.Files.{files_below}
 use Rattle.commit_journal.specs.Stands.{IsReady}
 use Rattle.settings_tree.specs.declared.held.Held.{Held}
-use Rattle.store_files.specs.Stands.{Stands}
+use Rattle.fs_datastore.specs.Stands.{Stands}
 use Rattle.machine_disk.specs.Store.{HoldsIn}
 use Rattle.version_links.specs.declared.version.Version.{Version}
 use Rattle.version_links.specs.Chain.{found, Resolves}

@@ -4,7 +4,7 @@ ghost use Rattle.outside.specs.History.{tree_of};
 ghost use Rattle.outside.specs.Told.{WhereTold};
 ghost use Rattle.outside.specs.Faults.{HasCauseOf};
 ghost use Rattle.commit_journal.specs.Files.{files_below};
-ghost use Rattle.store_files.specs.Stands.{Stands};
+ghost use Rattle.fs_datastore.specs.Stands.{Stands};
 ghost use Rattle.store_open.specs.Phases.{AtFault, IsFaultless};
 
 use crate::OpenError;

@@ -3,7 +3,7 @@ ghost use Rattle.std.specs.Prelude.{◌≡◌, length, IfOk, OnOk};
 ghost use Rattle.outside.specs.Told.{Moves};
 ghost use Rattle.outside.specs.Faults.{HasCauseOf};
 ghost use Rattle.settings_tree.specs.Laid.{laid, KeepsPrefixRule, NamesWeak, TellsWeak};
-ghost use Rattle.store_files.specs.Batches.{Follows};
+ghost use Rattle.fs_datastore.specs.Batches.{Follows};
 ghost use Rattle.store_open.specs.Phases.{Lays};
 ghost use Rattle.store_image.specs.Image.{AreSections};
 ghost use Rattle.store_open.specs.Step.{opened};

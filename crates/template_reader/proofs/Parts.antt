@@ -1,19 +1,18 @@
 -- Steps, parts and blocks, one after another.
 use Rattle.std.proofs.Common.{◌≡◌, ℕ, suc, ◌+◌, ◌-◌, ◌≤◌, ◌<◌, Bool, true, false, not, List, [], ◌∷◌, ◌++◌, length, take, drop, Some, refl, sym, ap, ◌∙◌, arith, append_assoc, subst, inl, inr}
 use Rattle.std.specs.Prelude.{nat_le, ◌⊎◌, ◌&&◌, ◌||◌}
-use Rattle.std.specs.Option.{option_or}
 use Rattle.std.proofs.lemmas.List.{append-nil, length-drop}
 use Rattle.std.proofs.Math.Bool.{and-true, and-false}
 use Rattle.std.proofs.lemmas.Bool.Decides.{nat_tests}
-use Rattle.template_reader.specs.Spot.{Block, after_form}
-use Rattle.template_reader.specs.Fault.{form_fault, at as said_at, is_in_each, is_outside, is_root, same_name}
+use Rattle.template_reader.specs.Spot.{Block}
+use Rattle.template_reader.specs.Fault.{form_fault, is_in_each, is_outside, is_root, same_name}
 use Rattle.template_reader.specs.Tree.{walk_of}
 use Rattle.template_reader.specs.Tree.{Tree, Branch, done, node, joined, Head}
 use Rattle.template_reader.specs.Tree as trees
 use Rattle.template_reader.specs.Taken.{Item, text_item, form_item, tag_takes_before, tag_takes_after}
 use Rattle.template_reader.specs.Taken as item
 use Rattle.template_reader.specs.Nest.{Spells, SpellsOne, begin_item, finish_item}
-use Rattle.template_reader.specs.Reading.{fault_at, items_at, IsLast, IsNext, Passes, Moves, Stops, Fails, FailsIn, Others, Blocks, Fits, stop_fault, stop_items, opened, head, text_tree}
+use Rattle.template_reader.specs.Reading.{items_at, IsLast, IsNext, Passes, Moves, Stops, Fails, FailsIn, Others, Blocks, Fits, stop_fault, stop_items, opened, head, text_tree}
 use Rattle.template_reader.specs.declared.tag.Form.{Form}
 use Rattle.template_reader.specs.declared.tag.Form.TheVariants as form
 use Rattle.template_reader.specs.declared.tag.Name.{Name}
@@ -107,30 +106,6 @@ passed_comment base body at front depth in_each old new f start end skip p said 
       later = omega (arith, p.later);
       inside = p.inside;
       fault = λ blocks fits. p.fault blocks ∙ rw said refl;
-      items = (q.0, q.1, q.2, q.3, q.4 ∙ ap (λ f. q.1 ++ (form_item f ++ items_at base body end skip)) said);
-    }
-
--- An else, and an end.
-pub passed_otherwise : (base : ℕ) (body : List ℕ) (at front depth : ℕ) (in_each : Bool) (old new : Tree) (f : Form) (start end skip : ℕ) → Passes base body at front old new f start end skip
-    → f ≡ form.Otherwise → Stops base body at front depth in_each old new stop.Otherwise start end skip
-passed_otherwise base body at front depth in_each old new f start end skip p said =
-    let q = p.items in
-    record {
-      later = omega (arith, p.later);
-      inside = p.inside;
-      fault = λ blocks fits. p.fault blocks ∙ ap (λ f. option_or (said_at start (form_fault blocks f)) (fault_at body end (after_form start blocks f))) said;
-      items = (q.0, q.1, q.2, q.3, q.4 ∙ ap (λ f. q.1 ++ (form_item f ++ items_at base body end skip)) said);
-    }
-
--- An end ends a part.
-pub passed_finish : (base : ℕ) (body : List ℕ) (at front depth : ℕ) (in_each : Bool) (old new : Tree) (f : Form) (start end skip : ℕ) (n : Name) → Passes base body at front old new f start end skip
-    → f ≡ form.Finish n → Stops base body at front depth in_each old new (stop.Finish n) start end skip
-passed_finish base body at front depth in_each old new f start end skip n p said =
-    let q = p.items in
-    record {
-      later = omega (arith, p.later);
-      inside = p.inside;
-      fault = λ blocks fits. p.fault blocks ∙ ap (λ f. option_or (said_at start (form_fault blocks f)) (fault_at body end (after_form start blocks f))) said;
       items = (q.0, q.1, q.2, q.3, q.4 ∙ ap (λ f. q.1 ++ (form_item f ++ items_at base body end skip)) said);
     }
 

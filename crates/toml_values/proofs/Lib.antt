@@ -1,4 +1,3 @@
 pub mod Documents
 pub mod Items
 pub mod Joins
-mod WordParts

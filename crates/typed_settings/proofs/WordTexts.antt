@@ -1,10 +1,10 @@
 -- A text spells one word.
-use Rattle.std.proofs.Common.{◌≡◌, ◌≢◌, ℕ, ℤ, ◌+◌, false, List, ◌++◌, get_or, drop, sym, ◌∙◌, ap, refl, arith}
+use Rattle.std.proofs.Common.{◌≡◌, ◌≢◌, ℕ, ◌+◌, false, List, ◌++◌, get_or, drop, sym, ◌∙◌, ap, refl, arith}
 use Rattle.std.specs.Prelude.{codes}
 use Rattle.std.specs.List.{join_with_byte}
 use Rattle.std.proofs.lemmas.Bool.{false≢true}
 use Rattle.typed_settings.proofs.WordParts.{one_bounds, spelled_pieces}
-use Rattle.typed_settings.specs.Word.{item_text, has_parts, bounds_text, SpellsBounds, SpellsChoices, SpellsItemWord, SpellsWord}
+use Rattle.typed_settings.specs.Word.{item_text, has_parts, bounds_text, SpellsItemWord, SpellsWord}
 use Rattle.typed_settings.specs.declared.item_word.ItemWord.{ItemWord}
 use Rattle.typed_settings.specs.declared.item_word.ItemWord.TheVariants as item
 use Rattle.typed_settings.specs.declared.word.Word.{Word}
@@ -26,16 +26,6 @@ no_name name b t l i s v item.Identifier parts is = i is.spelled
 no_name name b t l i s v item.Base64 parts is = s is.spelled
 no_name name b t l i s v item.Version parts is = v is.spelled
 no_name name b t l i s v (item.Choice names) parts is = absurd (false≢true (sym parts))
-
--- Behind `int ` stand bounds.
-pub no_int : (parts : List ℕ) → ((low high : ℤ) → SpellsBounds parts low high → ⊥) → (w : ItemWord) → SpellsItemWord (codes "int " ++ parts) w → ⊥
-no_int parts none (item.Int low high) is = none low high (record { valid = is.valid; spelled = ap (drop 4) is.spelled })
-no_int parts none w is = absurd (omega (arith, ap mark is.spelled))
-
--- Behind `choice ` stand names.
-pub no_choice : (parts : List ℕ) → ((names : List (List ℕ)) → SpellsChoices parts names → ⊥) → (w : ItemWord) → SpellsItemWord (codes "choice " ++ parts) w → ⊥
-no_choice parts none (item.Choice names) is = none names (record { valid = is.valid; spelled = ap (drop 7) is.spelled })
-no_choice parts none w is = absurd (omega (arith, ap mark is.spelled))
 
 -- A text that begins neither with `int ` nor with `choice ` spells no word with parts.
 pub no_parts : (text : List ℕ) → ((rest : List ℕ) → text ≢ codes "int " ++ rest) → ((rest : List ℕ) → text ≢ codes "choice " ++ rest) → ((w : ItemWord) → has_parts w ≡ false → SpellsItemWord text w → ⊥) → (w : ItemWord) → SpellsItemWord text w → ⊥

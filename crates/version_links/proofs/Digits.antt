@@ -24,10 +24,6 @@ no_text ds o not n below digits = absurd (not (subst (λ (l : List ℕ). IsUtf8 
 pub not_parsed : (ds : List ℕ) (o : Option ℕ) → ((n : ℕ) → n < 2 ^ 64 → ds ≡ decimal n → o ≡ Some n) → o ≡ None → (n : ℕ) → n < 2 ^ 64 → ds ≢ decimal n
 not_parsed ds o reads none n below digits = let e : None ≡ Some n = sym none ∙ reads n below digits in cc
 
--- Nor is what is printed otherwise.
-pub not_printed : (ds : List ℕ) (m : ℕ) (o : Option ℕ) → ((n : ℕ) → n < 2 ^ 64 → ds ≡ decimal n → o ≡ Some n) → o ≡ Some m → (decimal m ≡ ds → ⊥) → (n : ℕ) → n < 2 ^ 64 → ds ≢ decimal n
-not_printed ds m o reads some other n below digits = let e : Some m ≡ Some n = sym some ∙ reads n below digits in let same : m ≡ n = cc in other (ap decimal same ∙ sym digits)
-
 -- One more digit.
 pub hex-more : (count n d : ℕ) → d < 16 → hex (suc count) (n * 16 + d) ≡ hex count n ++ digit_glyph false d ∷ []
 hex-more count n d below = let high : (n * 16 + d) / 16 ≡ n = omega arith in let low : (n * 16 + d) % 16 ≡ d = omega arith in ap (λ k. hex count k ++ digit_glyph false ((n * 16 + d) % 16) ∷ []) high ∙ ap (λ k. hex count n ++ digit_glyph false k ∷ []) low
@@ -75,10 +71,6 @@ read_more ds i n d w inside so_far same below is =
     ∙ ap (λ k. take k ds) (let e : suc i ≡ i + 1 = omega arith in e)
 
 -- ---- behind a front and a mark
-
--- Where the front and the mark don't come first, no number is behind them.
-pub no_front : (text front : List ℕ) (mark : ℕ) → ((rest : List ℕ) → text ≢ front ++ rest) → (n : ℕ) → n < 2 ^ 64 → text ≢ extended front mark n
-no_front text front mark other n below is = other (mark ∷ digits_behind mark n) is
 
 pub no_mark : (text front rest : List ℕ) (mark : ℕ) → text ≡ front ++ rest → ((more : List ℕ) → rest ≢ mark ∷ more) → (n : ℕ) → n < 2 ^ 64 → text ≢ extended front mark n
 no_mark text front rest mark split other n below is = other (digits_behind mark n) (append_cancel_left front rest (mark ∷ digits_behind mark n) (sym split ∙ is))

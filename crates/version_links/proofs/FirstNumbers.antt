@@ -88,9 +88,6 @@ module _ (name : List ℕ) (target : Target) (fits : IsTarget target) (is : name
   whole : name ≡ spread 0 (numbers target)
   whole = is ∙ spread_is target.version.major (target.version.minor ∷ target.version.patch ∷ target.id ∷ []) (omega arith)
 
-  pub no_major : HasNoNumber 118 name → ⊥
-  no_major none = begins 0 target.version.major (target.version.minor ∷ target.version.patch ∷ target.id ∷ []) name fits.version.major none whole
-
   module _ (a : ℕ) (first : List ℕ) (one : HasNumber 118 name a first) where
     behind_major : first ≡ spread 1 (target.version.minor ∷ target.version.patch ∷ target.id ∷ [])
     behind_major = follows 0 a target.version.major (target.version.minor ∷ target.version.patch ∷ target.id ∷ []) name first fits.version.major one whole

@@ -3,7 +3,7 @@ use Rattle.outside.specs.Told.{Moves}
 use Rattle.settings_machine.specs.World.{Image}
 use Rattle.affected_apply.specs.Sees.{Sees}
 use Rattle.affected_apply.specs.Parts.{FilesByImage, FilesWrite}
-use Rattle.affected_apply.specs.declared.turn.Turn.TheVariants as turn
+use Rattle.affected_apply.specs.declared.outcome.Turn.TheVariants as turn
 use Rattle.affected_apply.proofs.Ends.{next_first}
 use Rattle.affected_apply.proofs.job.file_turn.Goals as goal
 

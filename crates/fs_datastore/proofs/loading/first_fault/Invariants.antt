@@ -1,6 +1,6 @@
 use Rattle.std.proofs.Common.{◌≡◌, take}
 use Rattle.outside.specs.Told.{WhereTold}
-use Rattle.store_files.specs.FoundFiles.{KeepsRules}
+use Rattle.fs_datastore.specs.FoundFiles.{KeepsRules}
 use Rattle.fs_datastore.specs.Loading.{ReadsFirst}
 use Rattle.fs_datastore.proofs.loading.first_fault.Given as goal
 

@@ -1,5 +1,5 @@
 use Rattle.std.proofs.Common.{Some}
-use Rattle.store_files.specs.Values.{value_in}
+use Rattle.fs_datastore.specs.Values.{value_in}
 use Rattle.fs_datastore.specs.Saving.{put_over, live_values, all_metadata, all_pending, single_values}
 use Rattle.fs_datastore.proofs.Savings.{saved_alike, saved_then, saved_later}
 use Rattle.fs_datastore.proofs.SavedWhole.{parts}

@@ -1,6 +1,6 @@
 use Rattle.std.proofs.Common.{refl}
 use Rattle.settings_tree.specs.Change.{TheImage}
-use Rattle.store_files.specs.Values.{image}
+use Rattle.fs_datastore.specs.Values.{image}
 use Rattle.fs_datastore.proofs.Savings.{file_saved}
 use Rattle.fs_datastore.proofs.saving.save_image.Goals as goal
 

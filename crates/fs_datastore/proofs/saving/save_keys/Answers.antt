@@ -3,7 +3,7 @@ use Rattle.std.specs.Option.{option_copied}
 use Rattle.key_names.specs.Order.{key_total, key_cmp-IsAntisymmetric}
 use Rattle.settings_tree.specs.Change.{Pend}
 use Rattle.settings_tree.proofs.Walks.{walk_falls}
-use Rattle.store_files.specs.Values.{pending}
+use Rattle.fs_datastore.specs.Values.{pending}
 use Rattle.fs_datastore.specs.Saving.{value_at_place, keys_of_transaction}
 use Rattle.fs_datastore.proofs.SavedWalks.{walk_none, walk_more, walk_all, entry_key, key_in, keys_of, keys_step}
 use Rattle.fs_datastore.proofs.saving.save_keys.Goals as goal

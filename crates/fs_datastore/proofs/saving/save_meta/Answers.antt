@@ -1,5 +1,5 @@
 use Rattle.settings_tree.specs.Change.{Meta}
-use Rattle.store_files.specs.Values.{live}
+use Rattle.fs_datastore.specs.Values.{live}
 use Rattle.fs_datastore.proofs.Savings.{file_saved}
 use Rattle.fs_datastore.proofs.saving.save_meta.Goals as goal
 

@@ -6,7 +6,7 @@ use Rattle.settings_maps.specs.Maps.{inner, IsLeastAfter}
 use Rattle.settings_maps.specs.TxName.{is_meta_name}
 use Rattle.settings_tree.specs.Change.{Meta}
 use Rattle.settings_tree.proofs.Walks.{walk_falls}
-use Rattle.store_files.specs.Values.{live}
+use Rattle.fs_datastore.specs.Values.{live}
 use Rattle.fs_datastore.specs.Saving.{value_at_place, names_of_key}
 use Rattle.fs_datastore.proofs.SavedWalks.{walk_none, walk_more, walk_all, entry_key, name_at, names_of, names_step}
 use Rattle.fs_datastore.proofs.saving.save_names.Goals as goal

@@ -1,6 +1,6 @@
 use Rattle.std.proofs.Common.{refl}
 use Rattle.settings_tree.specs.Change.{TheOwed}
-use Rattle.store_files.specs.Values.{owed}
+use Rattle.fs_datastore.specs.Values.{owed}
 use Rattle.fs_datastore.proofs.Savings.{file_saved}
 use Rattle.fs_datastore.proofs.saving.save_owed.Goals as goal
 

@@ -1,5 +1,5 @@
 use Rattle.settings_tree.specs.Change.{Pend}
-use Rattle.store_files.specs.Values.{pending}
+use Rattle.fs_datastore.specs.Values.{pending}
 use Rattle.fs_datastore.proofs.Savings.{file_saved}
 use Rattle.fs_datastore.proofs.saving.save_pending.Goals as goal
 

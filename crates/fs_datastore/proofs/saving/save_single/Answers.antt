@@ -1,5 +1,5 @@
 use Rattle.settings_tree.specs.Change.{TheOwed, TheImage, TheWeak}
-use Rattle.store_files.specs.Values.{owed, image, weak}
+use Rattle.fs_datastore.specs.Values.{owed, image, weak}
 use Rattle.fs_datastore.specs.Saving.{put_over, value_at_place, single_values}
 use Rattle.fs_datastore.proofs.Savings.{saved_alike, saved_then}
 use Rattle.fs_datastore.proofs.SavedWhole.{singles}

@@ -3,7 +3,7 @@ use Rattle.std.specs.Option.{option_copied}
 use Rattle.key_names.specs.Order.{key_total, key_cmp-IsAntisymmetric}
 use Rattle.settings_tree.specs.Change.{Live}
 use Rattle.settings_tree.proofs.Walks.{walk_falls}
-use Rattle.store_files.specs.Values.{live}
+use Rattle.fs_datastore.specs.Values.{live}
 use Rattle.fs_datastore.specs.Saving.{value_at_place, live_values}
 use Rattle.fs_datastore.proofs.SavedWalks.{walk_none, walk_more, walk_all, entry_key, live_key, live_of, live_step}
 use Rattle.fs_datastore.proofs.saving.save_values.Goals as goal

@@ -1,6 +1,6 @@
 use Rattle.std.proofs.Common.{refl}
 use Rattle.settings_tree.specs.Change.{TheWeak}
-use Rattle.store_files.specs.Values.{weak}
+use Rattle.fs_datastore.specs.Values.{weak}
 use Rattle.fs_datastore.proofs.Savings.{file_saved}
 use Rattle.fs_datastore.proofs.saving.save_weak.Goals as goal
 

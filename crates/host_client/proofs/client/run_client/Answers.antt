@@ -1,6 +1,6 @@
 use Rattle.std.proofs.Common.{arith, ◌≡◌, ℕ, List, Option, inl, inr, subst}
 use Rattle.outside.specs.Told.{Moves}
-use Rattle.sink_text.specs.Said.{IsSaidInPart}
+use Rattle.outside.specs.Said.{IsSaidInPart}
 use Rattle.host_client.specs.Ended.{IsSuccess, refused_line}
 use Rattle.host_client.proofs.client.run_client.Goals.{then-answer_to-ge200+else-answer_to-le299, else-answer_to-ge200}
 use Rattle.host_client.proofs.client.run_client.Goals as goal

@@ -1,9 +1,9 @@
 use Rattle.std.proofs.Common.{ℕ, List, [], ◌∷◌, ◌++◌, codes, decimal, subst, ◌∙◌}
 use Rattle.std.proofs.lemmas.Result.{on_ok_weaker}
 use Rattle.outside.specs.Told.{Moves}
-use Rattle.sink_text.specs.Said.{IsSaid, IsSaidInPart}
+use Rattle.outside.specs.Said.{IsSaid, IsSaidInPart}
 use Rattle.host_client.specs.Ended.{line_of}
-use Rattle.sink_text.proofs.Sayings.{said_both, said_first_part, said_second_part}
+use Rattle.outside.proofs.Sayings.{said_both, said_first_part, said_second_part}
 use Rattle.host_client.proofs.output.say_refused.Goals as goal
 
 pub returns-in_err-say-clause-in_part : goal.returns-in_err-say-clause-in_part

@@ -1,11 +1,14 @@
-use Rattle.std.proofs.Common.{arith, ◌∙◌, ap, subst, ◌≡◌, Some}
+use Rattle.std.proofs.Common.{arith, refl, ◌∙◌, subst, ◌≡◌, Some}
 use Rattle.std.specs.Prelude.{slice_get}
-use Rattle.release_file.specs.Release.{is_known}
-use Rattle.migrate_chain.specs.Tasks.{names_in_order, task_of, refusals_of, with_more}
-use Rattle.migrate_chain.proofs.Carried.{known_at, carried_more, carried_all, stopped_at}
-use Rattle.migrate_chain.proofs.MapperCauses.{cause_task}
-use Rattle.migrate_chain.proofs.carrying.carry_out.Goals as goal
 use Rattle.outside.proofs.Results.{handed_on}
+use Rattle.release_file.specs.Release.{is_known}
+use Rattle.migrate_chain.specs.Tasks.{names_in_order}
+use Rattle.migrate_chain.proofs.Carried.{carried_none, known_at, carried_more, carried_all, stopped_at}
+use Rattle.migrate_chain.proofs.Causes.{cause_task}
+use Rattle.migrate_chain.proofs.carrying.carry_out.Goals as goal
+
+pub loop-index-init : goal.loop-index-init
+loop-index-init g c = record { done = carried_none; runs = refl; faults = refl }
 
 pub work_named-work-requires : goal.work_named-work-requires
 work_named-work-requires g c =
@@ -14,28 +17,23 @@ work_named-work-requires g c =
 pub returns-in_err-made-clause-stopped : goal.returns-in_err-made-clause-stopped
 returns-in_err-made-clause-stopped g c =
     handed_on c.from_residual.result c.in_err-made.field-0.0 _ c.from_residual.ensures.1
-    (stopped_at c.args.migrations.now c.args.back (names_in_order c.args.back c.args.transition.now.names.items) c.loop-index.index c.name_at-name.result.now c.work_named-work.result.now c.args.held.now _ _ _ _ _ c.loop-index.held c.in_err-made.field-0.0
+    (stopped_at c.args.migrations.now c.args.back (names_in_order c.args.back c.args.transition.now.names.items) c.loop-index.index c.name_at-name.result.now c.work_named-work.result.now
     (subst (λ names. slice_get (names_in_order c.args.back names) c.loop-index.index ≡ Some c.name_at-name.result.now) c.deref.ensures.value c.name_at-name.ensures)
-    c.work_named-work.ensures c.loop-index.invariant.carried c.in_err-made.ensures.not_mapped (c.in_err-made.ensures.refused ∙ ap (λ l. with_more l (refusals_of (task_of c.name_at-name.result.now c.work_named-work.result.now c.args.back) c.loop-index.held c.in_err-made.field-0.0)) c.loop-index.invariant.refused) c.in_err-made.ensures.of_task)
+    c.work_named-work.ensures c.loop-index.invariant.done c.in_err-made.field-0.0 c.in_err-made.ensures.of_task c.in_err-made.ensures.asked)
 
 pub loop-index-preserved : goal.loop-index-preserved
 loop-index-preserved g c = record {
-  carried = rw c.replace.ensures.after (carried_more c.args.migrations.now c.args.back (names_in_order c.args.back c.args.transition.now.names.items) c.loop-index.index c.name_at-name.result.now c.work_named-work.result.now c.args.held.now _ _ _ c.loop-index.held c.in_ok-made.made
+  done = rw c.replace.ensures.after (carried_more c.args.migrations.now c.args.back (names_in_order c.args.back c.args.transition.now.names.items) c.loop-index.index c.name_at-name.result.now c.work_named-work.result.now
       (subst (λ names. slice_get (names_in_order c.args.back names) c.loop-index.index ≡ Some c.name_at-name.result.now) c.deref.ensures.value c.name_at-name.ensures)
-      c.work_named-work.ensures c.loop-index.invariant.carried c.in_ok-made.ensures.mapped c.in_ok-made.ensures.made);
-  carries = g.met.M.Mapper.carries_more _ _ _ c.loop-index.invariant.carries c.in_ok-made.ensures.carries;
-  refused = c.in_ok-made.ensures.not_refused ∙ c.loop-index.invariant.refused;
+      c.work_named-work.ensures c.loop-index.invariant.done c.in_ok-made.made c.in_ok-made.ensures.made c.in_ok-made.ensures.asked);
+  runs = c.in_ok-made.ensures.ran ∙ c.loop-index.invariant.runs;
   faults = c.in_ok-made.ensures.cause.kept ∙ c.loop-index.invariant.faults;
 }
 
 pub returns-clause-carried : goal.returns-clause-carried
 returns-clause-carried g c =
-    carried_all c.args.migrations.now c.args.back c.args.transition.now.names.items c.loop-index.index c.args.held.now _ _ c.loop-index.held (omega arith) c.loop-index.invariant.carried
+    carried_all c.args.migrations.now c.args.back c.args.transition.now.names.items c.loop-index.index c.args.held.now c.loop-index.held _ _ (omega arith) c.loop-index.invariant.done
 
 pub returns-in_err-made-clause-cause : goal.returns-in_err-made-clause-cause
 returns-in_err-made-clause-cause g c =
     cause_task c.from_residual.result c.in_err-made.field-0.0 c.name_at-name.result.now _ _ _ c.loop-index.invariant.faults c.from_residual.ensures.1 c.in_err-made.ensures.named c.in_err-made.ensures.cause
-
-pub returns-in_err-made-clause-stops : goal.returns-in_err-made-clause-stops
-returns-in_err-made-clause-stops g c =
-    handed_on c.from_residual.result c.in_err-made.field-0.0 _ c.from_residual.ensures.1 (g.met.M.Mapper.stops_later _ _ _ _ c.loop-index.invariant.carries c.in_err-made.ensures.stops)

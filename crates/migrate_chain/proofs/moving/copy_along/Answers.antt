@@ -1,25 +1,25 @@
 use Rattle.std.proofs.Common.{refl, inl, inr, subst, ◌∙◌}
-use Rattle.migrate_chain.specs.Store.{owing_all}
-use Rattle.migrate_chain.specs.Errors.{of_disk, of_mapper}
+use Rattle.outside.proofs.Results.{handed_on}
 use Rattle.release_file.specs.Release.{names_known}
+use Rattle.migrate_chain.specs.Store.{owing_all}
+use Rattle.migrate_chain.specs.Errors.{of_disk, of_task}
 use Rattle.migrate_chain.specs.Tasks.{tasks_in}
-use Rattle.migrate_chain.specs.Moving.{IsCarried, IsStopped}
+use Rattle.migrate_chain.specs.Carrying.{IsDone, StopsAt}
 use Rattle.migrate_chain.proofs.Carried.{carried_none, step_known, step_carried, step_stopped, steps_partly, steps_carried}
-use Rattle.migrate_chain.proofs.MapperCauses.{cause_mapped, cause_quiet, cause_done, disk_quiet}
+use Rattle.migrate_chain.proofs.Causes.{cause_spawned, cause_quiet, cause_done, disk_quiet}
 use Rattle.migrate_chain.proofs.Along.{none_saved, saved_then, copies_others, copy_saved}
 use Rattle.migrate_chain.proofs.moving.copy_along.Goals as goal
-use Rattle.outside.proofs.Results.{handed_on}
 
 pub loop-transition-init : goal.loop-transition-init
-loop-transition-init g c = record { carried = carried_none c.args.held.now _; carries = g.met.M.Mapper.carries_none _; refused = refl; others = none_saved _; disk_faults = refl; mapper_faults = refl }
+loop-transition-init g c = record { done = carried_none; others = none_saved _; runs = refl; disk_faults = refl; spawn_faults = refl }
 
 pub returns-in_err-copy_reached-clause-others : goal.returns-in_err-copy_reached-clause-others
 returns-in_err-copy_reached-clause-others g c = saved_then _ _ _ c.loop-transition.invariant.others c.in_err-copy_reached.ensures.others
 
-pub returns-in_err-copy_reached-clause-ends_early : goal.returns-in_err-copy_reached-clause-ends_early
-returns-in_err-copy_reached-clause-ends_early g c =
+pub returns-in_err-copy_reached-clause-stopped : goal.returns-in_err-copy_reached-clause-stopped
+returns-in_err-copy_reached-clause-stopped g c =
     handed_on c.from_residual.result (of_disk c.in_err-copy_reached.field-0.0) _ c.from_residual.ensures.1
-    (inl (c.in_err-copy_reached.field-0.0, refl, steps_partly (λ t. t.now) c.args.migrations.now c.args.back c.args.way.now c.loop-transition.transition-index c.args.held.now _ _ c.loop-transition.held c.loop-transition.invariant.carried, c.loop-transition.invariant.refused))
+    (inl (c.in_err-copy_reached.field-0.0, refl, steps_partly (λ t. t.now) c.args.migrations.now c.args.back c.args.way.now c.loop-transition.transition-index c.loop-transition.invariant.done))
 
 pub carry_out-requires : goal.carry_out-requires
 carry_out-requires g c = step_known (λ t. t.now) c.args.migrations.now c.args.back c.args.way.now c.loop-transition.transition-index (names_known c.args.migrations.now) c.transition-item.result c.requires c.loop-transition-test.true c.transition-item.is
@@ -27,34 +27,33 @@ carry_out-requires g c = step_known (λ t. t.now) c.args.migrations.now c.args.b
 pub returns-in_err-carry_out-clause-others : goal.returns-in_err-carry_out-clause-others
 returns-in_err-carry_out-clause-others g c = saved_then _ _ _ c.loop-transition.invariant.others c.in_ok-copy_reached.ensures.others
 
-pub returns-in_err-carry_out-clause-ends_early : goal.returns-in_err-carry_out-clause-ends_early
-returns-in_err-carry_out-clause-ends_early g c =
-    handed_on c.from_residual-in_err-carry_out.result (of_mapper c.in_err-carry_out.field-0.0) _ c.from_residual-in_err-carry_out.ensures.1
+pub returns-in_err-carry_out-clause-stopped : goal.returns-in_err-carry_out-clause-stopped
+returns-in_err-carry_out-clause-stopped g c =
+    handed_on c.from_residual-in_err-carry_out.result (of_task c.in_err-carry_out.field-0.0) _ c.from_residual-in_err-carry_out.ensures.1
     (inr (
       c.in_err-carry_out.field-0.0,
       refl,
-      step_stopped (λ t. t.now) c.args.migrations.now c.args.back c.args.way.now c.loop-transition.transition-index c.transition-item.result c.args.held.now _ _ _ _ _ _ c.loop-transition.held c.in_err-carry_out.field-0.0 c.loop-transition-test.true c.transition-item.is c.loop-transition.invariant.refused c.loop-transition.invariant.carried
-          (subst (λ h. IsStopped (tasks_in c.args.migrations.now c.args.back c.transition-item.result.now) h (g.M.Mapper.mapped c.loop-transition.mapper) (g.M.Mapper.mapped c.carry_out.new.mapper) (g.M.Mapper.refused c.loop-transition.mapper) (g.M.Mapper.refused c.carry_out.new.mapper) c.in_err-carry_out.field-0.0) c.in_ok-copy_reached.ensures.held c.in_err-carry_out.ensures.stopped),
+      step_stopped (λ t. t.now) c.args.migrations.now c.args.back c.args.way.now c.loop-transition.transition-index c.loop-transition.invariant.done c.transition-item.result c.in_err-carry_out.field-0.0 c.loop-transition-test.true c.transition-item.is
+          (subst (λ h. StopsAt (tasks_in c.args.migrations.now c.args.back c.transition-item.result.now) h (g.S.Spawner.asked c.loop-transition.spawner) (g.S.Spawner.asked c.carry_out.new.spawner) c.in_err-carry_out.field-0.0) c.in_ok-copy_reached.ensures.held c.in_err-carry_out.ensures.stopped),
     ))
 
 pub loop-transition-preserved : goal.loop-transition-preserved
 loop-transition-preserved g c = record {
-  carried = step_carried (λ t. t.now) c.args.migrations.now c.args.back c.args.way.now c.loop-transition.transition-index c.transition-item.result c.args.held.now _ _ _ c.loop-transition.held c.carry_out.new.held c.loop-transition-test.true c.transition-item.is c.loop-transition.invariant.carried
-      (subst (λ h. IsCarried (tasks_in c.args.migrations.now c.args.back c.transition-item.result.now) h (g.M.Mapper.mapped c.loop-transition.mapper) (g.M.Mapper.mapped c.carry_out.new.mapper) c.carry_out.new.held) c.in_ok-copy_reached.ensures.held c.in_ok-carry_out.ensures.carried);
-  carries = g.met.M.Mapper.carries_more _ _ _ c.loop-transition.invariant.carries c.in_ok-carry_out.ensures.carries;
-  refused = c.in_ok-carry_out.ensures.not_refused ∙ c.loop-transition.invariant.refused;
+  done = step_carried (λ t. t.now) c.args.migrations.now c.args.back c.args.way.now c.loop-transition.transition-index c.loop-transition.invariant.done c.transition-item.result c.carry_out.new.held c.loop-transition-test.true c.transition-item.is
+      (subst (λ h. IsDone (tasks_in c.args.migrations.now c.args.back c.transition-item.result.now) h c.carry_out.new.held (g.S.Spawner.asked c.loop-transition.spawner) (g.S.Spawner.asked c.carry_out.new.spawner)) c.in_ok-copy_reached.ensures.held c.in_ok-carry_out.ensures.carried);
   others = saved_then _ _ _ c.loop-transition.invariant.others c.in_ok-copy_reached.ensures.others;
+  runs = c.in_ok-carry_out.ensures.ran ∙ c.loop-transition.invariant.runs;
   disk_faults = c.in_ok-copy_reached.ensures.cause.kept ∙ c.loop-transition.invariant.disk_faults;
-  mapper_faults = c.in_ok-carry_out.ensures.cause.kept ∙ c.loop-transition.invariant.mapper_faults;
+  spawn_faults = c.in_ok-carry_out.ensures.cause.kept ∙ c.loop-transition.invariant.spawn_faults;
 }
 
 pub returns-in_err-copy_owing_all-clause-others : goal.returns-in_err-copy_owing_all-clause-others
 returns-in_err-copy_owing_all-clause-others g c = saved_then _ _ _ c.loop-transition.invariant.others (copies_others _ _ _ _ _ c.in_err-copy_owing_all.ensures.copies)
 
-pub returns-in_err-copy_owing_all-clause-ends_early : goal.returns-in_err-copy_owing_all-clause-ends_early
-returns-in_err-copy_owing_all-clause-ends_early g c =
+pub returns-in_err-copy_owing_all-clause-stopped : goal.returns-in_err-copy_owing_all-clause-stopped
+returns-in_err-copy_owing_all-clause-stopped g c =
     handed_on c.from_residual-in_err-copy_owing_all.result (of_disk c.in_err-copy_owing_all.field-0.0) _ c.from_residual-in_err-copy_owing_all.ensures.1
-    (inl (c.in_err-copy_owing_all.field-0.0, refl, steps_partly (λ t. t.now) c.args.migrations.now c.args.back c.args.way.now c.loop-transition.transition-index c.args.held.now _ _ c.loop-transition.held c.loop-transition.invariant.carried, c.loop-transition.invariant.refused))
+    (inl (c.in_err-copy_owing_all.field-0.0, refl, steps_partly (λ t. t.now) c.args.migrations.now c.args.back c.args.way.now c.loop-transition.transition-index c.loop-transition.invariant.done))
 
 pub returns-clause-others : goal.returns-clause-others
 returns-clause-others g c = saved_then _ _ _ c.loop-transition.invariant.others (copies_others _ _ _ _ _ c.in_ok-copy_owing_all.ensures.copies)
@@ -62,35 +61,21 @@ returns-clause-others g c = saved_then _ _ _ c.loop-transition.invariant.others 
 pub returns-clause-copied : goal.returns-clause-copied
 returns-clause-copied g c = (
   c.loop-transition.held,
-  steps_carried (λ t. t.now) c.args.migrations.now c.args.back c.args.way.now c.loop-transition.transition-index c.args.held.now _ _ c.loop-transition.held c.loop-transition-test.false c.loop-transition.invariant.carried,
+  steps_carried (λ t. t.now) c.args.migrations.now c.args.back c.args.way.now c.loop-transition.transition-index c.loop-transition-test.false c.loop-transition.invariant.done,
   copy_saved c.args.to.now (owing_all c.loop-transition.held) c.in_ok-copy_owing_all.field-0 _ _ _ c.loop-transition.invariant.others c.in_ok-copy_owing_all.ensures.copies,
 )
 
-pub returns-in_err-carry_out-clause-mapper_cause : goal.returns-in_err-carry_out-clause-mapper_cause
-returns-in_err-carry_out-clause-mapper_cause g c =
-    cause_mapped c.from_residual-in_err-carry_out.result c.in_err-carry_out.field-0.0 _ _ _ c.loop-transition.invariant.mapper_faults c.from_residual-in_err-carry_out.ensures.1 c.in_err-carry_out.ensures.cause
+pub returns-in_err-carry_out-clause-spawn_cause : goal.returns-in_err-carry_out-clause-spawn_cause
+returns-in_err-carry_out-clause-spawn_cause g c =
+    cause_spawned c.from_residual-in_err-carry_out.result c.in_err-carry_out.field-0.0 _ _ _ c.loop-transition.invariant.spawn_faults c.from_residual-in_err-carry_out.ensures.1 c.in_err-carry_out.ensures.cause
 
-pub returns-in_err-copy_reached-clause-mapper_cause : goal.returns-in_err-copy_reached-clause-mapper_cause
-returns-in_err-copy_reached-clause-mapper_cause g c =
-    cause_quiet c.from_residual.result (of_disk c.in_err-copy_reached.field-0.0) _ _ c.loop-transition.invariant.mapper_faults c.from_residual.ensures.1 (disk_quiet c.in_err-copy_reached.field-0.0)
+pub returns-in_err-copy_reached-clause-spawn_cause : goal.returns-in_err-copy_reached-clause-spawn_cause
+returns-in_err-copy_reached-clause-spawn_cause g c =
+    cause_quiet c.from_residual.result (of_disk c.in_err-copy_reached.field-0.0) _ _ c.loop-transition.invariant.spawn_faults c.from_residual.ensures.1 (disk_quiet c.in_err-copy_reached.field-0.0)
 
-pub returns-in_err-copy_owing_all-clause-mapper_cause : goal.returns-in_err-copy_owing_all-clause-mapper_cause
-returns-in_err-copy_owing_all-clause-mapper_cause g c =
-    cause_quiet c.from_residual-in_err-copy_owing_all.result (of_disk c.in_err-copy_owing_all.field-0.0) _ _ c.loop-transition.invariant.mapper_faults c.from_residual-in_err-copy_owing_all.ensures.1 (disk_quiet c.in_err-copy_owing_all.field-0.0)
+pub returns-in_err-copy_owing_all-clause-spawn_cause : goal.returns-in_err-copy_owing_all-clause-spawn_cause
+returns-in_err-copy_owing_all-clause-spawn_cause g c =
+    cause_quiet c.from_residual-in_err-copy_owing_all.result (of_disk c.in_err-copy_owing_all.field-0.0) _ _ c.loop-transition.invariant.spawn_faults c.from_residual-in_err-copy_owing_all.ensures.1 (disk_quiet c.in_err-copy_owing_all.field-0.0)
 
-pub returns-clause-mapper_cause : goal.returns-clause-mapper_cause
-returns-clause-mapper_cause g c = cause_done _ _ _ c.loop-transition.invariant.mapper_faults
-
-pub returns-in_err-copy_reached-clause-stopped : goal.returns-in_err-copy_reached-clause-stopped
-returns-in_err-copy_reached-clause-stopped g c =
-    handed_on c.from_residual.result (of_disk c.in_err-copy_reached.field-0.0) _ c.from_residual.ensures.1 (inl (disk_quiet c.in_err-copy_reached.field-0.0, c.loop-transition.invariant.carries))
-
-pub returns-in_err-carry_out-clause-stopped : goal.returns-in_err-carry_out-clause-stopped
-returns-in_err-carry_out-clause-stopped g c =
-    handed_on c.from_residual-in_err-carry_out.result (of_mapper c.in_err-carry_out.field-0.0) _ c.from_residual-in_err-carry_out.ensures.1
-    (inr (c.in_err-carry_out.field-0.0, refl, g.met.M.Mapper.stops_later _ _ _ _ c.loop-transition.invariant.carries c.in_err-carry_out.ensures.stops))
-
-pub returns-in_err-copy_owing_all-clause-stopped : goal.returns-in_err-copy_owing_all-clause-stopped
-returns-in_err-copy_owing_all-clause-stopped g c =
-    handed_on c.from_residual-in_err-copy_owing_all.result (of_disk c.in_err-copy_owing_all.field-0.0) _ c.from_residual-in_err-copy_owing_all.ensures.1
-    (inl (disk_quiet c.in_err-copy_owing_all.field-0.0, c.loop-transition.invariant.carries))
+pub returns-clause-spawn_cause : goal.returns-clause-spawn_cause
+returns-clause-spawn_cause g c = cause_done _ _ _ c.loop-transition.invariant.spawn_faults

@@ -5,7 +5,7 @@ use Rattle.outside.specs.History.{tree_of}
 use Rattle.outside.specs.Told.{Moves, WhereTold}
 use Rattle.outside.proofs.Told.{moves_map, moves_ends}
 use Rattle.commit_journal.specs.Files.{files_below}
-use Rattle.store_files.specs.Stands.{Stands}
+use Rattle.fs_datastore.specs.Stands.{Stands}
 use Rattle.settings_tree.specs.declared.held.Held.{Held}
 use Rattle.store_open.specs.Phases.{HasRecovered, RefusesAt}
 use Rattle.store_open.specs.declared.open_error.OpenError.{OpenError}

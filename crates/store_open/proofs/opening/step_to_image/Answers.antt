@@ -6,7 +6,7 @@ use Rattle.outside.proofs.Results.{handed_on}
 use Rattle.outside.specs.Told.{Moves, WhereTold}
 use Rattle.outside.proofs.Told.{moves_map, moves_same, moves_where, moves_after}
 use Rattle.commit_journal.specs.Files.{files_below}
-use Rattle.store_files.specs.Stands.{Stands}
+use Rattle.fs_datastore.specs.Stands.{Stands}
 use Rattle.store_image.specs.Image.{IsImageOf}
 use Rattle.store_image.specs.Paths.{sources_in}
 use Rattle.store_image.specs.declared.image.Image.{Image}

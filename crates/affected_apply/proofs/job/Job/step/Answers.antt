@@ -5,7 +5,7 @@ use Rattle.metadata_links.specs.Commands.{seen}
 use Rattle.settings_machine.specs.World.{Work}
 use Rattle.affected_apply.specs.Work.{JobAt}
 use Rattle.affected_apply.specs.Turning.{Advances}
-use Rattle.affected_apply.proofs.Turns.{files_image, files_disk, commands_advance}
+use Rattle.affected_apply.proofs.JobTurns.{files_image, files_disk, commands_advance}
 use Rattle.affected_apply.proofs.Ends.{none_left}
 use Rattle.affected_apply.proofs.job.Job.step.Goals as goal
 

@@ -1,7 +1,7 @@
 use Rattle.outside.proofs.Told.{moves_map}
 use Rattle.affected_apply.specs.Sees.{HasRow}
 use Rattle.affected_apply.proofs.MachineTurns.{turn_made}
-use Rattle.affected_apply.proofs.Turns.{known_left}
+use Rattle.affected_apply.proofs.JobTurns.{known_left}
 use Rattle.affected_apply.proofs.job.Job.turn.Goals as goal
 
 pub returns-clause-machine : goal.returns-clause-machine

@@ -1,5 +1,5 @@
 use Rattle.std.proofs.Common.{ℕ, List, sym, ap}
-use Rattle.core_turns.specs.Jobs.{job_of}
+use Rattle.affected_apply.specs.Jobs.{job_of}
 use Rattle.settings_machine.specs.Requests.{Said, ListsByKey}
 use Rattle.settings_machine.specs.Step.{stays}
 use Rattle.settings_machine.specs.World.{Key}

@@ -2,7 +2,7 @@ use Rattle.std.proofs.Common.{Bool, ◌||◌, ◌&&◌, ◌∙◌, refl, sym, ap
 use Rattle.std.proofs.lemmas.Bool.{and_parts}
 use Rattle.outside.proofs.Told.{moves_map}
 use Rattle.settings_machine.specs.World.{is_running}
-use Rattle.core_turns.specs.Jobs.{job_of, failed_with_disk}
+use Rattle.affected_apply.specs.Jobs.{job_of, failed_with_disk}
 use Rattle.api_core.specs.declared.serving.Core.{Core}
 use Rattle.api_core.proofs.Soundness.{sound_after, calm_running, still_failed, typed_still}
 use Rattle.api_core.proofs.Turnings.{turns_of}

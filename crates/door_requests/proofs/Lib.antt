@@ -1,5 +1,0 @@
-pub mod Lasts
-pub mod Readings
-pub mod Sayings
-pub mod Waitings
-pub mod Hearings

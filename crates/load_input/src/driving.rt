@@ -1,0 +1,96 @@
+//! The job is driven to its end, turn by turn.
+ghost use Rattle.std.specs.Prelude.{◌≡◌, true, false, nat_lt, [], OnOk};
+ghost use Rattle.outside.specs.Told.{Moves};
+ghost use Rattle.settings_machine.specs.World.{is_running, Idle};
+ghost use Rattle.affected_apply.specs.Jobs.{job_of};
+ghost use Rattle.api_core.specs.Cores.{core_state, IsSound};
+ghost use Rattle.load_input.specs.Counts.{with_turn};
+ghost use Rattle.load_input.specs.Counted.{ran, Counted};
+
+use crate::counts::Counts;
+use api_core::{Core, JobState};
+use disk_memory::MemorySpawner;
+use outside::Disk;
+use std::alloc::{AllocError, Global};
+
+// Counts a turn: so many programs had been run before it and were run after it, and the job goes on or not.
+fn count(counts: &mut Counts, before: usize, after: usize, goes_on: bool) -> Result<(), AllocError>
+    ensures turn { OnOk result (counts.new ≡ with_turn (nat_lt before after) goes_on counts.old) }
+    ensures ok { OnOk result (counts.new.ok ≡ counts.old.ok) }
+    ensures refused { OnOk result (counts.new.refused ≡ counts.old.refused) }
+{
+    if before < after {
+        return counts.count_run();
+    }
+    if goes_on {
+        return counts.count_written();
+    }
+    Ok(())
+}
+
+// Makes one turn of a running job, and counts it.
+fn turn_once<D: Disk>(
+    alloc: Global,
+    core: &mut Core,
+    counts: &mut Counts,
+    disk: &mut D,
+    spawner: &mut MemorySpawner,
+) -> Result<(), AllocError>
+    requires sound { IsSound core.old }
+    requires running { is_running (core_state core.old).job ≡ true }
+    ensures counted { OnOk result (Moves (D.told disk.old) (D.told disk.new)
+        (Counted [] core.old core.new counts.old counts.new (ran spawner.old) (ran spawner.new))) }
+    ensures sound { IsSound core.new }
+    ensures calm { OnOk result ((core_state core.new).faulted ≡ false) }
+    ensures ok { OnOk result (counts.new.ok ≡ counts.old.ok) }
+    ensures refused { OnOk result (counts.new.refused ≡ counts.old.refused) }
+{
+    let before = spawner.runs().len();
+    core.turns(alloc, Some(1), disk, spawner);
+    if core.faulted() {
+        return Err(AllocError);
+    }
+    let after = spawner.runs().len();
+    let goes_on = core.job().is_running();
+    count(counts, before, after, goes_on)?;
+    Ok(())
+}
+
+// Whether the job that is over has ended well.
+fn ended(job: &JobState) -> Result<(), AllocError>
+    ensures { OnOk result (job_of job.now ≡ Idle) }
+{
+    match job {
+        JobState::Idle => Ok(()),
+        JobState::Failed(_) => Err(AllocError),
+        JobState::Running(_) => Err(AllocError),
+    }
+}
+
+/// Makes turns until the job is idle, and counts them. The only error is want of memory: the devices and the commands of the run
+/// fail for nothing else, and each template renders.
+pub(crate) fn drive<D: Disk>(
+    alloc: Global,
+    core: &mut Core,
+    counts: &mut Counts,
+    disk: &mut D,
+    spawner: &mut MemorySpawner,
+) -> Result<(), AllocError>
+    requires sound { IsSound core.old }
+    requires calm { (core_state core.old).faulted ≡ false }
+    ensures counted { OnOk result (Moves (D.told disk.old) (D.told disk.new)
+        (Counted [] core.old core.new counts.old counts.new (ran spawner.old) (ran spawner.new))) }
+    ensures sound { OnOk result (IsSound core.new) }
+    ensures calm { OnOk result ((core_state core.new).faulted ≡ false) }
+    ensures idle { OnOk result ((core_state core.new).job ≡ Idle) }
+    ensures ok { OnOk result (counts.new.ok ≡ counts.old.ok) }
+    ensures refused { OnOk result (counts.new.refused ≡ counts.old.refused) }
+{
+    for _turn in 0..u32::MAX {
+        if !core.job().is_running() {
+            return ended(core.job());
+        }
+        turn_once(alloc, core, counts, disk, spawner)?;
+    }
+    Err(AllocError)
+}

@@ -1,5 +1,0 @@
-pub mod Ended
-pub mod NoFloats
-pub mod Noted
-pub mod SameKeys
-pub mod Spelled

@@ -1,6 +1,0 @@
-use Rattle.std.proofs.Common.{take}
-use Rattle.store_files.specs.Batches.{AreFilesOf}
-use Rattle.store_files.proofs.batch.files_of.Given as goal
-
-abbrev pub invariant-loop-entry : goal.invariant-loop-entry
-invariant-loop-entry l = AreFilesOf (take l.entry-index l.entries) l.files
