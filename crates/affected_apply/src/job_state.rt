@@ -1,9 +1,12 @@
 //! The job, which runs or not.
-ghost use Rattle.std.specs.Prelude.{◌≡◌};
+ghost use Rattle.std.specs.Prelude.{◌≡◌, IfOk};
+ghost use Rattle.settings_machine.specs.Requests.{job_status};
 ghost use Rattle.settings_machine.specs.World.{is_running};
 ghost use Rattle.affected_apply.specs.Jobs.{job_of, failed_with_disk};
 
 use crate::{Cause, Job};
+use settings_machine::JobStatus;
+use std::alloc::AllocError;
 
 /// The job, which runs or not.
 #[derive(Drop)]
@@ -22,6 +25,17 @@ impl JobState {
         ensures { result ≡ is_running (job_of self.now) }
     {
         matches!(self, JobState::Running(_))
+    }
+
+    /// How it stands, as a client is told. The only error is out of memory.
+    pub fn status(&self) -> Result<JobStatus, AllocError>
+        ensures { IfOk result (λ status. status ≡ job_status (job_of self.now)) }
+    {
+        match self {
+            JobState::Idle => Ok(JobStatus::Idle),
+            JobState::Failed(cause) => Ok(JobStatus::Failed(cause.copy()?)),
+            JobState::Running(_) => Ok(JobStatus::Running),
+        }
     }
 
     /// Whether the last job failed because a call of the disk failed.

@@ -14,7 +14,7 @@ use Rattle.settings_maps.specs.KeyList.{has_key}
 use Rattle.settings_machine.specs.World.{Key}
 use Rattle.settings_machine.specs.Opening.{Values}
 use Rattle.settings_machine.specs.Answers.{settings_of, settings_where, is_live_setting, missing_key}
-use Rattle.settings_machine.specs.Requests.{NoKey}
+use Rattle.settings_machine.specs.declared.refusal.Refusal.TheVariants.{NoKey}
 use Rattle.settings_machine.proofs.Elements.{key_tied}
 use Rattle.api_core.specs.Gathered.{with_found, gathered}
 

@@ -1,14 +1,10 @@
 pub mod Layings
-pub mod Bytes
-pub mod Refusing
-pub mod Handlings
-pub mod Reopenings
+pub mod Commitments
 pub mod Soundness
 pub mod Turnings
 pub mod Settings
 pub mod Gathering
 pub mod Names
 pub mod Nesting
-pub mod Statuses
+pub mod Trees
 pub mod NearLists
-pub mod Replied

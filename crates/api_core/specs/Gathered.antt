@@ -10,7 +10,8 @@ use Rattle.metadata_links.specs.Nearest.{near, near_len}
 use Rattle.settings_tree.specs.Walks.{entries_below}
 use Rattle.settings_machine.specs.World.{Key}
 use Rattle.settings_machine.specs.Opening.{Values}
-use Rattle.settings_machine.specs.Requests.{Refusal, NoKey, NoName}
+use Rattle.settings_machine.specs.declared.refusal.Refusal.{Refusal}
+use Rattle.settings_machine.specs.declared.refusal.Refusal.TheVariants.{NoKey, NoName}
 
 -- Something is there.
 abbrev pub there : Option (Unit {0})

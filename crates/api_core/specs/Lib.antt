@@ -1,9 +1,8 @@
 pub mod Jobs
-pub mod Asks
 pub mod Prints
-pub mod Plans
 pub mod Cores
+pub mod Plans
 pub mod Carried
-pub mod Handled
+pub mod Reopened
 pub mod Turned
 pub mod Gathered

@@ -1,5 +1,6 @@
 -- What a request makes of a core, before it is written down.
-use Rattle.std.specs.Prelude.{◌≡◌, List}
+use Rattle.std.specs.Prelude.{◌≡◌, ⊤, false, List, []}
+use Rattle.outside.specs.History.{History}
 use Rattle.settings_tree.specs.Laid.{laid, KeepsPrefixRule, NamesWeak, TellsWeak}
 use Rattle.settings_tree.specs.declared.entry.Entry.{Entry}
 use Rattle.settings_tree.specs.declared.held.Held.{Held}
@@ -10,12 +11,15 @@ use Rattle.settings_machine.specs.Requests.{Request}
 use Rattle.settings_machine.specs.Step.{answered, stays}
 use Rattle.settings_machine.specs.Typed.{IsTypedHeld}
 use Rattle.affected_apply.specs.Jobs.{job_of}
-use Rattle.machine_answers.specs.Replies as answers
-use Rattle.machine_answers.specs.declared.machine_reply.MachineReply.{MachineReply}
-use Rattle.api_core.specs.Asks.{reply_of, Says}
+use Rattle.machine_disk.specs.Kept.{Folder, Kept}
+use Rattle.store_open.specs.Laws.{HoldsImage}
+use Rattle.machine_answers.specs.Replies.{reply_of}
+use Rattle.machine_answers.specs.declared.answer.Answer.{Answer}
+use Rattle.machine_answers.specs.declared.answer.Answer.TheVariants as answer
+use Rattle.api_core.specs.Cores.{core_state}
 use Rattle.api_core.specs.Jobs.{job_after, KnowsRows}
-use Rattle.api_core.specs.declared.plan.Draft.{Draft}
-use Rattle.api_core.specs.declared.plan.Plan.{Plan}
+use Rattle.api_core.specs.declared.planned.Effect.{Effect}
+use Rattle.api_core.specs.declared.planned.Planned.{Planned}
 use Rattle.api_core.specs.declared.serving.Core.{Core}
 
 -- The change may be laid, and what it makes is typed.
@@ -39,48 +43,51 @@ IsSoundCore c = IsSoundHeld c.image.model.types c.held
 abbrev pub with_core : World → Held → Job → World
 with_core W held job = record W { held = held; job = job }
 
--- ---- drafts
+-- ---- what a request makes of a core
 
--- The change of the draft may be laid over what the core holds.
-abbrev pub MayMake : Core → Draft → Type 0
-MayMake c draft = MayLay c.image.model.types c.held draft.change
+-- The effect may be committed: its change may be laid over what the core holds,
+abbrev pub MayMake : Core → Planned → Type 0
+MayMake c planned = MayLay c.image.model.types c.held planned.effect.change
 
--- The manifest of the core has each file that a job of the draft has to do.
-abbrev pub KnowsFiles : Core → Draft → Type 0
-KnowsFiles c draft = KnowsRows c.image.manifest draft.next
+-- and the manifest of the core has each file that a job of it has to do.
+abbrev pub KnowsFiles : Core → Planned → Type 0
+KnowsFiles c planned = KnowsRows c.image.manifest planned.effect.next
 
--- In a world with this held and this job the draft is what the machine makes of the request.
-pub record IsDrafted (I : Image) (held : Held) (job : Job) (q : Request) (draft : Draft) : Type 0 where
-  pub held_is : (W : World) → laid held draft.change ≡ (answered I (with_core W held job) q).world.held
-  pub job_is : (W : World) → job_after draft.next job ≡ (answered I (with_core W held job) q).world.job
-  pub says : (W : World) → (answered I (with_core W held job) q).reply ≡ reply_of job held.owed draft.said
+-- Both.
+pub record MayCommit (c : Core) (effect : Effect) : Type 0 where
+  pub lay : MayLay c.image.model.types c.held effect.change
+  pub rows : KnowsRows c.image.manifest effect.next
+
+-- In a world with this held and this job the answer and the effect are what the machine makes of the request.
+pub record IsPlanned (I : Image) (held : Held) (job : Job) (q : Request) (answer : Answer) (effect : Effect) : Type 0 where
+  pub held_is : (W : World) → laid held effect.change ≡ (answered I (with_core W held job) q).world.held
+  pub job_is : (W : World) → job_after effect.next job ≡ (answered I (with_core W held job) q).world.job
+  pub replies : (W : World) → (answered I (with_core W held job) q).reply ≡ reply_of answer
 
 -- The same in a world that has what the core has, by an image that has these types, names and manifest.
-pub record Drafts (c : Core) (q : Request) (draft : Draft) : Type 0 where
+pub record Plans (c : Core) (q : Request) (answer : Answer) (effect : Effect) : Type 0 where
   pub by_image : (I : Image) → c.image.model.types ≡ I.types → c.image.model.os ≡ I.os → c.image.manifest ≡ I.manifest
-      → IsDrafted I c.held (job_of c.job) q draft
+      → IsPlanned I c.held (job_of c.job) q answer effect
+
+-- The same of a plan.
+abbrev pub Makes : Core → Request → Planned → Type 0
+Makes c q planned = Plans c q planned.answer planned.effect
+
+-- By each image that the core holds, in each world at which disk and core are, the machine answers the request so.
+pub record Replies (c : Core) (q : Request) (answer : Answer) : Type 0 where
+  pub by_image : (I : Image) → HoldsImage I c.image → (folder : Folder) (W V : World) (h : History) → Kept I folder W V h (core_state c) → c.faulted ≡ false
+      → (answered I W q).reply ≡ reply_of answer
+
+-- A refused request changes nothing that is held.
+abbrev pub IsQuietBy : Answer → List Entry → Type 0
+IsQuietBy (answer.Refused refusal) change = change ≡ []
+IsQuietBy _ change = ⊤
+
+abbrev pub IsQuietIfRefused : Planned → Type 0
+IsQuietIfRefused planned = IsQuietBy planned.answer planned.effect.change
 
 -- The request changes nothing, and is answered so, in each world that has what the core has, by an image that has these names and
 -- this manifest.
-pub record IsReading (c : Core) (q : Request) (reply : MachineReply) : Type 0 where
+pub record IsReading (c : Core) (q : Request) (answer : Answer) : Type 0 where
   pub changes_nothing : (I : Image) → c.image.model.os ≡ I.os → c.image.manifest ≡ I.manifest → (W : World)
-      → answered I (with_core W c.held (job_of c.job)) q ≡ stays (with_core W c.held (job_of c.job)) (answers.reply_of reply)
-
--- ---- plans
-
--- The change of the plan may be laid over what the core holds, and the manifest of the core has each file that a job of the plan
--- has to do.
-pub record MayPlan (c : Core) (plan : Plan) : Type 0 where
-  pub lay : MayLay c.image.model.types c.held plan.change
-  pub rows : KnowsRows c.image.manifest plan.next
-
--- In a world with this held and this job the plan is what the machine makes of the request.
-pub record IsPlanned (I : Image) (held : Held) (job : Job) (q : Request) (plan : Plan) : Type 0 where
-  pub held_is : (W : World) → laid held plan.change ≡ (answered I (with_core W held job) q).world.held
-  pub job_is : (W : World) → job_after plan.next job ≡ (answered I (with_core W held job) q).world.job
-  pub says : (W : World) → Says (answered I (with_core W held job) q).reply plan.reply
-
--- The same in a world that has what the core has, by an image that has these types, names and manifest.
-pub record Plans (c : Core) (q : Request) (plan : Plan) : Type 0 where
-  pub by_image : (I : Image) → c.image.model.types ≡ I.types → c.image.model.os ≡ I.os → c.image.manifest ≡ I.manifest
-      → IsPlanned I c.held (job_of c.job) q plan
+      → answered I (with_core W c.held (job_of c.job)) q ≡ stays (with_core W c.held (job_of c.job)) (reply_of answer)

@@ -1,24 +1,24 @@
-//! Requests and turns over an opened store: each is a step of the map machine, made on the disk before it is answered.
+//! Requests and turns over an opened store: a request is planned, and its plan is committed, as one step of the map machine.
 #![tactic(auto)]
 
 mod applying;
-mod handling;
+mod committing;
 mod live_values;
 mod named_values;
 mod nearest;
 mod next_job;
-mod plan;
+mod planned;
 mod planning;
-mod printing;
+mod printable;
 mod reading;
-mod said;
+mod reopening;
+mod requesting;
 mod serving;
 mod settings_at;
 mod turning;
-mod unopened;
-mod writing;
 
 pub use affected_apply::JobState;
-pub use api_http::{Ask, Reply};
+pub use planned::{Effect, Planned};
 pub use serving::Core;
+pub use settings_machine::Request;
 pub use store_open::Opened;

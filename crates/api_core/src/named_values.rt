@@ -2,7 +2,7 @@
 ghost use Rattle.std.specs.Prelude.{◌≡◌, [], ◌∷◌, Some, IfOk, OnOk, filter, if◌then◌else◌};
 ghost use Rattle.std.specs.Option.{option_copied};
 ghost use Rattle.settings_tree.specs.Walks.{entries_below};
-ghost use Rattle.settings_machine.specs.Requests.{NoName};
+ghost use Rattle.settings_machine.specs.declared.refusal.Refusal.TheVariants.{NoName};
 ghost use Rattle.settings_machine.specs.Answers.{is_named, is_below_one, missing_name};
 ghost use Rattle.api_core.specs.Gathered.{no_name, has_below, with_pairs, all_named};
 

@@ -3,17 +3,16 @@ ghost use Rattle.std.specs.Prelude.{◌≡◌, [], IsTrue, All, IfOk};
 ghost use Rattle.key_names.specs.Key.{is_prefix};
 ghost use Rattle.settings_tree.specs.Content.{settings_key};
 ghost use Rattle.settings_machine.specs.Requests as machine;
-ghost use Rattle.api_core.specs.Plans.{MayMake, IsSoundCore, KnowsFiles, Drafts};
+ghost use Rattle.api_core.specs.Plans.{MayMake, IsSoundCore, KnowsFiles, Makes, IsQuietIfRefused};
 ghost use Rattle.api_core.specs.Prints.{CanPrint};
 
 use crate::Core;
 use crate::next_job::NextJob;
-use crate::plan::Draft;
-use crate::said::Said;
+use crate::planned::{Effect, Planned};
 use key_names::Key;
-use machine_answers::MachineReply;
+use machine_answers::{Answer, Body};
 use pending_tx::{Commit, CommitError, Dropped};
-use settings_machine::{Refused, refused_pair};
+use settings_machine::{Refusal, refused_pair};
 use settings_tree::{Change, Pending, TxName};
 use std::alloc::{AllocError, Global};
 
@@ -24,27 +23,29 @@ pub(crate) fn no_change(alloc: Global) -> Change
     Change::of(Vec::new(alloc))
 }
 
-/// A request that changes nothing.
-pub(crate) fn said(alloc: Global, reply: MachineReply) -> Draft
-    ensures change { result.change ≡ [] }
-    ensures next { result.next ≡ NextJob.Stay }
-    ensures said { result.said ≡ Said.Reply reply }
+/// A request that does nothing to the core.
+pub(crate) fn without_effect(alloc: Global, answer: Answer) -> Planned
+    ensures change { result.effect.change ≡ [] }
+    ensures next { result.effect.next ≡ NextJob.Stay }
+    ensures answer { result.answer ≡ answer }
 {
-    Draft {
-        change: no_change(alloc),
-        next: NextJob::Stay,
-        said: Said::Reply(reply),
+    Planned {
+        answer,
+        effect: Effect {
+            change: no_change(alloc),
+            next: NextJob::Stay,
+        },
     }
 }
 
 /// The transaction that is to be committed isn't there. The only error is want of memory.
-pub(crate) fn no_pending(alloc: Global, tx: &TxName) -> Result<Draft, AllocError>
-    ensures change { IfOk result (λ draft. draft.change ≡ []) }
-    ensures next { IfOk result (λ draft. draft.next ≡ NextJob.Stay) }
-    ensures said { IfOk result (λ draft. draft.said ≡ Said.Reply (MachineReply.NoPending tx.now)) }
+pub(crate) fn no_pending(alloc: Global, tx: &TxName) -> Result<Planned, AllocError>
+    ensures change { IfOk result (λ planned. planned.effect.change ≡ []) }
+    ensures next { IfOk result (λ planned. planned.effect.next ≡ NextJob.Stay) }
+    ensures answer { IfOk result (λ planned. planned.answer ≡ Answer.Refused (Refusal.NoPending tx.now)) }
 {
     let tx = tx.copy()?;
-    Ok(said(alloc, MachineReply::NoPending { tx }))
+    Ok(without_effect(alloc, Answer::Refused(Refusal::NoPending { tx })))
 }
 
 impl Core {
@@ -53,67 +54,52 @@ impl Core {
         alloc: Global,
         tx: &TxName,
         pairs: &[(Key, Pending)],
-    ) -> Result<Draft, AllocError>
+    ) -> Result<Planned, AllocError>
         requires settings { All (λ e. IsTrue (is_prefix settings_key e.0)) pairs.now }
         requires sound { IsSoundCore self.now }
         ensures may { IfOk result (MayMake self.now) }
-        ensures planned { IfOk result (Drafts self.now (machine.Patch tx.now pairs.now)) }
+        ensures planned { IfOk result (Makes self.now (machine.Patch tx.now pairs.now)) }
         ensures files { IfOk result (KnowsFiles self.now) }
-        ensures prints { IfOk result (λ draft. CanPrint draft.said) }
+        ensures prints { IfOk result (λ planned. CanPrint planned.answer) }
+        ensures quiet { IfOk result IsQuietIfRefused }
     {
         match refused_pair(alloc, &self.image.model.types, pairs)? {
-            Some(Refused { key, wanted }) => Ok(said(alloc, MachineReply::BadType { key, wanted })),
-            None => Ok(Draft {
-                change: pending_tx::patch(alloc, &self.held, tx, pairs)?,
-                next: NextJob::Stay,
-                said: Said::Reply(MachineReply::Empty),
+            Some(refusal) => Ok(without_effect(alloc, Answer::Refused(refusal))),
+            None => Ok(Planned {
+                answer: Answer::Empty,
+                effect: Effect {
+                    change: pending_tx::patch(alloc, &self.held, tx, pairs)?,
+                    next: NextJob::Stay,
+                },
             }),
         }
     }
 
-    pub(crate) fn plan_drop(&self, alloc: Global, tx: &TxName) -> Result<Draft, AllocError>
+    pub(crate) fn plan_drop(&self, alloc: Global, tx: &TxName) -> Result<Planned, AllocError>
         requires sound { IsSoundCore self.now }
         ensures may { IfOk result (MayMake self.now) }
-        ensures planned { IfOk result (Drafts self.now (machine.DropTx tx.now)) }
+        ensures planned { IfOk result (Makes self.now (machine.DropTx tx.now)) }
         ensures files { IfOk result (KnowsFiles self.now) }
-        ensures prints { IfOk result (λ draft. CanPrint draft.said) }
+        ensures prints { IfOk result (λ planned. CanPrint planned.answer) }
+        ensures quiet { IfOk result IsQuietIfRefused }
     {
         let Dropped { keys, change } = pending_tx::drop_tx(alloc, &self.held, tx)?;
-        Ok(Draft {
-            change,
-            next: NextJob::Stay,
-            said: Said::Reply(MachineReply::Keys(keys)),
+        Ok(Planned {
+            answer: Answer::Said(Body::Keys(keys)),
+            effect: Effect {
+                change,
+                next: NextJob::Stay,
+            },
         })
     }
 
-    pub(crate) fn plan_pending(&self, alloc: Global, tx: &TxName) -> Result<Draft, AllocError>
+    pub(crate) fn plan_commit(&self, alloc: Global, tx: &TxName) -> Result<Planned, AllocError>
         requires sound { IsSoundCore self.now }
         ensures may { IfOk result (MayMake self.now) }
-        ensures planned { IfOk result (Drafts self.now (machine.Pends tx.now)) }
+        ensures planned { IfOk result (Makes self.now (machine.Commit tx.now)) }
         ensures files { IfOk result (KnowsFiles self.now) }
-        ensures prints { IfOk result (λ draft. CanPrint draft.said) }
-    {
-        let pairs = pending_tx::pending(alloc, &self.held, tx)?;
-        Ok(said(alloc, MachineReply::Pairs(pairs)))
-    }
-
-    pub(crate) fn plan_list(&self, alloc: Global) -> Result<Draft, AllocError>
-        requires sound { IsSoundCore self.now }
-        ensures may { IfOk result (MayMake self.now) }
-        ensures planned { IfOk result (Drafts self.now machine.TxList) }
-        ensures files { IfOk result (KnowsFiles self.now) }
-        ensures prints { IfOk result (λ draft. CanPrint draft.said) }
-    {
-        let names = pending_tx::list(alloc, &self.held)?;
-        Ok(said(alloc, MachineReply::Names(names)))
-    }
-
-    pub(crate) fn plan_commit(&self, alloc: Global, tx: &TxName) -> Result<Draft, AllocError>
-        requires sound { IsSoundCore self.now }
-        ensures may { IfOk result (MayMake self.now) }
-        ensures planned { IfOk result (Drafts self.now (machine.Commit tx.now)) }
-        ensures files { IfOk result (KnowsFiles self.now) }
-        ensures prints { IfOk result (λ draft. CanPrint draft.said) }
+        ensures prints { IfOk result (λ planned. CanPrint planned.answer) }
+        ensures quiet { IfOk result IsQuietIfRefused }
     {
         match pending_tx::commit(alloc, &self.held, tx) {
             Ok(
@@ -122,28 +108,15 @@ impl Core {
                     changed,
                     change,
                 },
-            ) => Ok(Draft {
-                change,
-                next: NextJob::Noted(changed),
-                said: Said::Reply(MachineReply::Keys(keys)),
+            ) => Ok(Planned {
+                answer: Answer::Said(Body::Keys(keys)),
+                effect: Effect {
+                    change,
+                    next: NextJob::Noted(changed),
+                },
             }),
             Err(CommitError::NoPending) => no_pending(alloc, tx),
             Err(CommitError::Memory) => Err(AllocError),
-        }
-    }
-
-    /// The job and what is owed are printed by where they are.
-    pub(crate) fn plan_job(&self, alloc: Global) -> Draft
-        requires sound { IsSoundCore self.now }
-        ensures may { MayMake self.now result }
-        ensures planned { Drafts self.now machine.JobNow result }
-        ensures files { KnowsFiles self.now result }
-        ensures prints { CanPrint result.said }
-    {
-        Draft {
-            change: no_change(alloc),
-            next: NextJob::Stay,
-            said: Said::Job,
         }
     }
 }

@@ -1,121 +1,97 @@
 //! What the requests that change nothing are answered.
-ghost use Rattle.std.specs.Prelude.{◌≡◌, IfOk};
+ghost use Rattle.std.specs.Prelude.{◌≡◌, [], IfOk};
 ghost use Rattle.std.specs.Option.{option_map};
 ghost use Rattle.settings_machine.specs.Requests as machine;
 ghost use Rattle.settings_machine.specs.Requests.{Request};
 ghost use Rattle.settings_machine.specs.Answers.{below_names};
-ghost use Rattle.api_http.specs.Questions as http;
-ghost use Rattle.machine_answers.specs.Asks.{request_of};
 ghost use Rattle.machine_answers.specs.Replies.{reply_of};
-ghost use Rattle.api_core.specs.Plans.{MayMake, IsSoundCore, IsReading, KnowsFiles, Drafts};
-ghost use Rattle.api_core.specs.Prints.{CanNest, CanPrint};
+ghost use Rattle.api_core.specs.Plans.{MayMake, IsSoundCore, IsReading, KnowsFiles, Makes, IsQuietIfRefused};
+ghost use Rattle.api_core.specs.Prints.{CanPrint};
 
 use crate::Core;
 use crate::live_values::{all_values, settings_below, texts_of, values_of};
 use crate::named_values::{missing_name, named_values};
 use crate::nearest::nearest_lists;
-use crate::plan::Draft;
-use crate::planning::said;
+use crate::planned::Planned;
+use crate::planning::without_effect;
 use crate::settings_at::{missing_key, settings_at};
 use key_names::{Key, Text};
-use machine_answers::MachineReply;
+use machine_answers::{Answer, Body};
+use settings_machine::Refusal;
+use settings_tree::{Scalar, TxName};
 use std::alloc::{AllocError, Global};
+
+// The tree of these values, without so many first segments.
+fn tree(skip: usize, pairs: Vec<(Key, Scalar)>) -> Answer
+    ensures { result ≡ Answer.Said (Body.Values skip pairs) }
+{
+    Answer::Said(Body::Values { skip, pairs })
+}
 
 impl Core {
     /// A request that changes nothing and is answered so.
-    pub(crate) fn plan_reading(&self, alloc: Global, reply: MachineReply) -> Draft
+    pub(crate) fn plan_reading(&self, alloc: Global, answer: Answer) -> Planned
         requires sound { IsSoundCore self.now }
-        requires prints { CanNest reply }
+        requires prints { CanPrint answer }
         ensures may { MayMake self.now result }
-        ensures planned { (q : Request) → IsReading self.now q reply → Drafts self.now q result }
+        ensures planned { (q : Request) → IsReading self.now q answer → Makes self.now q result }
         ensures files { KnowsFiles self.now result }
-        ensures prints { CanPrint result.said }
+        ensures prints { CanPrint result.answer }
+        ensures change { result.effect.change ≡ [] }
+        ensures quiet { IsQuietIfRefused result }
     {
-        said(alloc, reply)
+        without_effect(alloc, answer)
     }
 
     /// All live values.
-    pub(crate) fn root(&self, alloc: Global) -> Result<MachineReply, AllocError>
+    pub(crate) fn root(&self, alloc: Global) -> Result<Answer, AllocError>
         requires sound { IsSoundCore self.now }
         ensures reads { IfOk result (IsReading self.now machine.Root) }
-        ensures prints { IfOk result CanNest }
+        ensures prints { IfOk result CanPrint }
     {
         let pairs = all_values(alloc, &self.held.live)?;
-        Ok(MachineReply::Values { skip: 0, pairs })
+        Ok(tree(0, pairs))
     }
 
     /// The names of the operating system.
-    pub(crate) fn os_names(&self, alloc: Global) -> Result<MachineReply, AllocError>
+    pub(crate) fn os_names(&self, alloc: Global) -> Result<Answer, AllocError>
         requires sound { IsSoundCore self.now }
         ensures reads { IfOk result (IsReading self.now machine.OsNames) }
-        ensures prints { IfOk result CanNest }
+        ensures prints { IfOk result CanPrint }
     {
-        Ok(MachineReply::Texts(texts_of(alloc, self.image.model.os.names())?))
+        Ok(Answer::Said(Body::Texts(texts_of(alloc, self.image.model.os.names())?)))
     }
 
     /// All live settings.
-    pub(crate) fn settings(&self, alloc: Global) -> Result<MachineReply, AllocError>
+    pub(crate) fn settings(&self, alloc: Global) -> Result<Answer, AllocError>
         requires sound { IsSoundCore self.now }
         ensures reads { IfOk result (IsReading self.now machine.Settings) }
-        ensures prints { IfOk result CanNest }
+        ensures prints { IfOk result CanPrint }
     {
         let pairs = values_of(alloc, &self.held.live, b"settings")?;
-        Ok(MachineReply::Values { skip: 1, pairs })
+        Ok(tree(1, pairs))
     }
 
     /// The live settings that begin with the key.
-    pub(crate) fn settings_below(
-        &self,
-        alloc: Global,
-        prefix: &Key,
-    ) -> Result<MachineReply, AllocError>
+    pub(crate) fn settings_below(&self, alloc: Global, prefix: &Key) -> Result<Answer, AllocError>
         requires sound { IsSoundCore self.now }
         ensures reads { IfOk result (IsReading self.now (machine.SettingsBelow prefix.now)) }
-        ensures prints { IfOk result CanNest }
+        ensures prints { IfOk result CanPrint }
     {
         let pairs = settings_below(alloc, &self.held.live, prefix)?;
-        Ok(MachineReply::Values { skip: 1, pairs })
+        Ok(tree(1, pairs))
     }
 
     /// The live settings at the keys, or the first key at which none stands.
-    pub(crate) fn settings_at(
-        &self,
-        alloc: Global,
-        keys: &[Key],
-    ) -> Result<MachineReply, AllocError>
+    pub(crate) fn settings_at(&self, alloc: Global, keys: &[Key]) -> Result<Answer, AllocError>
         requires sound { IsSoundCore self.now }
         ensures reads { IfOk result (IsReading self.now (machine.SettingsAt keys.now)) }
-        ensures prints { IfOk result CanNest }
+        ensures prints { IfOk result CanPrint }
     {
         let live = &self.held.live;
         match missing_key(live, keys) {
-            Some(key) => Ok(MachineReply::NoKey { key: key.copy()? }),
-            None => Ok(MachineReply::Values {
-                skip: 1,
-                pairs: settings_at(alloc, live, keys)?,
-            }),
-        }
-    }
-
-    /// The live settings at the keys where these are given, else those that begin with the prefix where one is given,
-    /// else all.
-    pub(crate) fn settings_asked(
-        &self,
-        alloc: Global,
-        keys: &Option<Vec<Key>>,
-        prefix: &Option<Key>,
-    ) -> Result<MachineReply, AllocError>
-        requires sound { IsSoundCore self.now }
-        ensures reads { IfOk result (IsReading self.now
-            (request_of (http.settings (option_map (λ keys. keys.items) keys.now) prefix.now))) }
-        ensures prints { IfOk result CanNest }
-    {
-        if let Some(keys) = keys {
-            return self.settings_at(alloc, keys);
-        }
-        match prefix {
-            Some(prefix) => self.settings_below(alloc, prefix),
-            None => self.settings(alloc),
+            Some(key) => Ok(Answer::Refused(Refusal::NoKey { key: key.copy()? })),
+            None => Ok(tree(1, settings_at(alloc, live, keys)?)),
         }
     }
 
@@ -126,23 +102,20 @@ impl Core {
         alloc: Global,
         first: &[u8],
         names: &Option<Vec<Text>>,
-    ) -> Result<MachineReply, AllocError>
+    ) -> Result<Answer, AllocError>
         requires sound { IsSoundCore self.now }
         ensures says { IfOk result (λ reply. reply_of reply
             ≡ below_names self.now.held.live.values first.now (option_map (λ names. names.items) names.now)) }
-        ensures prints { IfOk result CanNest }
+        ensures prints { IfOk result CanPrint }
     {
         let live = &self.held.live;
         let Some(names) = names else {
             let pairs = values_of(alloc, live, first)?;
-            return Ok(MachineReply::Values { skip: 1, pairs });
+            return Ok(tree(1, pairs));
         };
         match missing_name(alloc, live, first, names)? {
-            Some(name) => Ok(MachineReply::NoName { name: name.copy()? }),
-            None => Ok(MachineReply::Values {
-                skip: 1,
-                pairs: named_values(alloc, live, first, names)?,
-            }),
+            Some(name) => Ok(Answer::Refused(Refusal::NoName { name: name.copy()? })),
+            None => Ok(tree(1, named_values(alloc, live, first, names)?)),
         }
     }
 
@@ -151,10 +124,10 @@ impl Core {
         &self,
         alloc: Global,
         names: &Option<Vec<Text>>,
-    ) -> Result<MachineReply, AllocError>
+    ) -> Result<Answer, AllocError>
         requires sound { IsSoundCore self.now }
         ensures reads { IfOk result (IsReading self.now (machine.Services (option_map (λ names. names.items) names.now))) }
-        ensures prints { IfOk result CanNest }
+        ensures prints { IfOk result CanPrint }
     {
         self.below_names(alloc, b"services", names)
     }
@@ -164,21 +137,52 @@ impl Core {
         &self,
         alloc: Global,
         names: &Option<Vec<Text>>,
-    ) -> Result<MachineReply, AllocError>
+    ) -> Result<Answer, AllocError>
         requires sound { IsSoundCore self.now }
         ensures reads { IfOk result (IsReading self.now
             (machine.ConfigurationFiles (option_map (λ names. names.items) names.now))) }
-        ensures prints { IfOk result CanNest }
+        ensures prints { IfOk result CanPrint }
     {
         self.below_names(alloc, b"configuration-files", names)
     }
 
     /// The nearest list of services of each of the keys that has one.
-    pub(crate) fn affected(&self, alloc: Global, keys: &[Key]) -> Result<MachineReply, AllocError>
+    pub(crate) fn affected(&self, alloc: Global, keys: &[Key]) -> Result<Answer, AllocError>
         requires sound { IsSoundCore self.now }
         ensures reads { IfOk result (IsReading self.now (machine.Affected keys.now)) }
-        ensures prints { IfOk result CanNest }
+        ensures prints { IfOk result CanPrint }
     {
-        Ok(MachineReply::Lists(nearest_lists(alloc, &self.image.manifest, keys)?))
+        Ok(Answer::Said(Body::Lists(nearest_lists(alloc, &self.image.manifest, keys)?)))
+    }
+
+    /// What is pending in the transaction.
+    pub(crate) fn pending(&self, alloc: Global, tx: &TxName) -> Result<Answer, AllocError>
+        requires sound { IsSoundCore self.now }
+        ensures reads { IfOk result (IsReading self.now (machine.Pends tx.now)) }
+        ensures prints { IfOk result CanPrint }
+    {
+        let pairs = pending_tx::pending(alloc, &self.held, tx)?;
+        Ok(Answer::Said(Body::Pairs(pairs)))
+    }
+
+    /// The names of the transactions.
+    pub(crate) fn tx_list(&self, alloc: Global) -> Result<Answer, AllocError>
+        requires sound { IsSoundCore self.now }
+        ensures reads { IfOk result (IsReading self.now machine.TxList) }
+        ensures prints { IfOk result CanPrint }
+    {
+        let names = pending_tx::list(alloc, &self.held)?;
+        Ok(Answer::Said(Body::Names(names)))
+    }
+
+    /// How the job stands, and what is owed.
+    pub(crate) fn job_now(&self, alloc: Global) -> Result<Answer, AllocError>
+        requires sound { IsSoundCore self.now }
+        ensures reads { IfOk result (IsReading self.now machine.JobNow) }
+        ensures prints { IfOk result CanPrint }
+    {
+        let status = self.job.status()?;
+        let owed = self.held.owed.copy()?;
+        Ok(Answer::Said(Body::Job { status, owed }))
     }
 }

@@ -3,7 +3,7 @@ ghost use Rattle.std.specs.Prelude.{◌≡◌, None, Some, IfOk, OnOk, if◌then
 ghost use Rattle.std.specs.Option.{option_copied};
 ghost use Rattle.std.specs.FinMap.{entries, get};
 ghost use Rattle.settings_maps.specs.KeyList.{has_key};
-ghost use Rattle.settings_machine.specs.Requests.{NoKey};
+ghost use Rattle.settings_machine.specs.declared.refusal.Refusal.TheVariants.{NoKey};
 ghost use Rattle.settings_machine.specs.Answers.{settings_where, is_live_setting, missing_key};
 ghost use Rattle.api_core.specs.Gathered.{with_found, gathered, no_key};
 

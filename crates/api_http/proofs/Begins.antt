@@ -1,5 +1,5 @@
--- The keys of a patch begin with `settings`, and settings are not asked for by both keys and a prefix.
-use Rattle.std.proofs.Common.{◌≡◌, ℕ, List, ◌∷◌, ◌⊎◌, inl, inr, Option, Some, None, Ok, ok_or, take, IsTrue, suc, [], arith, codes, refl, sym, ap, ◌∙◌}
+-- The keys of a patch begin with `settings`.
+use Rattle.std.proofs.Common.{◌≡◌, ℕ, List, ◌∷◌, Option, Some, None, Ok, ok_or, take, IsTrue, suc, [], arith, codes, refl, sym, ap, ◌∙◌}
 use Rattle.std.specs.Prelude.{All}
 use Rattle.std.specs.Map.{keys_of}
 use Rattle.std.proofs.lemmas.List.Elements.{All-nil, All-cons}
@@ -12,7 +12,8 @@ use Rattle.json_trees.specs.declared.tree_error.TreeError.TheVariants.{NotJson}
 use Rattle.json_trees.specs.Collected.{result_and_then}
 use Rattle.json_trees.proofs.Flat.{All_below-tree_pairs}
 use Rattle.settings_tree.specs.Content.{settings_key}
-use Rattle.api_http.specs.Questions.{Question, Spells, at_root, at_os, at_settings, at_patch, at_services, at_files, at_affected, at_pending, at_drop, at_list, at_commit, at_apply, at_commit_and_apply, at_job, GivesKeysOrPrefix, by_keys, by_prefix, by_neither, IsProper}
+use Rattle.settings_machine.specs.Requests.{Request, IsProper}
+use Rattle.api_http.specs.Spelled.{Spells, at_root, at_os, at_settings, at_patch, at_services, at_files, at_affected, at_pending, at_drop, at_list, at_commit, at_apply, at_commit_and_apply, at_job, GivesKeysOrPrefix, by_keys, by_prefix, by_neither}
 use Rattle.api_http.specs.declared.route.Route.{Route}
 use Rattle.api_http.specs.Query.{Pair}
 
@@ -38,14 +39,14 @@ All-unmap (pair ∷ pairs) h = All-cons (λ (pair : Path × Pending). IsTrue (is
 pub patch_proper : (body : List ℕ) (pairs : List (Path × Pending)) → flattened pending_leaf settings_key body ≡ Ok pairs → All (λ pair. IsTrue (is_prefix settings_key pair.0)) pairs
 patch_proper body pairs e = All-unmap pairs (text_below _ body pairs refl e)
 
-either_proper : (pairs : List Pair) (keys : Option (List Path)) (prefix : Option Path) → GivesKeysOrPrefix pairs keys prefix → (keys ≡ None) ⊎ (prefix ≡ None)
-either_proper pairs _ _ (by_keys l a) = inr refl
-either_proper pairs _ _ (by_prefix v k a s) = inl refl
-either_proper pairs _ _ (by_neither a) = inl refl
+either_proper : (pairs : List Pair) (q : Request) → GivesKeysOrPrefix pairs q → IsProper q
+either_proper pairs _ (by_keys l a) = tt
+either_proper pairs _ (by_prefix v k a s) = tt
+either_proper pairs _ (by_neither a) = tt
 
 -- what a query and a body spell is proper
-pub spelled_proper : (pairs : List Pair) (body : List ℕ) (r : Route) (q : Question) → Spells pairs body r q → IsProper q
-spelled_proper pairs body _ _ (at_settings keys prefix a) = either_proper pairs keys prefix a
+pub spelled_proper : (pairs : List Pair) (body : List ℕ) (r : Route) (q : Request) → Spells pairs body r q → IsProper q
+spelled_proper pairs body _ _ (at_settings q a) = either_proper pairs q a
 spelled_proper pairs body _ _ (at_patch tx changes _ flat) = patch_proper body changes flat
 spelled_proper pairs body _ _ (at_root _) = tt
 spelled_proper pairs body _ _ (at_os _) = tt

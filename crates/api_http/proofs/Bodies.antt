@@ -7,7 +7,8 @@ use Rattle.key_names.specs.Spelling.{SpellsKey}
 use Rattle.settings_tree.specs.Content.{settings_key}
 use Rattle.api_http.specs.declared.route.Route.TheVariants.{Patch}
 use Rattle.api_http.specs.Query.{Pair}
-use Rattle.api_http.specs.Questions.{Question, NamesTx, Spells, at_patch, IsPatchOf}
+use Rattle.settings_machine.specs.Requests as machine
+use Rattle.api_http.specs.Spelled.{NamesTx, Spells, at_patch, IsPatchOf}
 
 -- the word `settings` spells the key of all settings
 pub settings_spelled : SpellsKey (codes "settings") settings_key
@@ -15,5 +16,5 @@ unfolding Joins printed file_name
 settings_spelled = record { spells = record { valid = refl; form = inr (refl, refl) }; within = refl }
 
 -- a patch of a transaction is spelled by its query and its body
-pub patch_spelled : (pairs : List Pair) (tx body : List ℕ) (q : Question) → NamesTx pairs tx → IsPatchOf tx body q → Spells pairs body Patch q
+pub patch_spelled : (pairs : List Pair) (tx body : List ℕ) (q : machine.Request) → NamesTx pairs tx → IsPatchOf tx body q → Spells pairs body Patch q
 patch_spelled pairs tx body q names (changes, is, flat) = rw is (at_patch tx changes names flat)

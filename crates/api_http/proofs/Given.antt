@@ -5,7 +5,8 @@ use Rattle.std.specs.List.{list_all}
 use Rattle.std.proofs.lemmas.List.Folds.{list_all-map, list_all_at}
 use Rattle.settings_maps.specs.TxName.{is_meta_name}
 use Rattle.api_http.specs.Query.{Pair, texts, HasSeveral}
-use Rattle.api_http.specs.Questions.{Key, GivesKeysOrPrefix, by_keys, by_prefix, IsGivenEither}
+use Rattle.settings_machine.specs.Requests as machine
+use Rattle.api_http.specs.Spelled.{GivesKeysOrPrefix, by_keys, by_prefix, IsGivenEither}
 
 -- what follows from three facts on the value of an `Ok`
 pub if_all : {T E : Type 0} (r : Result T E) (P Q R S : T → Type 0) → ((v : T) → P v → Q v → R v → S v) → IfOk r P → IfOk r Q → IfOk r R → IfOk r S
@@ -28,8 +29,8 @@ pub no_name : (pieces : List (Bor (List ℕ))) (i : ℕ) (d : Bor (List ℕ)) �
 no_name pieces i d within bad = list_all-map is_meta_name (λ p. p.now) pieces ∙ list_all_at (λ p. is_meta_name p.now) pieces i d within bad
 
 -- the one pair gives the keys or the prefix
-pub either_given : (pairs : List Pair) (name value : List ℕ) (keys : Option (List Key)) (prefix : Option Key) → pairs ≡ (name, value) ∷ [] → IsGivenEither name value keys prefix → GivesKeysOrPrefix pairs keys prefix
-either_given pairs name value keys prefix is (inl (listed, named, lists, keys_are, prefix_is)) =
-    rw (keys_are, prefix_is) (by_keys listed (record { value = value; given = is ∙ ap (λ n. (n, value) ∷ []) named; lists = lists }))
-either_given pairs name value keys prefix is (inr (key, named, spells, keys_are, prefix_is)) =
-    rw (keys_are, prefix_is) (by_prefix value key (is ∙ ap (λ n. (n, value) ∷ []) named) spells)
+pub either_given : (pairs : List Pair) (name value : List ℕ) (q : machine.Request) → pairs ≡ (name, value) ∷ [] → IsGivenEither name value q → GivesKeysOrPrefix pairs q
+either_given pairs name value q is (inl (listed, named, lists, q_is)) =
+    rw q_is (by_keys listed (record { value = value; given = is ∙ ap (λ n. (n, value) ∷ []) named; lists = lists }))
+either_given pairs name value q is (inr (key, named, spells, q_is)) =
+    rw q_is (by_prefix value key (is ∙ ap (λ n. (n, value) ∷ []) named) spells)

@@ -12,8 +12,9 @@ pub mod Aims
 pub mod Readings
 pub mod Hopeless
 pub mod Ends
-pub mod OneQuestion
+pub mod OneRequest
 pub mod OneAnswer
 pub mod Stays
 pub mod Begins
 pub mod Waiting
+pub mod Said

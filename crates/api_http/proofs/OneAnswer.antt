@@ -13,9 +13,11 @@ use Rattle.api_http.specs.declared.route.Route.TheVariants.{Patch}
 use Rattle.api_http.specs.Heads.{IsWholeHead, IsHopeless}
 use Rattle.api_http.specs.Fields.{body_length}
 use Rattle.api_http.specs.Query.{Pair}
-use Rattle.api_http.specs.Questions.{Question, question, Spells, at_patch}
+use Rattle.settings_machine.specs.Asked.{request_of}
+use Rattle.settings_machine.specs.Requests as machine
+use Rattle.api_http.specs.Spelled.{Spells, at_patch}
 use Rattle.api_http.specs.Requests.{Told, told, pairs_of, route_told, Shows, bad_length, no_path, no_method, bad_query, transfer_coded, long_body, place, ShowsFirst, Asks, Refuses, too_long, many_lines, in_head, in_body, MayRefuse, Waits, for_head, for_body, IfWhole, IfRefused, IsWhole}
-use Rattle.api_http.proofs.OneQuestion.{one_question}
+use Rattle.api_http.proofs.OneRequest.{one_request}
 
 -- ---- one head
 
@@ -28,10 +30,10 @@ pub same_head : (bytes : List ℕ) (h k : RequestHead) (rest more : List ℕ) �
 same_head bytes h k rest more a b = let same = request_unique bytes h k rest more a.reads b.reads in record { head = same.0; behind = same.1 }
 
 -- a body that is no tree spells no patch
-pub no_tree_asked : (pairs : List Pair) (body : List ℕ) (e : TreeError) (r : Route) (q : Question) → r ≡ Patch → flattened pending_leaf settings_key body ≡ Err e → Spells pairs body r q → ⊥
+pub no_tree_asked : (pairs : List Pair) (body : List ℕ) (e : TreeError) (r : Route) (q : machine.Request) → r ≡ Patch → flattened pending_leaf settings_key body ≡ Err e → Spells pairs body r q → ⊥
 no_tree_asked pairs body e r q is wrong spells = by q (subst (λ x. Spells pairs body x q) is spells)
   where
-    by : (q : Question) → Spells pairs body Patch q → ⊥
+    by : (q : machine.Request) → Spells pairs body Patch q → ⊥
     by _ (at_patch tx changes _ flat) = let never = sym flat ∙ wrong in cc
 
 -- ---- refusals of one head
@@ -52,8 +54,8 @@ one_first t r s a b = same_place t r s a.shows b.shows (omega (arith, a.first s 
 -- ---- answers
 
 module _ (bytes : List ℕ) where
-  -- bytes ask one question at most
-  pub one_asked : (q q' : Question) (n n' : ℕ) → Asks bytes q n → Asks bytes q' n' → (q ≡ q') × (n ≡ n')
+  -- bytes are one request at most
+  pub one_asked : (q q' : machine.Request) (n n' : ℕ) → Asks bytes q n → Asks bytes q' n' → (q ≡ q') × (n ≡ n')
   one_asked q q' n n' a b =
       let same = same_head bytes a.head b.head a.rest b.rest a.clean.whole b.clean.whole in
       let route_is : a.route ≡ b.route = let e = sym a.route_is ∙ ap (λ h. route_told (told h)) same.head ∙ b.route_is in cc in
@@ -61,12 +63,12 @@ module _ (bytes : List ℕ) where
       let first : Spells (pairs_of (told b.head)) (take (body_length (told b.head).fields) a.rest) a.route q = subst (λ h. Spells (pairs_of (told h)) (take (body_length (told h).fields) a.rest) a.route q) same.head a.spells in
       let second : Spells (pairs_of (told b.head)) (take (body_length (told b.head).fields) b.rest) a.route q = subst (λ l. Spells (pairs_of (told b.head)) (take (body_length (told b.head).fields) l) a.route q) same.behind first in
       let third : Spells (pairs_of (told b.head)) (take (body_length (told b.head).fields) b.rest) b.route q = subst (λ r. Spells (pairs_of (told b.head)) (take (body_length (told b.head).fields) b.rest) r q) route_is second in (
-        one_question _ _ b.route q q' third b.spells,
+        one_request _ _ b.route q q' third b.spells,
         a.length_is ∙ ap (λ h. length (print_request h) + body_length (told h).fields) same.head ∙ sym b.length_is,
       )
 
   -- what is asked is not refused
-  pub asked_not_refused : (q : Question) (n : ℕ) (r : Refusal) → Asks bytes q n → Refuses bytes r → ⊥
+  pub asked_not_refused : (q : machine.Request) (n : ℕ) (r : Refusal) → Asks bytes q n → Refuses bytes r → ⊥
   asked_not_refused q n _ a (too_long none _ _) = none a.head a.rest a.clean.whole
   asked_not_refused q n _ a (many_lines none _) = none a.head a.rest a.clean.whole
   asked_not_refused q n _ a (in_head h rest r whole first) =
@@ -80,11 +82,11 @@ module _ (bytes : List ℕ) where
       no_tree_asked _ _ e a.route q patch wrong second
 
   -- and its head is not hopeless
-  pub asked_not_hopeless : (q : Question) (n : ℕ) → Asks bytes q n → IsHopeless bytes → ⊥
+  pub asked_not_hopeless : (q : machine.Request) (n : ℕ) → Asks bytes q n → IsHopeless bytes → ⊥
   asked_not_hopeless q n a hopeless = hopeless.no_head a.head a.rest a.clean.whole
 
   -- and nothing is waited for
-  pub asked_not_waiting : (q : Question) (n : ℕ) → Asks bytes q n → Waits bytes → ⊥
+  pub asked_not_waiting : (q : machine.Request) (n : ℕ) → Asks bytes q n → Waits bytes → ⊥
   asked_not_waiting q n a (for_head none _ _) = none a.head a.rest a.clean.whole
   asked_not_waiting q n a (for_body h rest clean short) =
       let same = same_head bytes a.head h a.rest rest a.clean.whole clean.whole in
@@ -134,8 +136,8 @@ module _ (bytes : List ℕ) where
     pub not_yet : reading ≡ NotYet → Waits bytes
 
   -- so each whole request is read as it is
-  pub every_whole : (reading : Reading) → IsRead reading → (q : Question) (n : ℕ) → Asks bytes q n → IsWhole reading q n
-  every_whole (Whole ask m) read q n a = one_asked (question ask) q m n read.whole a
+  pub every_whole : (reading : Reading) → IsRead reading → (q : machine.Request) (n : ℕ) → Asks bytes q n → IsWhole reading q n
+  every_whole (Whole request m) read q n a = one_asked (request_of request) q m n read.whole a
   every_whole NotYet read q n a = asked_not_waiting q n a (read.not_yet refl)
   every_whole (Refused r) read q n a = by read.refused
     where
@@ -145,7 +147,7 @@ module _ (bytes : List ℕ) where
 
   -- so each refusal is answered, but for a hopeless head
   pub every_refused : (reading : Reading) → IsRead reading → ¬ IsHopeless bytes → (r : Refusal) → Refuses bytes r → reading ≡ Refused r
-  every_refused (Whole ask m) read sound r refuses = absurd (asked_not_refused (question ask) m r read.whole refuses)
+  every_refused (Whole request m) read sound r refuses = absurd (asked_not_refused (request_of request) m r read.whole refuses)
   every_refused NotYet read sound r refuses = absurd (refused_not_waiting r refuses (read.not_yet refl))
   every_refused (Refused s) read sound r refuses = by read.refused
     where
@@ -155,7 +157,7 @@ module _ (bytes : List ℕ) where
 
   -- so is each wait
   pub every_wait : (reading : Reading) → IsRead reading → ¬ IsHopeless bytes → Waits bytes → reading ≡ NotYet
-  every_wait (Whole ask m) read sound waits = absurd (asked_not_waiting (question ask) m read.whole waits)
+  every_wait (Whole request m) read sound waits = absurd (asked_not_waiting (request_of request) m read.whole waits)
   every_wait NotYet read sound waits = refl
   every_wait (Refused s) read sound waits = by read.refused
     where

@@ -5,7 +5,6 @@ use Rattle.httparse.specs.declared.spans.HeaderSpan.{HeaderSpan}
 use Rattle.httparse.specs.declared.spans.RequestSpans.{RequestSpans}
 use Rattle.httparse.specs.Spans.{name_and_value, header_bytes, span_bytes, IsRequestAt, IsRequestOf}
 use Rattle.std.proofs.lemmas.List.{drop_at}
-use Rattle.api_http.specs.declared.ask.Ask.{Ask}
 use Rattle.api_http.specs.declared.plan.Plan.{Plan}
 use Rattle.api_http.specs.declared.reading.Reading.{Reading}
 use Rattle.api_http.specs.declared.reading.Reading.TheVariants.{Whole, NotYet, Refused}
@@ -16,22 +15,24 @@ use Rattle.api_http.specs.declared.verdict.Verdict.{Verdict}
 use Rattle.api_http.specs.declared.verdict.Verdict.TheVariants.{Planned}
 use Rattle.api_http.specs.Heads.{IsWholeHead, HoldsNoHead, shown}
 use Rattle.api_http.specs.Query.{Pair}
-use Rattle.api_http.specs.Questions.{question, Spells}
+use Rattle.settings_machine.specs.declared.request.Request.{Request}
+use Rattle.settings_machine.specs.Asked.{request_of}
+use Rattle.api_http.specs.Spelled.{Spells}
 use Rattle.api_http.specs.Requests.{Told, told, pairs_of, Asks, in_head, in_body, MayRefuse, Waits, for_body, IfWhole, IfRefused}
 use Rattle.api_http.proofs.Lines.{few_fields}
 use Rattle.api_http.proofs.Shown.{head_from_shown}
 use Rattle.api_http.specs.Plans.{IsPlan, Tells, IsNoTree, ReadsAs}
 
--- the body is there and spells the question
-pub asked : (t : Told) (plan : Plan) (size n k : ℕ) (rest body : List ℕ) (ask : Ask) → Tells t (Planned plan size) → size ≤ length rest → body ≡ take size rest → ((r : Route) (pairs : List Pair) → IsPlan r pairs plan → Spells pairs body r (question ask)) → k ≡ n + size
-    → ReadsAs t rest n (Whole ask k)
-asked t plan size n k rest body ask (clean, size_is, planned) there body_is spells k_is = (
+-- the body is there and spells the request
+pub asked : (t : Told) (plan : Plan) (size n k : ℕ) (rest body : List ℕ) (request : Request) → Tells t (Planned plan size) → size ≤ length rest → body ≡ take size rest → ((r : Route) (pairs : List Pair) → IsPlan r pairs plan → Spells pairs body r (request_of request)) → k ≡ n + size
+    → ReadsAs t rest n (Whole request k)
+asked t plan size n k rest body request (clean, size_is, planned) there body_is spells k_is = (
   record {
     clean = clean;
     body = omega (arith, there, size_is);
     route = planned.route;
     route_is = planned.route_is;
-    spells = subst (λ b. Spells (pairs_of t) b planned.route (question ask)) (body_is ∙ ap (λ m. take m rest) size_is) (spells planned.route (pairs_of t) planned.plan_is);
+    spells = subst (λ b. Spells (pairs_of t) b planned.route (request_of request)) (body_is ∙ ap (λ m. take m rest) size_is) (spells planned.route (pairs_of t) planned.plan_is);
   },
   k_is ∙ ap (λ m. n + m) size_is,
 )
@@ -55,7 +56,7 @@ body_refused t plan size n rest body (clean, size_is, planned) there body_is ref
 module _ (bytes : List ℕ) (h : RequestHead) (rest : List ℕ) (whole : IsWholeHead bytes h rest) where
   -- a whole request is asked by the bytes
   pub whole_said : (reading : Reading) → ReadsAs (told h) rest (length (print_request h)) reading → IfWhole reading (Asks bytes)
-  whole_said (Whole ask n) (a, n_is) = record {
+  whole_said (Whole request n) (a, n_is) = record {
     head = h;
     rest = rest;
     clean = record { whole = whole; clean = a.clean };
@@ -70,14 +71,14 @@ module _ (bytes : List ℕ) (h : RequestHead) (rest : List ℕ) (whole : IsWhole
 
   -- a refusal is one that the bytes may have
   pub refused_said : (reading : Reading) → ReadsAs (told h) rest (length (print_request h)) reading → IfRefused reading (MayRefuse bytes)
-  refused_said (Whole ask n) said = tt
+  refused_said (Whole request n) said = tt
   refused_said NotYet said = tt
   refused_said (Refused r) (inl first) = inl (in_head h rest r whole first)
   refused_said (Refused r) (inr (is, b)) = rw is (inl (in_body h rest b.no_tree.0 (record { whole = whole; clean = b.clean }) b.body b.route_is b.no_tree.1))
 
   -- what is waited for is missing in the bytes
   pub waits_said : (reading : Reading) → ReadsAs (told h) rest (length (print_request h)) reading → reading ≡ NotYet → Waits bytes
-  waits_said (Whole ask n) said is = cc
+  waits_said (Whole request n) said is = cc
   waits_said NotYet said is = for_body h rest (record { whole = whole; clean = said.0 }) said.1
   waits_said (Refused r) said is = cc
 

@@ -1,11 +1,12 @@
--- A query that spells a question has no fault.
+-- A query that spells a request has no fault.
 use Rattle.std.proofs.Common.{◌≡◌, ◌<◌, ◌≤◌, ℕ, zero, suc, true, List, [], ◌∷◌, ◌++◌, length, codes, Contains, Option, refl, sym, ap, ◌∙◌, subst, arith}
 use Rattle.api_http.specs.declared.route.Route.{Route}
 use Rattle.api_http.specs.declared.plan.Plan.{Plan}
 use Rattle.api_http.specs.declared.plan.Plan.TheVariants.{Ready, Patch}
 use Rattle.api_http.specs.Plans.{IsPlan}
 use Rattle.api_http.specs.Query.{Pair, is_among, IsInGrammar, a_transaction, some_keys, a_prefix, some_names, QueryFault, unknown, repeated, outside, both, missing, HasQueryFault}
-use Rattle.api_http.specs.Questions.{Question, NamesTx, named, unnamed, GivesNames, by_names, without_names, GivesKeys, GivesKeysOrPrefix, by_keys, by_prefix, by_neither, Spells, at_root, at_os, at_settings, at_patch, at_services, at_files, at_affected, at_pending, at_drop, at_list, at_commit, at_apply, at_commit_and_apply, at_job}
+use Rattle.settings_machine.specs.Requests as machine
+use Rattle.api_http.specs.Spelled.{NamesTx, named, unnamed, GivesNames, by_names, without_names, GivesKeys, GivesKeysOrPrefix, by_keys, by_prefix, by_neither, Spells, at_root, at_os, at_settings, at_patch, at_services, at_files, at_affected, at_pending, at_drop, at_list, at_commit, at_apply, at_commit_and_apply, at_job}
 
 -- ---- a query without pairs, and one of a single pair
 
@@ -81,16 +82,16 @@ pub keys_sound : (pairs : List Pair) (keys : List (List (List ℕ))) → GivesKe
 keys_sound pairs keys gives = one_sound _ (codes "keys" ∷ []) pairs (codes "keys") gives.value gives.given refl (some_keys refl keys gives.lists) (one_needed (codes "keys"))
 
 -- a query that gives keys or a prefix has no fault
-pub either_sound : (pairs : List Pair) (keys : Option (List (List (List ℕ)))) (prefix : Option (List (List ℕ))) → GivesKeysOrPrefix pairs keys prefix → ¬ QueryFault (codes "keys" ∷ codes "prefix" ∷ []) [] pairs
-either_sound pairs _ _ (by_keys keys gives) = one_sound _ [] pairs (codes "keys") gives.value gives.given refl (some_keys refl keys gives.lists) (nothing_needed (codes "keys"))
-either_sound pairs _ _ (by_prefix value key is spells) = one_sound _ [] pairs (codes "prefix") value is refl (a_prefix refl key spells) (nothing_needed (codes "prefix"))
-either_sound pairs _ _ (by_neither is) = none_sound _ pairs is
+pub either_sound : (pairs : List Pair) (q : machine.Request) → GivesKeysOrPrefix pairs q → ¬ QueryFault (codes "keys" ∷ codes "prefix" ∷ []) [] pairs
+either_sound pairs _ (by_keys keys gives) = one_sound _ [] pairs (codes "keys") gives.value gives.given refl (some_keys refl keys gives.lists) (nothing_needed (codes "keys"))
+either_sound pairs _ (by_prefix value key is spells) = one_sound _ [] pairs (codes "prefix") value is refl (a_prefix refl key spells) (nothing_needed (codes "prefix"))
+either_sound pairs _ (by_neither is) = none_sound _ pairs is
 
--- a query that spells a question has no fault of its route
-pub spells_sound : (pairs : List Pair) (body : List ℕ) (r : Route) (q : Question) → Spells pairs body r q → ¬ HasQueryFault r pairs
+-- a query that spells a request has no fault of its route
+pub spells_sound : (pairs : List Pair) (body : List ℕ) (r : Route) (q : machine.Request) → Spells pairs body r q → ¬ HasQueryFault r pairs
 spells_sound pairs body _ _ (at_root is) = none_sound _ pairs is
 spells_sound pairs body _ _ (at_os is) = none_sound _ pairs is
-spells_sound pairs body _ _ (at_settings keys prefix gives) = either_sound pairs keys prefix gives
+spells_sound pairs body _ _ (at_settings q gives) = either_sound pairs q gives
 spells_sound pairs body _ _ (at_patch tx changes names _) = tx_sound pairs tx names
 spells_sound pairs body _ _ (at_services names gives) = names_sound pairs names gives
 spells_sound pairs body _ _ (at_files names gives) = names_sound pairs names gives
@@ -105,5 +106,5 @@ spells_sound pairs body _ _ (at_job is) = none_sound _ pairs is
 
 -- nor has one that gives a plan
 pub plan_sound : (pairs : List Pair) (r : Route) (plan : Plan) → IsPlan r pairs plan → ¬ HasQueryFault r pairs
-plan_sound pairs r (Ready ask) is = spells_sound pairs [] r _ (is [])
+plan_sound pairs r (Ready request) is = spells_sound pairs [] r _ (is [])
 plan_sound pairs r (Patch tx) is = rw is.0 (tx_sound pairs tx is.1)

@@ -11,7 +11,9 @@ use Rattle.api_http.specs.declared.reading.Reading.{Reading}
 use Rattle.api_http.specs.declared.reading.Reading.TheVariants.{Whole, NotYet, Refused}
 use Rattle.api_http.specs.Heads.{line_feeds, shown, IsWholeHead, HoldsNoHead, HasManyLines, IsNeverHead, IsHopeless}
 use Rattle.api_http.specs.Fields.{body_length}
-use Rattle.api_http.specs.Questions.{Question, question, Spells, IsProper}
+use Rattle.settings_machine.specs.Requests as machine
+use Rattle.settings_machine.specs.Asked.{request_of}
+use Rattle.api_http.specs.Spelled.{Spells}
 use Rattle.api_http.specs.Requests.{told, pairs_of, Shows, Asks, IsCleanHead, too_long, many_lines, in_head, in_body, MayRefuse, IfWhole, IfRefused}
 use Rattle.api_http.proofs.Lines.{line_feeds-append}
 use Rattle.api_http.proofs.Shown.{head_in_shown, head_from_shown}
@@ -29,7 +31,7 @@ pub clean_stays : (bytes more : List ℕ) (h : RequestHead) (rest : List ℕ) �
 clean_stays bytes more h rest c = record { whole = head_stays bytes more h rest c.whole; clean = c.clean }
 
 -- a whole request stays the same
-pub asked_stays : (bytes more : List ℕ) (q : Question) (n : ℕ) → Asks bytes q n → Asks (bytes ++ more) q n
+pub asked_stays : (bytes more : List ℕ) (q : machine.Request) (n : ℕ) → Asks bytes q n → Asks (bytes ++ more) q n
 asked_stays bytes more q n a = record {
   head = a.head;
   rest = a.rest ++ more;
@@ -74,7 +76,7 @@ lines_full : (bytes : List ℕ) → HasManyLines bytes → line_feeds (shown byt
 lines_full bytes many = omega (arith, many, end_lines 66 (take 16384 bytes))
 
 -- what is refused is never whole
-pub refused_stays : (bytes more : List ℕ) (r : Refusal) → MayRefuse bytes r → (q : Question) (n : ℕ) → ¬ Asks (bytes ++ more) q n
+pub refused_stays : (bytes more : List ℕ) (r : Refusal) → MayRefuse bytes r → (q : machine.Request) (n : ℕ) → ¬ Asks (bytes ++ more) q n
 refused_stays bytes more _ (inl (too_long none few long)) q n a = no_head_comes bytes more (long_stays bytes more long) none a.head a.rest a.clean.whole
 refused_stays bytes more _ (inl (many_lines none many)) q n a = no_head_comes bytes more (full_stays bytes more (lines_full bytes many)) none a.head a.rest a.clean.whole
 refused_stays bytes more _ (inl (in_head h rest r whole first)) q n a =
@@ -85,7 +87,7 @@ refused_stays bytes more r (inl (in_body h rest e clean body route_is wrong)) q 
 refused_stays bytes more r (inr (_, hopeless)) q n a = hopeless_stays bytes more hopeless a.head a.rest a.clean.whole
 
 -- a whole request lies within the bytes
-pub asked_within : (bytes : List ℕ) (q : Question) (n : ℕ) → Asks bytes q n → n ≤ length bytes
+pub asked_within : (bytes : List ℕ) (q : machine.Request) (n : ℕ) → Asks bytes q n → n ≤ length bytes
 asked_within bytes q n a = omega (arith, a.length_is, a.body, ap length a.clean.whole.reads.1, length-append (print_request a.head) a.rest)
 
 many_stay : (bytes more : List ℕ) → HasManyLines bytes → HasManyLines (bytes ++ more)
@@ -116,39 +118,39 @@ refusal_stays bytes more r (inr (is, hopeless)) = by (cases_lt (line_feeds (take
 
 -- a part of a whole request waits for the rest
 pub cut_waits : (bytes : List ℕ) (reading : Reading) → IfWhole reading (Asks bytes) → IfRefused reading (MayRefuse bytes)
-    → (more : List ℕ) (q : Question) (n : ℕ) → Asks (bytes ++ more) q n → length bytes < n → reading ≡ NotYet
-cut_waits bytes (Whole ask m) whole may more q n a short =
-    let same = one_asked (bytes ++ more) (question ask) q m n (asked_stays bytes more (question ask) m whole) a in
-    absurd (omega (arith, asked_within bytes (question ask) m whole, same.1, short))
+    → (more : List ℕ) (q : machine.Request) (n : ℕ) → Asks (bytes ++ more) q n → length bytes < n → reading ≡ NotYet
+cut_waits bytes (Whole request m) whole may more q n a short =
+    let same = one_asked (bytes ++ more) (request_of request) q m n (asked_stays bytes more (request_of request) m whole) a in
+    absurd (omega (arith, asked_within bytes (request_of request) m whole, same.1, short))
 cut_waits bytes NotYet whole may more q n a short = refl
 cut_waits bytes (Refused r) whole may more q n a short = absurd (refused_stays bytes more r may q n a)
 
 -- a reading that is whole lies within the bytes
 pub whole_within : (bytes : List ℕ) (reading : Reading) → IfWhole reading (Asks bytes) → IfWhole reading (λ _ n. n ≤ length bytes)
-whole_within bytes (Whole ask n) a = asked_within bytes (question ask) n a
+whole_within bytes (Whole request n) a = asked_within bytes (request_of request) n a
 whole_within bytes NotYet a = tt
 whole_within bytes (Refused r) a = tt
 
 -- a reading that is refused stays refused for the same cause
 pub refusal_kept : (bytes : List ℕ) (reading : Reading) → IfRefused reading (MayRefuse bytes) → IfRefused reading (λ r. (more : List ℕ) → MayRefuse (bytes ++ more) r)
-refusal_kept bytes (Whole ask n) may = tt
+refusal_kept bytes (Whole request n) may = tt
 refusal_kept bytes NotYet may = tt
 refusal_kept bytes (Refused r) may = λ more. refusal_stays bytes more r may
 
 -- a reading that is whole stays so
 pub whole_stays : (bytes : List ℕ) (reading : Reading) → IfWhole reading (Asks bytes) → IfWhole reading (λ q n. (more : List ℕ) → Asks (bytes ++ more) q n)
-whole_stays bytes (Whole ask n) a = λ more. asked_stays bytes more (question ask) n a
+whole_stays bytes (Whole request n) a = λ more. asked_stays bytes more (request_of request) n a
 whole_stays bytes NotYet a = tt
 whole_stays bytes (Refused r) a = tt
 
 -- a reading that is refused is never whole
-pub never_whole : (bytes : List ℕ) (reading : Reading) → IfRefused reading (MayRefuse bytes) → IfRefused reading (λ _. (more : List ℕ) (q : Question) (n : ℕ) → ¬ Asks (bytes ++ more) q n)
-never_whole bytes (Whole ask n) a = tt
+pub never_whole : (bytes : List ℕ) (reading : Reading) → IfRefused reading (MayRefuse bytes) → IfRefused reading (λ _. (more : List ℕ) (q : machine.Request) (n : ℕ) → ¬ Asks (bytes ++ more) q n)
+never_whole bytes (Whole request n) a = tt
 never_whole bytes NotYet a = tt
 never_whole bytes (Refused r) may = λ more. refused_stays bytes more r may
 
 -- what is asked meets what the core asks of its requests
-pub whole_proper : (bytes : List ℕ) (reading : Reading) → IfWhole reading (Asks bytes) → IfWhole reading (λ q _. IsProper q)
-whole_proper bytes (Whole ask n) a = spelled_proper _ _ a.route (question ask) a.spells
+pub whole_proper : (bytes : List ℕ) (reading : Reading) → IfWhole reading (Asks bytes) → IfWhole reading (λ q _. machine.IsProper q)
+whole_proper bytes (Whole request n) a = spelled_proper _ _ a.route (request_of request) a.spells
 whole_proper bytes NotYet a = tt
 whole_proper bytes (Refused r) a = tt

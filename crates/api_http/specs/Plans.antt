@@ -1,4 +1,4 @@
--- For private clauses: what a head asks for before its body is read.
+-- For private clauses: what a head tells of a request before its body is read.
 use Rattle.std.specs.Prelude.{◌≡◌, ◌≤◌, ◌<◌, ◌+◌, ◌⊎◌, ℕ, Bool, true, false, List, length, take, Option, Some, None, MatchOption, Err}
 use Rattle.api_http.specs.declared.plan.Plan.{Plan}
 use Rattle.api_http.specs.declared.plan.Plan.TheVariants as plan
@@ -18,11 +18,13 @@ use Rattle.api_http.specs.Fields.{Field, body_length, has_bad_length}
 use Rattle.api_http.specs.Query.{Pair, query_pairs, HasQueryFault}
 use Rattle.api_http.specs.Requests.{Told, pairs_of, path_of, route_told, ShowsFirst, IsClean}
 use Rattle.api_http.specs.Routes.{has_path}
-use Rattle.api_http.specs.Questions.{NamesTx, Question, Spells, question}
+use Rattle.settings_machine.specs.Requests as machine
+use Rattle.settings_machine.specs.Asked.{request_of}
+use Rattle.api_http.specs.Spelled.{NamesTx, Spells}
 
 -- The plan is what the query of a route spells, whatever the body is, or the transaction of a patch.
 abbrev pub IsPlan : Route → List Pair → Plan → Type 0
-IsPlan r pairs (plan.Ready ask) = (body : List ℕ) → Spells pairs body r (question ask)
+IsPlan r pairs (plan.Ready request) = (body : List ℕ) → Spells pairs body r (request_of request)
 IsPlan r pairs (plan.Patch tx) = (r ≡ route.Patch) × NamesTx pairs tx
 
 -- The plan is that of the method and the target.
@@ -63,8 +65,8 @@ Tells t (verdict.Refused r) = ShowsFirst t r
 abbrev pub IsNoTree : List ℕ → Type 0
 IsNoTree body = (e : TreeError) × (flattened pending_leaf settings_key body ≡ Err e)
 
--- The whole request is there, and asks for this.
-pub record IsAsked (t : Told) (rest : List ℕ) (q : Question) : Type 0 where
+-- The whole request is there, and is this one of the machine.
+pub record IsAsked (t : Told) (rest : List ℕ) (q : machine.Request) : Type 0 where
   pub clean : IsClean t
   pub body : body_length t.fields ≤ length rest
   pub route : Route
@@ -80,7 +82,7 @@ pub record IsBodyRefused (t : Told) (rest : List ℕ) : Type 0 where
 
 -- What a whole head of this size and the bytes behind it read as.
 abbrev pub ReadsAs : Told → List ℕ → ℕ → Reading → Type 0
-ReadsAs t rest size (reading.Whole ask n) = IsAsked t rest (question ask) × (n ≡ size + body_length t.fields)
+ReadsAs t rest size (reading.Whole request n) = IsAsked t rest (request_of request) × (n ≡ size + body_length t.fields)
 ReadsAs t rest size reading.NotYet = IsClean t × (length rest < body_length t.fields)
 ReadsAs t rest size (reading.Refused r) = ShowsFirst t r ⊎ ((r ≡ refusal.Body) × IsBodyRefused t rest)
 

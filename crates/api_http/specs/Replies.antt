@@ -1,16 +1,12 @@
--- The text of replies.
+-- The text of replies, and those of refusals of HTTP.
 use Rattle.std.specs.Prelude.{ℕ, ◌&&◌, nat_le, Bool, true, false, List, [], ◌∷◌, ◌++◌, length, codes, decimal, refl}
 use Rattle.std.specs.List.{flat_map}
 use Rattle.std.specs.Coded.{Coded, code_by, coded×, coded_ℕ, coded_list}
-use Rattle.json.specs.Token.{Token}
-use Rattle.json.specs.Token as token
-use Rattle.key_names.specs.Key.{printed}
-use Rattle.serde_json.specs.Data.{Data, string, object, Members, no_members, member}
+use Rattle.serde_json.specs.Data.{Data, object}
 use Rattle.serde_json.specs.Written.{compact_text}
+use Rattle.machine_answers.specs.Bodies.{text_entry, members_of}
 use Rattle.api_http.specs.declared.refusal.Refusal.{Refusal}
-use Rattle.api_http.specs.declared.refusal.Refusal.TheVariants.{HeadTooLong, Head, NoPath, Method, Query, Length, BodyTooLong, Body, BadType, NoKey, NoName, NoPending, Memory, DiskFault, Store}
-use Rattle.api_http.specs.declared.answer.Answer.{Answer}
-use Rattle.api_http.specs.declared.answer.Answer.TheVariants.{Json, Empty, Refused}
+use Rattle.api_http.specs.declared.refusal.Refusal.TheVariants.{HeadTooLong, Head, NoPath, Method, Query, Length, BodyTooLong, Body, Memory, DiskFault, Store}
 use Rattle.api_http.specs.Routes.{methods_of}
 
 -- A reply as it is sent: its status, all its bytes, and its body, which is the end of them.
@@ -39,10 +35,6 @@ status_of Query = (400, codes "Bad Request")
 status_of Length = (411, codes "Length Required")
 status_of BodyTooLong = (413, codes "Content Too Large")
 status_of Body = (400, codes "Bad Request")
-status_of (BadType key wanted) = (400, codes "Bad Request")
-status_of (NoKey key) = (404, codes "Not Found")
-status_of (NoName name) = (404, codes "Not Found")
-status_of (NoPending tx) = (422, codes "Unprocessable Content")
 status_of Memory = (503, codes "Service Unavailable")
 status_of DiskFault = (500, codes "Internal Server Error")
 status_of (Store place) = (500, codes "Internal Server Error")
@@ -51,16 +43,12 @@ status_of (Store place) = (500, codes "Internal Server Error")
 abbrev pub is_of_success : ℕ → Bool
 is_of_success status = nat_le 200 status && nat_le status 299
 
--- A name of a body, and its text.
-abbrev pub Entry : Type 0
-Entry = List ℕ × List ℕ
-
 -- What kind of error it is.
-abbrev pub error : List ℕ → Entry
-error word = (codes "error", word)
+abbrev pub error : List ℕ → List ℕ × Data
+error word = text_entry (codes "error", word)
 
 -- The names of the body of a refusal, with their texts.
-abbrev pub entries_of : Refusal → List Entry
+abbrev pub entries_of : Refusal → List (List ℕ × Data)
 entries_of HeadTooLong = error (codes "head-too-long") ∷ []
 entries_of Head = error (codes "head") ∷ []
 entries_of NoPath = error (codes "path") ∷ []
@@ -69,18 +57,9 @@ entries_of Query = error (codes "query") ∷ []
 entries_of Length = error (codes "length") ∷ []
 entries_of BodyTooLong = error (codes "body-too-long") ∷ []
 entries_of Body = error (codes "body") ∷ []
-entries_of (BadType key wanted) = error (codes "type") ∷ (codes "key", printed key) ∷ (codes "wanted", wanted) ∷ []
-entries_of (NoKey key) = error (codes "key") ∷ (codes "key", printed key) ∷ []
-entries_of (NoName name) = error (codes "name") ∷ (codes "name", name) ∷ []
-entries_of (NoPending tx) = error (codes "no-pending") ∷ (codes "tx", tx) ∷ []
 entries_of Memory = error (codes "memory") ∷ []
 entries_of DiskFault = error (codes "disk") ∷ []
-entries_of (Store place) = (codes "at", place) ∷ error (codes "store") ∷ []
-
--- The members of a JSON object with these names and texts.
-abbrev pub members_of : List Entry → Members
-members_of [] = no_members
-members_of (e ∷ es) = member e.0 (string e.1) (members_of es)
+entries_of (Store place) = text_entry (codes "at", place) ∷ error (codes "store") ∷ []
 
 -- The body of a refusal: a compact JSON object.
 abbrev pub refusal_text : Refusal → List ℕ
@@ -108,11 +87,9 @@ with_body status field body = record {
 abbrev pub refused : Refusal → Sent
 refused refusal = with_body (status_of refusal) (allow_field refusal) (refusal_text refusal)
 
--- The reply of an answer.
-abbrev pub reply_text : Answer → Sent
-reply_text (Json text) = with_body (200, codes "OK") [] text
-reply_text Empty = record { status = 204; bytes = codes "HTTP/1.1 204 No Content\r\nConnection: close\r\n\r\n"; body = [] }
-reply_text (Refused refusal) = refused refusal
+-- The reply without a body: it was done.
+abbrev pub done : Sent
+done = record { status = 204; bytes = codes "HTTP/1.1 204 No Content\r\nConnection: close\r\n\r\n"; body = [] }
 
 -- ---- for private clauses
 
@@ -124,12 +101,3 @@ ended status front body = record { status = status; bytes = front ++ codes "Conn
 abbrev pub going_on : Bool → List (List ℕ) → List ℕ
 going_on true ms = listed ms
 going_on false ms = flat_map (λ n. codes ", " ++ n) ms
-
--- The JSON value that the body of a refusal is.
-abbrev pub refusal_data : Refusal → Data
-refusal_data refusal = object (members_of (entries_of refusal))
-
--- The tokens that the names and texts are written by.
-abbrev pub tokens_of : List Entry → List Token
-tokens_of [] = []
-tokens_of (e ∷ es) = token.key e.0 ∷ token.string e.1 ∷ tokens_of es

@@ -16,7 +16,9 @@ use Rattle.api_http.specs.Heads.{IsWholeHead, HoldsNoHead, HasManyLines, HasFewL
 use Rattle.api_http.specs.Fields.{Field, has_field, has_bad_length, body_length}
 use Rattle.api_http.specs.Routes.{has_path, route_of}
 use Rattle.api_http.specs.Query.{Pair, query_pairs, HasQueryFault}
-use Rattle.api_http.specs.Questions.{Question, question, Spells}
+use Rattle.settings_machine.specs.Requests as machine
+use Rattle.settings_machine.specs.Asked.{request_of}
+use Rattle.api_http.specs.Spelled.{Spells}
 
 -- What a whole head says: its method, its target, and its fields with the white space around their values left out.
 pub record Told : Type 0 where
@@ -83,8 +85,8 @@ HasBody head rest = body_length (told head).fields ≤ length rest
 abbrev pub body_of : RequestHead → List ℕ → List ℕ
 body_of head rest = take (body_length (told head).fields) rest
 
--- The first n bytes are a whole head and its body, no refusal holds, and the request spells the question.
-pub record Asks (bytes : List ℕ) (q : Question) (n : ℕ) : Type 0 where
+-- The first n bytes are a whole head and its body, no refusal holds, and they spell the request of the machine.
+pub record Asks (bytes : List ℕ) (q : machine.Request) (n : ℕ) : Type 0 where
   pub head : RequestHead
   pub rest : List ℕ
   pub clean : IsCleanHead bytes head rest
@@ -122,8 +124,8 @@ abbrev pub WaitsUntil : List ℕ → ℕ → Type 0
 WaitsUntil bytes n = (more : List ℕ) → length (bytes ++ more) < n → Waits (bytes ++ more)
 
 -- The fact holds of the whole request, if the reading is one.
-abbrev pub IfWhole : Reading → (Question → ℕ → Type 0) → Type 0
-IfWhole (reading.Whole ask n) P = P (question ask) n
+abbrev pub IfWhole : Reading → (machine.Request → ℕ → Type 0) → Type 0
+IfWhole (reading.Whole request n) P = P (request_of request) n
 IfWhole _ P = ⊤
 
 -- The fact holds of the refusal, if the reading is one.
@@ -132,6 +134,6 @@ IfRefused (reading.Refused r) P = P r
 IfRefused _ P = ⊤
 
 -- The reading is this whole request.
-abbrev pub IsWhole : Reading → Question → ℕ → Type 0
-IsWhole (reading.Whole ask n) q m = (question ask ≡ q) × (n ≡ m)
+abbrev pub IsWhole : Reading → machine.Request → ℕ → Type 0
+IsWhole (reading.Whole request n) q m = (request_of request ≡ q) × (n ≡ m)
 IsWhole _ q m = ⊥

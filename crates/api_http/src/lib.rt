@@ -1,9 +1,8 @@
-//! Requests and replies as bytes: which bytes are one whole request and what it asks for, why others
-//! are refused, and the text of a reply.
+//! Requests and replies as bytes: which bytes are one whole request and which of the machine's it is,
+//! why others are refused, and the text of a reply.
 #![tactic(auto)]
 
 mod answer;
-mod ask;
 mod body;
 mod fields;
 mod head;
@@ -22,11 +21,10 @@ mod verdict;
 mod wanted;
 mod whole_requests;
 
-pub use answer::Answer;
-pub use ask::Ask;
+pub use answer::{print_answer, print_text};
 pub use reading::Reading;
 pub use refusal::Refusal;
-pub use reply::{Reply, print_reply};
+pub use reply::{Reply, print_refusal};
 pub use request::read_request;
 pub use wanted::bytes_wanted;
 pub use whole_requests::WholeRequests;

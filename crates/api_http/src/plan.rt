@@ -1,52 +1,53 @@
-//! What a request asks for by its head alone.
+//! Which request it is by its head alone.
 ghost use Rattle.std.specs.Prelude.{◌≡◌, [], ℕ, List, IfOk, IfErr, IsTrue};
 ghost use Rattle.api_http.specs.Query.{texts, Pair, HasQueryFault};
-ghost use Rattle.api_http.specs.Questions.{question, NamesTx, Spells};
+ghost use Rattle.settings_machine.specs.Asked.{request_of};
+ghost use Rattle.api_http.specs.Spelled.{NamesTx, Spells};
 ghost use Rattle.api_http.specs.Plans.{IsPlan, is_bare, takes_tx};
 ghost use Rattle.api_http.specs.declared.query_error.QueryError.TheVariants.{Bad};
 
-use crate::Ask;
 use crate::query_error::QueryError;
 use crate::route::Route;
 use crate::values::{keys_of, keys_or_prefix_of, names_of, nothing, tx_of};
+use settings_machine::Request;
 use settings_maps::TxName;
 use std::alloc::Global;
 
-/// What a request asks for by its head.
+/// What the head tells of a request.
 #[derive(Debug, Drop)]
 pub(crate) enum Plan {
-    /// This, whatever its body is.
-    Ready(Ask),
-    /// The pairs of its body for the transaction.
+    /// It is this one, whatever its body is.
+    Ready(Request),
+    /// It patches the transaction by the pairs of its body.
     Patch(TxName),
 }
 
-// What a request without a query asks for.
-fn bare_ask(route: Route) -> Ask
+// The request of a route that takes no query.
+fn bare_request(route: Route) -> Request
     requires { IsTrue (is_bare route) }
     ensures { (pairs : List Pair) (body : List ℕ) → pairs ≡ []
-        → Spells pairs body route (question result) }
+        → Spells pairs body route (request_of result) }
 {
     match route {
-        Route::Root => Ask::Root,
-        Route::OsNames => Ask::OsNames,
-        Route::TxList => Ask::TxList,
-        Route::Apply => Ask::Apply,
-        _ => Ask::JobNow,
+        Route::Root => Request::Root,
+        Route::OsNames => Request::OsNames,
+        Route::TxList => Request::TxList,
+        Route::Apply => Request::Apply,
+        _ => Request::JobNow,
     }
 }
 
-// What a request that names a transaction and has no body asks for.
-fn tx_ask(route: Route, tx: TxName) -> Ask
+// The request of a route that takes the name of a transaction and no body.
+fn tx_request(route: Route, tx: TxName) -> Request
     requires { IsTrue (takes_tx route) }
     ensures { (pairs : List Pair) (body : List ℕ) → NamesTx pairs tx
-        → Spells pairs body route (question result) }
+        → Spells pairs body route (request_of result) }
 {
     match route {
-        Route::Pending => Ask::Pending { tx },
-        Route::DropTx => Ask::DropTx { tx },
-        Route::Commit => Ask::Commit { tx },
-        _ => Ask::CommitAndApply { tx },
+        Route::Pending => Request::Pends { tx },
+        Route::DropTx => Request::DropTx { tx },
+        Route::Commit => Request::Commit { tx },
+        _ => Request::CommitAndApply { tx },
     }
 }
 
@@ -56,7 +57,7 @@ fn bare_plan(route: Route, pairs: &[(String, String)]) -> Result<Plan, QueryErro
     ensures bad { IfErr result (λ e. e ≡ Bad → HasQueryFault route (texts pairs.now)) }
 {
     match nothing(pairs) {
-        Ok(()) => Ok(Plan::Ready(bare_ask(route))),
+        Ok(()) => Ok(Plan::Ready(bare_request(route))),
         Err(error) => Err(error),
     }
 }
@@ -67,7 +68,7 @@ fn tx_plan(alloc: Global, route: Route, pairs: &[(String, String)]) -> Result<Pl
     ensures bad { IfErr result (λ e. e ≡ Bad → HasQueryFault route (texts pairs.now)) }
 {
     match tx_of(alloc, pairs) {
-        Ok(tx) => Ok(Plan::Ready(tx_ask(route, tx))),
+        Ok(tx) => Ok(Plan::Ready(tx_request(route, tx))),
         Err(error) => Err(error),
     }
 }
@@ -77,10 +78,7 @@ fn settings_plan(alloc: Global, pairs: &[(String, String)]) -> Result<Plan, Quer
     ensures bad { IfErr result (λ e. e ≡ Bad → HasQueryFault Route.Settings (texts pairs.now)) }
 {
     match keys_or_prefix_of(alloc, pairs) {
-        Ok(given) => Ok(Plan::Ready(Ask::Settings {
-            keys: given.keys,
-            prefix: given.prefix,
-        })),
+        Ok(request) => Ok(Plan::Ready(request)),
         Err(error) => Err(error),
     }
 }
@@ -100,7 +98,7 @@ fn services_plan(alloc: Global, pairs: &[(String, String)]) -> Result<Plan, Quer
     ensures bad { IfErr result (λ e. e ≡ Bad → HasQueryFault Route.Services (texts pairs.now)) }
 {
     match names_of(alloc, pairs) {
-        Ok(names) => Ok(Plan::Ready(Ask::Services { names })),
+        Ok(names) => Ok(Plan::Ready(Request::Services { names })),
         Err(error) => Err(error),
     }
 }
@@ -110,7 +108,7 @@ fn files_plan(alloc: Global, pairs: &[(String, String)]) -> Result<Plan, QueryEr
     ensures bad { IfErr result (λ e. e ≡ Bad → HasQueryFault Route.Files (texts pairs.now)) }
 {
     match names_of(alloc, pairs) {
-        Ok(names) => Ok(Plan::Ready(Ask::Files { names })),
+        Ok(names) => Ok(Plan::Ready(Request::ConfigurationFiles { names })),
         Err(error) => Err(error),
     }
 }
@@ -120,12 +118,12 @@ fn affected_plan(alloc: Global, pairs: &[(String, String)]) -> Result<Plan, Quer
     ensures bad { IfErr result (λ e. e ≡ Bad → HasQueryFault Route.Affected (texts pairs.now)) }
 {
     match keys_of(alloc, pairs) {
-        Ok(keys) => Ok(Plan::Ready(Ask::Affected { keys })),
+        Ok(keys) => Ok(Plan::Ready(Request::Affected { keys })),
         Err(error) => Err(error),
     }
 }
 
-/// What a request with this route and query asks for by its head.
+/// What this route and query tell of a request.
 pub(crate) fn plan_of(
     alloc: Global,
     route: Route,

@@ -1,14 +1,15 @@
 //! What reading bytes as a request answers.
 
-use crate::{Ask, Refusal};
+use crate::Refusal;
+use settings_machine::Request;
 
 /// What some bytes are, read as a request.
 #[derive(Debug, Drop)]
 pub enum Reading {
     /// The bytes begin with a whole request.
     Whole {
-        /// What it asks for.
-        ask: Ask,
+        /// Which it is.
+        request: Request,
         /// How many bytes it has; the bytes after them are no part of it.
         length: usize,
     },

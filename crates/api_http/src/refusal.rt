@@ -1,14 +1,14 @@
-//! Why a request is refused.
+//! Why HTTP refuses a request.
 ghost use Rattle.std.specs.Prelude.{◌≡◌, IfOk};
 ghost use Rattle.api_http.specs.Replies.{status_of, refusal_text};
 
 use crate::refusal_body::refusal_body;
-use key_names::{Key, Text};
-use settings_maps::TxName;
+use key_names::Text;
 use std::alloc::{AllocError, Global};
 
-/// Why a request is refused, in the order in which the causes are looked for, each with its status.
-/// Those up to `Body` are told by the bytes of the request alone.
+/// Why HTTP refuses a request, in the order in which the causes are looked for, each with its status, and
+/// behind `Body` why there is no answer of the machine. Those up to `Body` are told by the bytes of the
+/// request alone.
 #[derive(Debug, Drop)]
 pub enum Refusal {
     /// 413: the first 16,384 bytes hold no whole head, and show no fault.
@@ -32,28 +32,6 @@ pub enum Refusal {
     BodyTooLong,
     /// 400: the body of a patch is no tree of settings.
     Body,
-    /// 400: the type of a pending pair refuses its value, or no row of types has the key of a removal.
-    BadType {
-        /// The first such key.
-        key: Key,
-        /// The word of its type, `nothing` where no row has it.
-        wanted: Text,
-    },
-    /// 404: no live setting has the key.
-    NoKey {
-        /// The key.
-        key: Key,
-    },
-    /// 404: no service or configuration file has the name.
-    NoName {
-        /// The name.
-        name: Text,
-    },
-    /// 422: there is no such transaction to commit.
-    NoPending {
-        /// The transaction.
-        tx: TxName,
-    },
     /// 503: memory was wanting. It says nothing of the request.
     Memory,
     /// 500: a call of the disk failed.
@@ -80,10 +58,6 @@ impl Refusal {
             Refusal::Length => (411, "Length Required"),
             Refusal::BodyTooLong => (413, "Content Too Large"),
             Refusal::Body => (400, "Bad Request"),
-            Refusal::BadType { .. } => (400, "Bad Request"),
-            Refusal::NoKey { .. } => (404, "Not Found"),
-            Refusal::NoName { .. } => (404, "Not Found"),
-            Refusal::NoPending { .. } => (422, "Unprocessable Content"),
             Refusal::Memory => (503, "Service Unavailable"),
             Refusal::DiskFault => (500, "Internal Server Error"),
             Refusal::Store { .. } => (500, "Internal Server Error"),

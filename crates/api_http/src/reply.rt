@@ -2,10 +2,10 @@
 ghost use Rattle.std.specs.Prelude.{◌≡◌, ◌≤◌, ◌++◌, [], length, IfOk, OnOk, map, codes, decimal};
 ghost use Rattle.api_http.specs.ReplyBytes.{bytes_of};
 ghost use Rattle.api_http.specs.Routes.{row_of, methods_in};
-ghost use Rattle.api_http.specs.Replies.{listed, allow_field, with_body, refused, reply_text, ended, is_of_success};
+ghost use Rattle.api_http.specs.Replies.{listed, allow_field, with_body, done, refused, ended, is_of_success};
 
+use crate::Refusal;
 use crate::route::{ROWS, Row};
-use crate::{Answer, Refusal};
 use itoa::Buffer;
 use key_names::Text;
 use std::alloc::{AllocError, Global};
@@ -49,7 +49,7 @@ const DISK_FAULT: &[u8; 125] =
 const DONE: &[u8; 46] = b"HTTP/1.1 204 No Content\r\nConnection: close\r\n\r\n";
 
 impl Reply {
-    /// The reply of `Refusal::Memory`, as `print_reply` prints it. It is fixed, and takes no memory.
+    /// The reply of `Refusal::Memory`, as `print_refusal` prints it. It is fixed, and takes no memory.
     pub fn memory() -> Reply
         ensures { result ≡ refused Refusal.Memory }
     {
@@ -60,7 +60,7 @@ impl Reply {
         }
     }
 
-    /// The reply of `Refusal::DiskFault`, as `print_reply` prints it. It is fixed, and takes no memory.
+    /// The reply of `Refusal::DiskFault`, as `print_refusal` prints it. It is fixed, and takes no memory.
     pub fn disk() -> Reply
         ensures { result ≡ refused Refusal.DiskFault }
     {
@@ -68,6 +68,17 @@ impl Reply {
             status: 500,
             bytes: ReplyBytes::Fixed(DISK_FAULT),
             head: 109,
+        }
+    }
+
+    /// The reply without a body: it was done. It is fixed, and takes no memory.
+    pub(crate) fn done() -> Reply
+        ensures { result ≡ done }
+    {
+        Reply {
+            status: 204,
+            bytes: ReplyBytes::Fixed(DONE),
+            head: DONE.len(),
         }
     }
 
@@ -172,15 +183,28 @@ fn ended(status: u16, front: Vec<u8>, body: &[u8]) -> Result<Reply, AllocError>
     })
 }
 
-fn json_reply(alloc: Global, text: &Text) -> Result<Reply, AllocError>
-    ensures { IfOk result (λ reply. reply ≡ with_body (200, codes "OK") [] text.now) }
+/// The reply with this status line and body, and no further field. The only error is out of memory.
+pub(crate) fn json_reply(
+    alloc: Global,
+    status: u16,
+    phrase: &str,
+    text: &Text,
+) -> Result<Reply, AllocError>
+    ensures { IfOk result (λ reply. reply ≡ with_body (status, phrase.now) [] text.now) }
 {
     let body = text.as_str().as_bytes();
-    let front = front_of(alloc, 200, "OK", body.len())?;
-    ended(200, front, body)
+    let front = front_of(alloc, status, phrase, body.len())?;
+    ended(status, front, body)
 }
 
-fn refused_reply(alloc: Global, refusal: &Refusal) -> Result<Reply, AllocError>
+/// The reply of a refusal of HTTP, as HTTP/1.1 (RFC 9112).
+///
+/// It is the status line, `Content-Type: application/json`, `Content-Length` with the decimal length of
+/// the body, for a path without the method `Allow` with the methods that it has, `Connection: close`, an
+/// empty line and the body, compact JSON whose names rise.
+///
+/// It takes time and memory linear in the body; the only error is out of memory.
+pub fn print_refusal(alloc: Global, refusal: &Refusal) -> Result<Reply, AllocError>
     ensures { IfOk result (λ reply. reply ≡ refused refusal.now) }
 {
     let (status, phrase) = refusal.status_line();
@@ -189,26 +213,4 @@ fn refused_reply(alloc: Global, refusal: &Refusal) -> Result<Reply, AllocError>
     let mut front = front_of(alloc, status, phrase, body.len())?;
     push_allow(&mut front, refusal)?;
     ended(status, front, body)
-}
-
-/// The reply of an answer, as HTTP/1.1 (RFC 9112).
-///
-/// With a body it is the status line, `Content-Type: application/json`, `Content-Length` with the
-/// decimal length of the body, for a path without the method `Allow` with the methods that it has,
-/// `Connection: close`, an empty line and the body. A refusal's body is compact JSON whose names rise.
-/// Without a body, 204, it is the status line, `Connection: close` and an empty line.
-///
-/// It takes time and memory linear in the body; the only error is want of memory.
-pub fn print_reply(alloc: Global, answer: &Answer) -> Result<Reply, AllocError>
-    ensures { IfOk result (λ reply. reply ≡ reply_text answer.now) }
-{
-    match answer {
-        Answer::Json { text } => json_reply(alloc, text),
-        Answer::Empty => Ok(Reply {
-            status: 204,
-            bytes: ReplyBytes::Fixed(DONE),
-            head: DONE.len(),
-        }),
-        Answer::Refused { refusal } => refused_reply(alloc, refusal),
-    }
 }

@@ -3,11 +3,11 @@ ghost use Rattle.std.specs.Prelude.{◌≡◌, ◌+◌, ◌<◌, ◌≤◌, ◌^
 ghost use Rattle.httparse.specs.Spans.{IsHeaderWithin, IsRequestOf, IsRequestWithin, header_bytes};
 ghost use Rattle.api_http.specs.Requests.{Told, Asks, Refuses, MayRefuse, Waits, IfWhole, IfRefused, IsWhole};
 ghost use Rattle.api_http.specs.Heads.{shown, HoldsNoHead, IsHopeless};
-ghost use Rattle.api_http.specs.Questions.{Question, IsProper};
+ghost use Rattle.settings_machine.specs.Requests as machine;
 ghost use Rattle.api_http.specs.declared.refusal.Refusal.{Refusal};
 ghost use Rattle.api_http.specs.Plans.{Tells, ReadsAs, planned_verdict, IsSoundLength};
 
-use crate::body::ask_of;
+use crate::body::request_with;
 use crate::fields::{BodyLength, body_length, has_field};
 use crate::head::{HeadError, head_of, shown_of};
 use crate::plan::Plan;
@@ -102,9 +102,9 @@ fn with_body(
             if rest.len() < length {
                 return Ok(Reading::NotYet);
             }
-            match ask_of(alloc, plan, &rest[..length])? {
-                Some(ask) => Ok(Reading::Whole {
-                    ask,
+            match request_with(alloc, plan, &rest[..length])? {
+                Some(request) => Ok(Reading::Whole {
+                    request,
                     length: size + length,
                 }),
                 None => Ok(Reading::Refused {
@@ -168,8 +168,8 @@ fn reading_of(alloc: Global, bytes: &[u8]) -> Result<Reading, AllocError>
 /// a `PATCH` is a JSON tree of settings, and every other is passed over. What follows the request is
 /// left alone.
 ///
-/// - `Whole` comes exactly where the bytes begin with a whole request that nothing refuses, with what
-///   it asks for and its length.
+/// - `Whole` comes exactly where the bytes begin with a whole request that nothing refuses, with which
+///   of the machine's it is and its length.
 /// - `Refused` comes exactly where the bytes show a refusal, with the first by the order of `Refusal`;
 ///   those before `Body` don't wait for the body.
 /// - `NotYet` comes exactly where there is no whole head, no fault and room for more, or where the
@@ -191,7 +191,7 @@ pub fn read_request(alloc: Global, bytes: &[u8]) -> Result<Reading, AllocError>
 
     // So exactly the whole requests are read, and, but for a hopeless head, exactly the first refusal
     // is answered, and exactly what is waited for.
-    ensures every_whole { IfOk result (λ reading. (q : Question) (n : ℕ) → Asks bytes.now q n
+    ensures every_whole { IfOk result (λ reading. (q : machine.Request) (n : ℕ) → Asks bytes.now q n
         → IsWhole reading q n) }
     ensures every_refused { IfOk result (λ reading. ¬ IsHopeless bytes.now → (r : Refusal)
         → Refuses bytes.now r → reading ≡ Reading.Refused r) }
@@ -205,14 +205,14 @@ pub fn read_request(alloc: Global, bytes: &[u8]) -> Result<Reading, AllocError>
         → Asks (bytes.now ++ more) q n)) }
     ensures kept { IfOk result (λ reading. IfRefused reading (λ r. (more : List ℕ)
         → MayRefuse (bytes.now ++ more) r)) }
-    ensures never { IfOk result (λ reading. IfRefused reading (λ _. (more : List ℕ) (q : Question) (n : ℕ)
+    ensures never { IfOk result (λ reading. IfRefused reading (λ _. (more : List ℕ) (q : machine.Request) (n : ℕ)
         → ¬ Asks (bytes.now ++ more) q n)) }
-    ensures cut { IfOk result (λ reading. (more : List ℕ) (q : Question) (n : ℕ)
+    ensures cut { IfOk result (λ reading. (more : List ℕ) (q : machine.Request) (n : ℕ)
         → Asks (bytes.now ++ more) q n → length bytes.now < n → reading ≡ Reading.NotYet) }
 
-    // The request lies within the bytes, and meets what calls that take an `Ask` want of it.
+    // The request lies within the bytes, and meets what calls that take one of the machine want of it.
     ensures within { IfOk result (λ reading. IfWhole reading (λ _ n. n ≤ length bytes.now)) }
-    ensures proper { IfOk result (λ reading. IfWhole reading (λ q _. IsProper q)) }
+    ensures proper { IfOk result (λ reading. IfWhole reading (λ q _. machine.IsProper q)) }
 
     // Without a whole head no memory is asked for.
     ensures free { HoldsNoHead bytes.now → IsOk result }

@@ -5,12 +5,12 @@ use Rattle.outside.specs.Door.{LastBy}
 use Rattle.outside.specs.Faults.{Rose}
 use Rattle.outside.specs.History.{History}
 use Rattle.outside.specs.Told.{Moves}
-use Rattle.api_http.specs.declared.ask.Ask.{Ask}
 use Rattle.api_http.specs.declared.refusal.Refusal.{Refusal}
 use Rattle.api_http.specs.declared.refusal.Refusal.TheVariants as refusal
-use Rattle.api_http.specs.Questions.{Question, question}
 use Rattle.api_http.specs.Replies.{Sent, refused}
-use Rattle.settings_machine.specs.Requests.{Reply, DiskFault}
+use Rattle.settings_machine.specs.Asked.{request_of}
+use Rattle.settings_machine.specs.Requests.{Request, Reply, DiskFault}
+use Rattle.settings_machine.specs.declared.request.Request as asked
 use Rattle.settings_machine.specs.World.{Image, World}
 use Rattle.settings_machine.specs.Events as events
 use Rattle.settings_machine.specs.Events.{Event}
@@ -21,32 +21,33 @@ use Rattle.store_open.specs.Laws.{HoldsImage, IsImageOfFolder}
 use Rattle.api_server.specs.Hearing.{IsHeard}
 use Rattle.api_server.specs.Saying.{IsSaid}
 use Rattle.api_server.specs.declared.hearing.Heard.TheVariants as heard
-use Rattle.machine_answers.specs.Asks.{request_of}
-use Rattle.api_core.specs.Asks.{Says}
 use Rattle.api_core.specs.Cores.{core_state}
 use Rattle.api_core.specs.declared.serving.Core.{Core}
 use Rattle.api_server.specs.Exchanged.{Said, Nothing, OutOfMemory, Unread, Replied, IsServed}
 use Rattle.api_server.specs.Rounds.{AsksFor}
 use Rattle.api_server.specs.Answered.{AnsweredBy, Answers}
-use Rattle.api_server.proofs.Replied.{HandlesFor, opened_again, sent_fault}
+use Rattle.api_server.specs.Handled.{sent_of, Fits}
+use Rattle.api_server.specs.declared.handled.Handled.{Handled}
+use Rattle.api_server.specs.declared.handled.Handled.TheVariants as came
+use Rattle.api_server.proofs.Replied.{HandlesFor, opened_again}
 use Rattle.api_server.proofs.Conversations.{served_nothing, served_memory, served_unprinted, served_unread, served_replied}
 
-nothing_well : (q : Question) → Nothing ≢ Replied q DiskFault
+nothing_well : (q : Request) → Nothing ≢ Replied q DiskFault
 nothing_well q e = cc
 
-memory_well : (q : Question) → OutOfMemory ≢ Replied q DiskFault
+memory_well : (q : Request) → OutOfMemory ≢ Replied q DiskFault
 memory_well q e = cc
 
-unread_well : (r : Refusal) (q : Question) → Unread r ≢ Replied q DiskFault
+unread_well : (r : Refusal) (q : Request) → Unread r ≢ Replied q DiskFault
 unread_well r q e = cc
 
-same_reply : (p q : Question) (r s : Reply) → Replied p r ≡ Replied q s → r ≡ s
+same_reply : (p q : Request) (r s : Reply) → Replied p r ≡ Replied q s → r ≡ s
 same_reply p q r s e = cc
 
 -- Where disk and core stay.
 module _ (c : Core) (n : ℕ) (told told_after : Option (List Exchange)) (h : History) where
   -- No event is made.
-  quiet : (said : Said) → ((q : Question) → said ≢ Replied q DiskFault) → ((I : Image) (W : World) → AsksFor I (core_state c).faulted W said [])
+  quiet : (said : Said) → ((q : Request) → said ≢ Replied q DiskFault) → ((I : Image) (W : World) → AsksFor I (core_state c).faulted W said [])
       → Moves told told_after (LastBy (IsServed said))
       → Answers c c n n told told_after h h
   quiet said well none served = record { each = by } where
@@ -99,21 +100,21 @@ answered_refusal c n r sent text told mid told_after h is printed m o = ⊎_elim
     printed
 
 -- It was asked and handled, and then its reply was written.
-pub answered_ask : (c now : Core) (faults faults_after : ℕ) (ask : Ask) (sent : Sent) (text : List ℕ) (told mid told_after : Option (List Exchange)) (old new : History)
-    → text ≡ sent.bytes → (sent ≡ refused refusal.DiskFault → Rose faults faults_after) → Moves told mid (LastBy (IsHeard (heard.Asked ask)))
+pub answered_ask : (c now : Core) (faults faults_after : ℕ) (ask : asked.Request) (handled : Handled) (text : List ℕ) (told mid told_after : Option (List Exchange)) (old new : History)
+    → text ≡ (sent_of handled).bytes → (handled ≡ came.DiskFault → Rose faults faults_after) → Moves told mid (LastBy (IsHeard (heard.Asked ask)))
     → Moves mid told_after (LastBy (IsSaid text))
-    → HandlesFor c (request_of (question ask)) sent now old new → Answers c now faults faults_after told told_after old new
-answered_ask c now faults faults_after ask sent text told mid told_after old new is cause m n handles = record { each = by } where
+    → HandlesFor c (request_of ask) handled now old new → Answers c now faults faults_after told told_after old new
+answered_ask c now faults faults_after ask handled text told mid told_after old new is cause m n handles = record { each = by } where
   by : (I : Image) → IsGood I → HoldsImage I c.image → (folder : Folder) → IsImageOfFolder I folder → (W V : World) → Kept I folder W V old (core_state c)
       → AnsweredBy I folder W V c now faults faults_after told told_after old new
   by I good of folder made W V kept =
       let done = handles.handles.each I good of folder (λ _ _. made) W V kept in
       record {
-        said = Replied (question ask) done.replied;
+        said = Replied (request_of ask) done.replied;
         asked = done.events;
-        asks = record { handled = done.handled; opens = opened_again c (request_of (question ask)) sent now old new handles I good of folder made W V kept done };
-        served = served_replied ask done.replied sent text is done.says told mid told_after m n;
-        cause = λ q e. cause (sent_fault sent (subst (λ (r : Reply). Says r sent) (same_reply (question ask) q done.replied DiskFault e) done.says));
-        made = done.ran;
+        asks = record { handled = done.handled_by; opens = opened_again c (request_of ask) handled now old new handles I good of folder made W V kept done };
+        served = served_replied ask done.replied (sent_of handled) text is done.says told mid told_after m n;
+        cause = λ q e. cause (subst (λ (r : Reply). Fits r handled) (same_reply (request_of ask) q done.replied DiskFault e) done.fits);
+        made = done.made;
         image = done.image;
       }

@@ -4,10 +4,10 @@ use Rattle.std.proofs.Common.{subst, arith}
 use Rattle.outside.specs.Exchange.{Exchange, fresh}
 use Rattle.outside.specs.Door.{LastBy}
 use Rattle.outside.specs.Told.{Moves}
-use Rattle.api_http.specs.declared.ask.Ask.{Ask}
+use Rattle.settings_machine.specs.declared.request.Request.{Request}
 use Rattle.api_http.specs.declared.refusal.Refusal.{Refusal}
 use Rattle.api_http.specs.declared.refusal.Refusal.TheVariants as refusal
-use Rattle.api_http.specs.Questions.{question}
+use Rattle.settings_machine.specs.Asked.{request_of}
 use Rattle.api_http.specs.Replies.{Sent, refused}
 use Rattle.settings_machine.specs.Requests.{Reply}
 use Rattle.api_http.specs.Requests.{Asks, MayRefuse}
@@ -16,7 +16,7 @@ use Rattle.api_server.specs.Saying.{IsSaid, IsSaidWhole, IsSaidInPart}
 use Rattle.api_server.specs.declared.hearing.Heard.{Heard}
 use Rattle.api_server.specs.declared.hearing.Heard.TheVariants as heard
 use Rattle.api_server.proofs.Lasts.{lasts_if, lasts_then, lasts_map}
-use Rattle.api_core.specs.Asks.{Says}
+use Rattle.api_http.specs.Says.{Says}
 use Rattle.api_server.specs.Exchanged.{Said, Nothing, OutOfMemory, Unread, Replied, Wrote, Exchanges, IsServed}
 
 -- What was said on a connection to which nothing was written before.
@@ -98,13 +98,13 @@ served_unread r text is a b c m n = served_said (heard.Refused r) (Unread r) tex
     (λ mid new said wrote_it hears. (subst (λ (l : List ℕ). MayRefuse l r) (sym (same_input text mid new said)) hears, subst (Wrote new) is wrote_it)) a b c m n
 
 -- It was asked and replied.
-pub served_replied : (ask : Ask) (reply : Reply) (sent : Sent) (text : List ℕ) → text ≡ sent.bytes → Says reply sent → (a b c : Option (List Exchange))
+pub served_replied : (ask : Request) (reply : Reply) (sent : Sent) (text : List ℕ) → text ≡ sent.bytes → Says reply sent → (a b c : Option (List Exchange))
     → Moves a b (LastBy (IsHeard (heard.Asked ask)))
-    → Moves b c (LastBy (IsSaid text)) → Moves a c (LastBy (IsServed (Replied (question ask) reply)))
-served_replied ask reply sent text is says a b c m n = served_said (heard.Asked ask) (Replied (question ask) reply) text
+    → Moves b c (LastBy (IsSaid text)) → Moves a c (LastBy (IsServed (Replied (request_of ask) reply)))
+served_replied ask reply sent text is says a b c m n = served_said (heard.Asked ask) (Replied (request_of ask) reply) text
     (λ mid new said wrote_it hears. record {
       size = hears.0;
-      asks = subst (λ (l : List ℕ). Asks l (question ask) hears.0) (sym (same_input text mid new said)) hears.1;
+      asks = subst (λ (l : List ℕ). Asks l (request_of ask) hears.0) (sym (same_input text mid new said)) hears.1;
       sent = sent;
       says = says;
       wrote = subst (Wrote new) is wrote_it;

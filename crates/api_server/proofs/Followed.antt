@@ -105,8 +105,9 @@ exchanged_more rs r a b c d m n o =
     moves_then (λ first opened last so_far served. one_exchanged rs r first so_far.0 opened last so_far.1 so_far.2 served) accepted o
 
 -- What is accepted.
-pub one_accepted : (came : Bool) → came ≡ true → (old new : DoorState) → Accepts {E = Failed} (Ok came) old new → new.accepted ≡ old.accepted + 1
-one_accepted came is old new accepts = ap (λ (d : DoorState). d.accepted) (subst (λ (b : Bool). Accepts {E = Failed} (Ok b) old new) is accepts)
+pub one_accepted : (came : Bool) → came ≡ true → (old new : DoorState) → Accepts {E = Failed} (Ok came) old new
+    → new ≡ record { accepted = old.accepted + 1; ended = old.ended; broken = old.broken; busy = true }
+one_accepted came is old new accepts = subst (λ (b : Bool). Accepts {E = Failed} (Ok b) old new) is accepts
 
 -- Before the first connection.
 pub rounds_none : (slice : Option ℕ) (c : Core) (told : Option (List Exchange)) (ran : Option (List Run)) (h : History) → ServesAll slice c c told told ran ran h h

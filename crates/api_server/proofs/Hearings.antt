@@ -5,10 +5,10 @@ use Rattle.std.proofs.lemmas.List.{append-nil}
 use Rattle.outside.specs.Exchange.{Exchange, broken_off}
 use Rattle.outside.specs.Door.{LastBy}
 use Rattle.outside.specs.Told.{Moves}
-use Rattle.api_http.specs.declared.ask.Ask.{Ask}
+use Rattle.settings_machine.specs.declared.request.Request.{Request}
 use Rattle.api_http.specs.declared.refusal.Refusal.{Refusal}
 use Rattle.api_http.specs.Requests.{Asks, MayRefuse, Waits, WaitsUntil}
-use Rattle.api_http.specs.Questions.{question}
+use Rattle.settings_machine.specs.Asked.{request_of}
 use Rattle.api_server.specs.declared.hearing.Heard.{Heard}
 use Rattle.api_server.specs.declared.hearing.Heard.TheVariants.{Asked, Refused, Ended, Memory}
 use Rattle.api_server.specs.declared.next.Next.TheVariants as next
@@ -66,10 +66,10 @@ module _ (heard : Heard) (now : List ℕ) (within : length now ≤ 1064960) (com
   all_heard a b m = lasts_map one_heard m
 
 -- a whole request
-pub heard_asked : (ask : Ask) (before now : List ℕ) (a b : Option (List Exchange)) → IsLonger before now → Comes (next.Asked ask) now
+pub heard_asked : (ask : Request) (before now : List ℕ) (a b : Option (List Exchange)) → IsLonger before now → Comes (next.Asked ask) now
     → Moves a b (LastBy (IsAdded [] now)) → Moves a b (LastBy (IsHeard (Asked ask)))
 heard_asked ask before now a b longer comes m = all_heard (Asked ask) now longer.within
-    (λ old new read first. subst (λ (l : List ℕ). (n : ℕ) × Asks l (question ask) n) (from_start now old new read first) (comes new.left)) a b m
+    (λ old new read first. subst (λ (l : List ℕ). (n : ℕ) × Asks l (request_of ask) n) (from_start now old new read first) (comes new.left)) a b m
 
 -- a refused one
 pub heard_refused : (refusal : Refusal) (before now : List ℕ) (a b : Option (List Exchange)) → IsLonger before now → Comes (next.Refused refusal) now

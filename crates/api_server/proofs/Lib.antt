@@ -9,3 +9,6 @@ pub mod Readings
 pub mod Sayings
 pub mod Waitings
 pub mod Hearings
+pub mod Handlings
+pub mod Reopenings
+pub mod Refusing

@@ -1,5 +1,5 @@
 -- One read of a connection.
-use Rattle.std.proofs.Common.{◌≡◌, ◌+◌, ℕ, List, [], ◌++◌, take, Option, Ok, Err, inl, inr, sym, ◌∙◌, ap, subst}
+use Rattle.std.proofs.Common.{◌≡◌, ℕ, List, [], ◌++◌, take, Option, Ok, Err, inl, inr, sym, ◌∙◌, ap, subst}
 use Rattle.outside.specs.Exchange.{Exchange, Hears}
 use Rattle.outside.specs.Door.{LastBy}
 use Rattle.outside.specs.Told.{Moves}

@@ -12,10 +12,10 @@ use Rattle.settings_machine.specs.Paid.{IsGood}
 use Rattle.machine_disk.specs.Kept.{Folder, Kept}
 use Rattle.machine_disk.proofs.Runs.{ran_none, ran_more}
 use Rattle.store_open.specs.Laws.{HoldsImage, IsImageOfFolder}
-use Rattle.api_http.specs.Replies.{Sent}
 use Rattle.api_core.specs.Cores.{core_state}
 use Rattle.api_core.specs.Turned.{Turns}
 use Rattle.api_core.specs.declared.serving.Core.{Core}
+use Rattle.api_server.specs.declared.handled.Handled.{Handled}
 use Rattle.api_server.specs.Rounds.{AreRounds, events_of}
 use Rattle.api_server.specs.Answered.{ServesAll}
 use Rattle.api_server.specs.Serving.{BootedBy, Boots, EndedBy, Ends, ServedBy, Serves}
@@ -26,7 +26,7 @@ use Rattle.api_server.proofs.Followed.{runs_none, runs_more, runs_after}
 -- ---- the beginning
 
 -- `Apply`, and then a slice of turns.
-pub begun : (boot : Bool) → boot ≡ true → (slice : Option ℕ) (sent : Sent) (c mid now : Core) (ran_before ran_after : Option (List Run)) (old between new : History)
+pub begun : (boot : Bool) → boot ≡ true → (slice : Option ℕ) (sent : Handled) (c mid now : Core) (ran_before ran_after : Option (List Run)) (old between new : History)
     → HandlesFor c Apply sent mid old between → Turns mid slice now ran_before ran_after between new → Boots boot slice c now ran_before ran_after old new
 begun false is slice sent c mid now ran_before ran_after old between new handles turns = absurd (cc is)
 begun true is slice sent c mid now ran_before ran_after old between new handles turns = record { each = by } where
@@ -34,7 +34,7 @@ begun true is slice sent c mid now ran_before ran_after old between new handles 
       → BootedBy I folder W V true slice c now ran_before ran_after old new
   by I good of folder made W V kept =
       let one = handles.handles.each I good of folder (λ _ _. made) W V kept in
-      let two = turns.each I good one.image folder (after I W one.events) one.ran.other one.ran.kept in
+      let two = turns.each I good one.image folder (after I W one.events) one.made.other one.made.kept in
       record {
         events = one.events ++ two.turns.events;
         are = record {
@@ -42,11 +42,11 @@ begun true is slice sent c mid now ran_before ran_after old between new handles 
           turned = two.turns.events;
           whole = refl;
           reply = one.replied;
-          request = record { handled = one.handled; opens = opened_again c Apply sent mid old between handles I good of folder made W V kept one };
+          request = record { handled = one.handled_by; opens = opened_again c Apply sent mid old between handles I good of folder made W V kept one };
           turns = two.turns.form;
         };
-        made = ran_more I folder W V one.events two.turns.events old between new (core_state c) (core_state mid) (core_state now) one.ran two.turns.ran;
-        runs = runs_after I W one.events two.turns.events ran_before ran_after (handled_runs I c.faulted W Apply one.replied one.events one.handled) two.turns.runs;
+        made = ran_more I folder W V one.events two.turns.events old between new (core_state c) (core_state mid) (core_state now) one.made two.turns.ran;
+        runs = runs_after I W one.events two.turns.events ran_before ran_after (handled_runs I c.faulted W Apply one.replied one.events one.handled_by) two.turns.runs;
         image = two.image;
       }
 
@@ -95,9 +95,10 @@ not_driven false is c ran h = record { each = by } where
 
 -- The beginning, the connections one after another, and the end.
 pub whole : (slice : Option ℕ) (boot fine : Bool) (c up served now : Core) (told told_after : Option (List Exchange)) (ran_before ran_up ran_served ran_after : Option (List Run))
-    (old begun ended new : History) → Boots boot slice c up ran_before ran_up old begun → ServesAll slice up served told told_after ran_up ran_served begun ended
+    (old booted ended new : History) → Boots boot slice c up ran_before ran_up old booted
+    → ServesAll slice up served told told_after ran_up ran_served booted ended
     → Ends fine served now ran_served ran_after ended new → Serves slice boot fine c now told told_after ran_before ran_after old new
-whole slice boot fine c up served now told told_after ran_before ran_up ran_served ran_after old begun ended new boots serves ends = record { each = by } where
+whole slice boot fine c up served now told told_after ran_before ran_up ran_served ran_after old booted ended new boots serves ends = record { each = by } where
   by : (I : Image) → IsGood I → HoldsImage I c.image → (folder : Folder) → IsImageOfFolder I folder → (W V : World) → Kept I folder W V old (core_state c)
       → ServedBy I folder W V slice boot fine c now told told_after ran_before ran_after old new
   by I good of folder made W V kept =
@@ -119,8 +120,8 @@ whole slice boot fine c up served now told told_after ran_before ran_up ran_serv
           ends = three.are;
         };
         exchanged = two.exchanged;
-        made = ran_more I folder W V one.events last old begun new (core_state c) (core_state up) (core_state now) one.made
-            (ran_more I folder X one.made.other (events_of two.rounds) three.events begun ended new (core_state up) (core_state served) (core_state now) two.made three.made);
+        made = ran_more I folder W V one.events last old booted new (core_state c) (core_state up) (core_state now) one.made
+            (ran_more I folder X one.made.other (events_of two.rounds) three.events booted ended new (core_state up) (core_state served) (core_state now) two.made three.made);
         runs = runs_more I W one.events last ran_before ran_up ran_after one.runs
             (runs_more I X (events_of two.rounds) three.events ran_up ran_served ran_after two.runs three.runs);
         image = three.image;
@@ -132,9 +133,9 @@ pub whole_told : (slice : Option ℕ) (boot fine : Bool) (c up served now : Core
     → Moves h1 h2 (ServesAll slice up served told told_after ran_up ran_served)
     → Moves h2 h3 (Ends fine served now ran_served ran_after) → Moves h0 h3 (Serves slice boot fine c now told told_after ran_before ran_after)
 whole_told slice boot fine c up served now told told_after ran_before ran_up ran_served ran_after h0 h1 h2 h3 m n o =
-    let begins : Moves h0 h2 (λ old ended. (begun : History) × Boots boot slice c up ran_before ran_up old begun
-    × ServesAll slice up served told told_after ran_up ran_served begun ended)
-    = moves_then (λ old begun ended boots serves. (begun, boots, serves)) m n in
+    let begins : Moves h0 h2 (λ old ended. (booted : History) × Boots boot slice c up ran_before ran_up old booted
+    × ServesAll slice up served told told_after ran_up ran_served booted ended)
+    = moves_then (λ old booted ended boots serves. (booted, boots, serves)) m n in
     moves_then
     (λ old ended new both ends. whole slice boot fine c up served now told told_after ran_before ran_up ran_served ran_after old both.0 ended new both.1 both.2 ends)
     begins o

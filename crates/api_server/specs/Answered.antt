@@ -6,10 +6,9 @@ use Rattle.outside.specs.Faults.{Rose}
 use Rattle.outside.specs.History.{History}
 use Rattle.outside.specs.Spawner.{Run}
 use Rattle.outside.specs.Told.{Moves}
-use Rattle.api_http.specs.Questions.{Question}
 use Rattle.settings_machine.specs.World.{Image, World}
-use Rattle.settings_machine.specs.Requests.{DiskFault}
-use Rattle.settings_machine.specs.Events.{Event, after}
+use Rattle.settings_machine.specs.Requests.{Request, DiskFault}
+use Rattle.settings_machine.specs.Events.{Event}
 use Rattle.settings_machine.specs.Paid.{IsGood}
 use Rattle.machine_disk.specs.Kept.{Folder, Kept}
 use Rattle.machine_disk.specs.Ran.{Ran, RunsBy}
@@ -28,7 +27,7 @@ pub record AnsweredBy (I : Image) (folder : Folder) (W V : World) (c now : Core)
   pub asked : List Event
   pub asks : AsksFor I c.faulted W said asked
   pub served : Moves told told_after (LastBy (IsServed said))
-  pub cause : (q : Question) → said ≡ Replied q DiskFault → Rose faults faults_after
+  pub cause : (q : Request) → said ≡ Replied q DiskFault → Rose faults faults_after
   pub made : Ran I folder W V asked old new (core_state c) (core_state now)
   pub image : HoldsImage I now.image
 
@@ -46,7 +45,7 @@ pub record RoundBy (I : Image) (folder : Folder) (W V : World) (slice : Option �
   pub round : Round
   pub is : IsRound I slice c.faulted W round
   pub served : Moves told told_after (LastBy (IsServed round.said))
-  pub cause : (q : Question) → round.said ≡ Replied q DiskFault → Rose faults faults_after
+  pub cause : (q : Request) → round.said ≡ Replied q DiskFault → Rose faults faults_after
   pub made : Ran I folder W V (events_of_round round) old new (core_state c) (core_state now)
   pub runs : RunsBy I W (events_of_round round) ran_before ran_after
   pub image : HoldsImage I now.image

@@ -1,14 +1,13 @@
 -- The bytes of one connection, by what it came to.
 use Rattle.std.specs.Prelude.{◌≡◌, ◌≤◌, ◌⊎◌, ℕ, true, List, [], ◌++◌, length}
 use Rattle.outside.specs.Exchange.{Exchange, fresh}
-use Rattle.api_http.specs.Questions.{Question}
 use Rattle.api_http.specs.Replies.{Sent, refused}
 use Rattle.api_http.specs.Requests.{Asks, MayRefuse, Waits}
 use Rattle.api_http.specs.declared.refusal.Refusal.{Refusal}
 use Rattle.api_http.specs.declared.refusal.Refusal.TheVariants as refusal
 use Rattle.api_server.specs.Hearing.{input_of}
-use Rattle.settings_machine.specs.Requests.{Reply}
-use Rattle.api_core.specs.Asks.{Says}
+use Rattle.api_http.specs.Says.{Says}
+use Rattle.settings_machine.specs.Requests.{Request, Reply}
 
 -- What one connection came to: nothing was asked; there was no memory to read it or to print why it is refused; it was refused in
 -- reading; or it was asked and replied.
@@ -16,7 +15,7 @@ pub data Said : Type 0 where
   Nothing : Said
   OutOfMemory : Said
   Unread : Refusal → Said
-  Replied : Question → Reply → Said
+  Replied : Request → Reply → Said
 
 -- Some of the text was written, from its first byte on, until a call failed.
 pub record IsCutOff (x : Exchange) (text : List ℕ) : Type 0 where
@@ -29,7 +28,7 @@ abbrev pub Wrote : Exchange → List ℕ → Type 0
 Wrote x text = (x.written ≡ text) ⊎ IsCutOff x text
 
 -- The input asks this, and what was written is a reply that says what the machine replied.
-pub record IsReplied (x : Exchange) (q : Question) (reply : Reply) : Type 0 where
+pub record IsReplied (x : Exchange) (q : Request) (reply : Reply) : Type 0 where
   pub size : ℕ
   pub asks : Asks (input_of x) q size
   pub sent : Sent

@@ -2,7 +2,8 @@
 use Rattle.std.specs.Prelude.{◌≡◌, ◌≢◌, ◌≤◌, ◌+◌, ◌⊎◌, ⊤, ℕ, true, List, [], ◌++◌, length}
 use Rattle.outside.specs.Exchange.{Exchange}
 use Rattle.api_http.specs.Requests.{Asks, MayRefuse, Waits}
-use Rattle.api_http.specs.Questions.{Question, question}
+use Rattle.settings_machine.specs.Asked.{request_of}
+use Rattle.settings_machine.specs.Requests.{Request}
 use Rattle.api_server.specs.declared.hearing.Heard.{Heard}
 use Rattle.api_server.specs.declared.hearing.Heard.TheVariants.{Asked, Refused, Ended, Memory}
 
@@ -13,7 +14,7 @@ input_of e = e.heard ++ e.left
 -- The request that the input begins with; why it is refused; that it ends before either, or that a call failed. Want of memory
 -- says nothing of it.
 abbrev pub Hears : Heard → Exchange → Type 0
-Hears (Asked ask) e = (n : ℕ) × Asks (input_of e) (question ask) n
+Hears (Asked request) e = (n : ℕ) × Asks (input_of e) (request_of request) n
 Hears (Refused refusal) e = MayRefuse (input_of e) refusal
 Hears Ended e = (Waits (input_of e) × (e.left ≡ [])) ⊎ (e.failed ≡ true)
 Hears Memory e = ⊤
@@ -28,6 +29,6 @@ pub record IsHeard (heard : Heard) (old new : Exchange) : Type 0 where
   pub failed : heard ≢ Ended → new.failed ≡ old.failed
 
 -- The fact holds of what is asked, if the request is whole.
-abbrev pub IfHeard : Heard → (Question → Type 0) → Type 0
-IfHeard (Asked ask) P = P (question ask)
+abbrev pub IfHeard : Heard → (Request → Type 0) → Type 0
+IfHeard (Asked request) P = P (request_of request)
 IfHeard _ P = ⊤

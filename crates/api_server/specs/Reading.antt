@@ -1,9 +1,9 @@
 -- For private clauses: what reads of a connection do, and what the bytes come to.
 use Rattle.std.specs.Prelude.{◌≡◌, ◌≤◌, ◌<◌, ◌+◌, ◌⊎◌, ⊤, ℕ, List, [], ◌∷◌, ◌++◌, length}
 use Rattle.outside.specs.Exchange.{Exchange, broken_off}
-use Rattle.api_http.specs.declared.ask.Ask.{Ask}
+use Rattle.settings_machine.specs.declared.request.Request.{Request}
 use Rattle.api_http.specs.Requests.{Asks, MayRefuse, WaitsUntil}
-use Rattle.api_http.specs.Questions.{question}
+use Rattle.settings_machine.specs.Asked.{request_of}
 use Rattle.api_server.specs.declared.more.More.{More}
 use Rattle.api_server.specs.declared.more.More.TheVariants.{Bytes, End, Memory}
 use Rattle.api_server.specs.declared.next.Next.{Next}
@@ -58,14 +58,14 @@ pub record IsWaiting (bytes : List ℕ) (count : ℕ) : Type 0 where
 
 -- What the bytes come to, with whatever comes after them.
 abbrev pub Comes : Next → List ℕ → Type 0
-Comes (next.Asked ask) bytes = (more : List ℕ) → (n : ℕ) × Asks (bytes ++ more) (question ask) n
+Comes (next.Asked request) bytes = (more : List ℕ) → (n : ℕ) × Asks (bytes ++ more) (request_of request) n
 Comes (next.Refused refusal) bytes = (more : List ℕ) → MayRefuse (bytes ++ more) refusal
 Comes (next.Wanted count) bytes = IsWaiting bytes count
 Comes next.Memory bytes = ⊤
 
 -- The fact holds of what is asked.
-abbrev pub IfAsked : Next → (Ask → Type 0) → Type 0
-IfAsked (next.Asked ask) P = P ask
+abbrev pub IfAsked : Next → (Request → Type 0) → Type 0
+IfAsked (next.Asked request) P = P request
 IfAsked _ P = ⊤
 
 -- The last connection, if there is one, moves by R, and the others stay.

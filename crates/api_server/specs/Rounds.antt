@@ -7,7 +7,6 @@ use Rattle.settings_machine.specs.Events as events
 use Rattle.settings_machine.specs.Events.{Event, after, faulted_after}
 use Rattle.machine_disk.specs.Ran.{Handled}
 use Rattle.affected_apply.specs.Turned.{AreTurns}
-use Rattle.machine_answers.specs.Asks.{request_of}
 use Rattle.api_server.specs.Exchanged.{Said, Nothing, OutOfMemory, Unread, Replied, IsExchanged}
 
 -- The request was handled, and not given up because the store could not be opened again.
@@ -20,7 +19,7 @@ abbrev pub AsksFor : Image → Bool → World → Said → List Event → Type 0
 AsksFor I faulted W Nothing asked = asked ≡ []
 AsksFor I faulted W OutOfMemory asked = asked ≡ []
 AsksFor I faulted W (Unread r) asked = asked ≡ events.Unread ∷ []
-AsksFor I faulted W (Replied q reply) asked = IsAsked I faulted W (request_of q) reply asked
+AsksFor I faulted W (Replied q reply) asked = IsAsked I faulted W q reply asked
 
 -- One connection: what it came to, the events of its request, and the turns after it.
 pub record Round : Type 0 where

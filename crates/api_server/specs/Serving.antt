@@ -1,5 +1,6 @@
 -- A whole run over an opened store.
-use Rattle.std.specs.Prelude.{◌≡◌, ◌-◌, ◌^◌, ℕ, Bool, true, false, List, [], ◌++◌, Option, Some, None}
+use Rattle.std.specs.Prelude.{◌≡◌, ◌⊎◌, ◌≤◌, ◌-◌, ◌^◌, ℕ, Bool, true, false, List, [], ◌++◌, Option, Some, None}
+use Rattle.outside.specs.Door.{DoorState}
 use Rattle.outside.specs.Exchange.{Exchange}
 use Rattle.outside.specs.History.{History}
 use Rattle.outside.specs.Spawner.{Run}
@@ -20,6 +21,13 @@ use Rattle.api_server.specs.Rounds.{IsAsked, Round, AreRounds, AreExchanged, eve
 abbrev pub wanted : Option ℕ → ℕ
 wanted None = 2 ^ 32 - 1
 wanted (Some n) = n
+
+-- No more than that were accepted. It ended well where so many were, or no further one comes; and else an accept failed, which none has before.
+pub record HasAccepted (connections : Option ℕ) (fine : Bool) (old new : DoorState) : Type 0 where
+  pub most : new.accepted ≤ wanted connections
+  pub all : fine ≡ true → (new.accepted ≡ wanted connections) ⊎ (new.ended ≡ true)
+  pub kept : fine ≡ true → new.broken ≡ old.broken
+  pub failed : fine ≡ false → new.broken ≡ true
 
 -- ---- the beginning
 

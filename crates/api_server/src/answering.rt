@@ -5,17 +5,17 @@ ghost use Rattle.api_http.specs.Replies.{refused};
 ghost use Rattle.api_core.specs.Cores.{IsSound};
 ghost use Rattle.api_server.specs.Answered.{Answers};
 
-use crate::{Heard, hear, say};
+use crate::{Heard, handle, hear, say};
 use api_core::Core;
-use api_http::{Answer, Refusal, Reply, print_reply};
+use api_http::{Refusal, Reply, print_refusal};
 use outside::{Disk, Door};
 use std::alloc::Global;
 
 // The reply of a refusal, or the fixed one where there is no memory for it.
-fn refusal_reply(alloc: Global, refusal: Refusal) -> Reply
-    ensures { (result ≡ refused refusal) ⊎ (result ≡ refused Refusal.Memory) }
+fn refusal_reply(alloc: Global, refusal: &Refusal) -> Reply
+    ensures { (result ≡ refused refusal.now) ⊎ (result ≡ refused Refusal.Memory) }
 {
-    match print_reply(alloc, &Answer::Refused { refusal }) {
+    match print_refusal(alloc, refusal) {
         Ok(reply) => reply,
         Err(_) => Reply::memory(),
     }
@@ -43,11 +43,11 @@ pub(crate) fn answer_one<D: Disk, N: Door>(
         Heard::Ended => {}
         Heard::Memory => say(door, Reply::memory().bytes()),
         Heard::Refused { refusal } => {
-            let reply = refusal_reply(alloc, refusal);
+            let reply = refusal_reply(alloc, &refusal);
             say(door, reply.bytes());
         }
-        Heard::Asked { ask } => {
-            let reply = core.handle(alloc, &ask, disk);
+        Heard::Asked { request } => {
+            let reply = handle(alloc, core, &request, disk).reply();
             say(door, reply.bytes());
         }
     }

@@ -4,7 +4,8 @@ ghost use Rattle.outside.specs.Told.{Moves};
 ghost use Rattle.api_core.specs.Cores.{IsSound};
 ghost use Rattle.api_server.specs.Serving.{Boots};
 
-use api_core::{Ask, Core};
+use crate::handle;
+use api_core::{Core, Request};
 use outside::{Disk, Spawner};
 use std::alloc::Global;
 
@@ -26,7 +27,7 @@ pub(crate) fn boot_up<D: Disk, S: Spawner>(
     ensures asked { S.asked spawner.new ≡ S.asked spawner.old }
 {
     if boot {
-        core.handle(alloc, &Ask::Apply, disk);
+        handle(alloc, core, &Request::Apply, disk);
         core.turns(alloc, slice, disk, spawner);
     }
 }

@@ -2,14 +2,15 @@
 ghost use Rattle.std.specs.Prelude.{◌≡◌, ◌≢◌, ◌≤◌, true};
 ghost use Rattle.outside.specs.Door.{LastBy};
 ghost use Rattle.outside.specs.Told.{Moves};
-ghost use Rattle.api_http.specs.Questions.{IsProper};
+ghost use Rattle.settings_machine.specs.Requests.{IsProper};
 ghost use Rattle.api_server.specs.Hearing.{IsHeard, IfHeard};
 
 use crate::more::More;
 use crate::next::{Next, next_of};
 use crate::reading::read_some;
-use api_http::{Ask, Refusal};
+use api_http::Refusal;
 use outside::Door;
+use settings_machine::Request;
 use std::alloc::Global;
 
 /// What reading a connection came to.
@@ -18,7 +19,7 @@ pub enum Heard {
     /// Its input begins with a whole request.
     Asked {
         /// What it asks for.
-        ask: Ask,
+        request: Request,
     },
     /// Its input is refused.
     Refused {
@@ -55,7 +56,7 @@ pub fn hear<N: Door>(alloc: Global, door: &mut N) -> Heard
     loop {
         match read_some(door, &mut bytes) {
             More::Bytes => match next_of(alloc, &bytes, wanted) {
-                Next::Asked { ask } => return Heard::Asked { ask },
+                Next::Asked { request } => return Heard::Asked { request },
                 Next::Refused { refusal } => return Heard::Refused { refusal },
                 Next::Wanted { count } => wanted = count,
                 Next::Memory => return Heard::Memory,

@@ -4,6 +4,8 @@
 mod answering;
 mod booting;
 mod driving;
+mod handled;
+mod handling;
 mod hearing;
 mod more;
 mod next;
@@ -11,7 +13,10 @@ mod reading;
 mod running;
 mod saying;
 mod serving;
+mod unopened;
 
+pub use handled::Handled;
+pub use handling::handle;
 pub use hearing::{Heard, hear};
 pub use running::serve;
 pub use saying::say;

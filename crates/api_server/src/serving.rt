@@ -1,11 +1,11 @@
 //! Connections one after another.
-ghost use Rattle.std.specs.Prelude.{◌≡◌, ◌⊎◌, ◌≤◌, true, false};
+ghost use Rattle.std.specs.Prelude.{◌≡◌, ◌≤◌, true, false};
 ghost use Rattle.outside.specs.Told.{Moves};
 ghost use Rattle.outside.specs.Door.{finished};
 ghost use Rattle.outside.specs.Faults.{Rose};
 ghost use Rattle.api_core.specs.Cores.{IsSound};
 ghost use Rattle.api_server.specs.Answered.{ServesOne, ServesAll};
-ghost use Rattle.api_server.specs.Serving.{wanted};
+ghost use Rattle.api_server.specs.Serving.{HasAccepted};
 
 use crate::answering::answer_one;
 use api_core::Core;
@@ -64,8 +64,7 @@ pub(crate) fn serve_all<D: Disk, S: Spawner, N: Door>(
         (ServesAll slice core.old core.new (N.told door.old) (N.told door.new) (S.runs spawner.old) (S.runs spawner.new)) }
     ensures sound { IsSound core.new }
     ensures idle { (N.state door.new).busy ≡ false }
-    ensures all { result ≡ true → ((N.state door.new).accepted ≡ wanted connections) ⊎ ((N.state door.new).ended ≡ true) }
-    ensures broken { result ≡ false → (N.state door.new).broken ≡ true }
+    ensures accepted { HasAccepted connections result (N.state door.old) (N.state door.new) }
     ensures cause { result ≡ false → Rose (N.faults door.old) (N.faults door.new) }
     ensures disk_faults { D.faults disk.old ≤ D.faults disk.new }
     ensures spawner_faults { S.faults spawner.old ≤ S.faults spawner.new }

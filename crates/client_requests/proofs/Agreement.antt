@@ -15,7 +15,8 @@ use Rattle.api_http.specs.declared.refusal.Refusal.TheVariants.{NoPath, Method, 
 use Rattle.api_http.specs.Fields.{body_length}
 use Rattle.api_http.specs.Routes.{Row, rows, has_path, has_path_in, route_of, route_in}
 use Rattle.api_http.specs.Query.{HasQueryFault}
-use Rattle.api_http.specs.Questions.{Question, Spells}
+use Rattle.settings_machine.specs.Requests.{Request}
+use Rattle.api_http.specs.Spelled.{Spells}
 use Rattle.api_http.specs.Requests.{told, pairs_of, route_told, body_of, HasBody, Shows, bad_length, no_path, no_method, bad_query, transfer_coded, long_body, IsClean, IsCleanHead, Asks, Refuses, too_long, many_lines, in_head, in_body, MayRefuse, Waits, for_head, for_body, IfWhole, IfRefused}
 use Rattle.api_http.proofs.Firsts.{first_no_path, first_no_method, first_query, none_shown}
 use Rattle.api_http.proofs.Sound.{spells_sound}
@@ -75,7 +76,7 @@ module _ (m t : List ℕ) (b : Option (List ℕ)) (s : IsSound m t b) where
   size = omega (arith, ap length (text_is m t b), length-append (print_request (head_of m t b)) (unwrap_or b []), length_is m t b s)
 
   -- a question that is spelled is asked
-  pub asked : (q : Question) (n : ℕ) → SpellsQuestion m t b q × (n ≡ length (ask_text m t b)) → Asks (ask_text m t b) q n
+  pub asked : (q : Request) (n : ℕ) → SpellsQuestion m t b q × (n ≡ length (ask_text m t b)) → Asks (ask_text m t b) q n
   asked q n (spells, n_is) =
       let found = some_of (route_of (path_in t) m) (λ r. Spells (pairs_in t) (unwrap_or b []) r q) spells in record {
         head = head_of m t b;
@@ -89,7 +90,7 @@ module _ (m t : List ℕ) (b : Option (List ℕ)) (s : IsSound m t b) where
       }
 
   -- what is asked is spelled by the whole text
-  pub spelled : (q : Question) (n : ℕ) → Asks (ask_text m t b) q n → SpellsQuestion m t b q × (n ≡ length (ask_text m t b))
+  pub spelled : (q : Request) (n : ℕ) → Asks (ask_text m t b) q n → SpellsQuestion m t b q × (n ≡ length (ask_text m t b))
   spelled q n a =
       let same = same_head (ask_text m t b) a.head (head_of m t b) a.rest (unwrap_or b []) a.clean.whole (whole m t b s) in
       let spells = subst (λ (h : RequestHead). Spells (pairs_of (told h)) (body_of h a.rest) a.route q) same.head a.spells in
@@ -149,12 +150,12 @@ module _ (m t : List ℕ) (b : Option (List ℕ)) (s : IsSound m t b) where
 
   -- what is read of the text
   pub whole_is : (reading : Reading) → IfWhole reading (Asks (ask_text m t b)) → IfWhole reading (λ q n. SpellsQuestion m t b q × (n ≡ length (ask_text m t b)))
-  whole_is (Whole ask n) h = spelled _ n h
+  whole_is (Whole request n) h = spelled _ n h
   whole_is NotYet h = tt
   whole_is (Refused r) h = tt
 
   pub refused_is : (reading : Reading) → IfRefused reading (MayRefuse (ask_text m t b)) → IfRefused reading (IsRefusedFor m t b)
-  refused_is (Whole ask n) h = tt
+  refused_is (Whole request n) h = tt
   refused_is NotYet h = tt
   refused_is (Refused r) h = may_refuse r h
 

@@ -17,13 +17,17 @@ use Rattle.httparse.specs.Spans.{name_and_value}
 use Rattle.httparse.proofs.OnLiterals.{httparse_on_literals}
 use Rattle.httparse.proofs.GrammarLemmas.{print_response-append}
 use Rattle.host_client.specs.Reply.{lengths, is_number, fits, IsReply}
-use Rattle.api_http.specs.declared.answer.Answer.{Answer}
-use Rattle.api_http.specs.declared.answer.Answer.TheVariants.{Json, Empty, Refused}
+use Rattle.settings_machine.specs.Requests.{Reply, Said, Empty, Refused, NoMemory, NotOpened}
+use Rattle.settings_machine.specs.Requests as machine
+use Rattle.settings_machine.specs.declared.refusal.Refusal.{Refusal as Told}
+use Rattle.settings_machine.specs.declared.refusal.Refusal.TheVariants.{BadType, NoKey, NoName, NoPending}
+use Rattle.machine_answers.specs.Bodies as text
 use Rattle.api_http.specs.declared.refusal.Refusal.{Refusal}
-use Rattle.api_http.specs.declared.refusal.Refusal.TheVariants.{HeadTooLong, Head, NoPath, Method, Query, Length, BodyTooLong, Body, BadType, NoKey, NoName, NoPending, Memory, DiskFault, Store}
+use Rattle.api_http.specs.declared.refusal.Refusal.TheVariants.{HeadTooLong, Head, NoPath, Method, Query, Length, BodyTooLong, Body, Memory, DiskFault, Store}
 use Rattle.api_http.specs.Routes.{Row, rows, methods_in, methods_of}
-use Rattle.api_http.specs.Replies.{Status, status_of, listed, allow_field, with_body, refusal_text, reply_text}
-use Rattle.client_requests.specs.Answered.{body_of}
+use Rattle.api_http.specs.Replies.{Sent, Status, status_of, listed, allow_field, with_body, refusal_text, refused}
+use Rattle.api_http.specs.Says.{Says, status_line_of}
+use Rattle.client_requests.specs.Answered.{IsReplied, IsHeard}
 use Rattle.client_requests.proofs.Heads.{split, kind_field, size_field, close_field, kind, size, close, literal_token, decimal_digits, trimmed}
 
 -- ---- the methods of a path
@@ -206,13 +210,15 @@ is_status Query = record { low = omega arith; high = omega arith; phrase = refl 
 is_status Length = record { low = omega arith; high = omega arith; phrase = refl }
 is_status BodyTooLong = record { low = omega arith; high = omega arith; phrase = refl }
 is_status Body = record { low = omega arith; high = omega arith; phrase = refl }
-is_status (BadType key wanted) = record { low = omega arith; high = omega arith; phrase = refl }
-is_status (NoKey key) = record { low = omega arith; high = omega arith; phrase = refl }
-is_status (NoName name) = record { low = omega arith; high = omega arith; phrase = refl }
-is_status (NoPending tx) = record { low = omega arith; high = omega arith; phrase = refl }
 is_status Memory = record { low = omega arith; high = omega arith; phrase = refl }
 is_status DiskFault = record { low = omega arith; high = omega arith; phrase = refl }
 is_status (Store place) = record { low = omega arith; high = omega arith; phrase = refl }
+
+told_status : (r : Told) → IsStatus (status_line_of r)
+told_status (BadType key wanted) = record { low = omega arith; high = omega arith; phrase = refl }
+told_status (NoKey key) = record { low = omega arith; high = omega arith; phrase = refl }
+told_status (NoName name) = record { low = omega arith; high = omega arith; phrase = refl }
+told_status (NoPending tx) = record { low = omega arith; high = omega arith; phrase = refl }
 
 abbrev empty_head : ResponseHead
 empty_head = record { blank = []; minor = 1; digits = codes "204"; reason = Some (codes "No Content"); line_end = crlf; fields = close_field ∷ []; last = crlf }
@@ -242,16 +248,31 @@ shorter status field body h =
     (length body) ++ codes "\r\n" ++ field ++ codes "Connection: close\r\n\r\n" in
     omega (arith, h, length-append front body)
 
--- what the server sends is a reply of that status and body
-pub answered : (answer : Answer) → length (reply_text answer).bytes < 2 ^ 64 → IsReply (reply_text answer).bytes (reply_text answer).status (body_of answer)
-answered (Json text) below = with_reply (200, codes "OK") None text (record { low = omega arith; high = omega arith; phrase = refl }) refl (shorter (200, codes "OK") [] text below)
-answered Empty below = empty_reply
-answered (Refused r) below =
+-- a refusal of HTTP is a reply of its status and body
+pub refused_replied : (r : Refusal) → IsReplied (refused r)
+refused_replied r below =
     let fields = ap (λ (l : List ℕ). (with_body (status_of r) l (refusal_text r)).bytes) (allowed_is r) in
     subst (λ (l : List ℕ). IsReply l (status_of r).0 (refusal_text r)) (sym fields)
     (with_reply (status_of r) (allowed r) (refusal_text r) (is_status r) (allowed_values r) (shorter (status_of r) (allow_field r) (refusal_text r) below))
 
+plain_replied : (status : Status) (body : List ℕ) → IsStatus status → IsReplied (with_body status [] body)
+plain_replied status body is below = with_reply status None body is refl (shorter status [] body below)
+
+-- what says a reply of the machine is a reply of its status and body
+pub said_replied : (r : Reply) (sent : Sent) → Says r sent → IsReplied sent
+said_replied (Said body) sent says =
+    subst IsReplied (sym says.sent_is) (plain_replied (200, codes "OK") says.text (record { low = omega arith; high = omega arith; phrase = refl }))
+said_replied Empty sent is = subst IsReplied (sym is) (λ _. empty_reply)
+said_replied (Refused r) sent is = subst IsReplied (sym is) (plain_replied (status_line_of r) (text.refusal_text r) (told_status r))
+said_replied NoMemory sent is = subst IsReplied (sym is) (refused_replied Memory)
+said_replied machine.DiskFault sent is = subst IsReplied (sym is) (refused_replied DiskFault)
+said_replied (NotOpened at) sent is = subst IsReplied (sym is) (refused_replied (Store at))
+
 -- so are the bytes that it is printed to
-pub read_back : (answer : Answer) (bytes : List ℕ) → bytes ≡ (reply_text answer).bytes → length bytes < 2 ^ 64 → IsReply bytes (reply_text answer).status (body_of answer)
-read_back answer bytes is below =
-    subst (λ (l : List ℕ). IsReply l (reply_text answer).status (body_of answer)) (sym is) (answered answer (subst (λ (l : List ℕ). length l < 2 ^ 64) is below))
+pub read_back : (sent : Sent) (bytes : List ℕ) → bytes ≡ sent.bytes → length bytes < 2 ^ 64 → IsReplied sent → IsReply bytes sent.status sent.body
+read_back sent bytes is below replied =
+    subst (λ (l : List ℕ). IsReply l sent.status sent.body) (sym is) (replied (subst (λ (l : List ℕ). length l < 2 ^ 64) is below))
+
+-- what has its status and its body is heard
+pub heard : (r : Reply) (sent : Sent) (status : ℕ) (body : List ℕ) → Says r sent → (status ≡ sent.status) × (body ≡ sent.body) → IsHeard r status body
+heard r sent status body says (status_is, body_is) = record { sent = sent; says = says; status_is = status_is; body_is = body_is }

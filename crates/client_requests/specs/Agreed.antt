@@ -9,7 +9,8 @@ use Rattle.api_http.specs.declared.refusal.Refusal.{Refusal}
 use Rattle.api_http.specs.declared.refusal.Refusal.TheVariants.{NoPath, Method, Query, Body}
 use Rattle.api_http.specs.Routes.{has_path, route_of}
 use Rattle.api_http.specs.Query.{Pair, query_pairs, HasQueryFault}
-use Rattle.api_http.specs.Questions.{Question, Spells}
+use Rattle.settings_machine.specs.Requests.{Request}
+use Rattle.api_http.specs.Spelled.{Spells}
 
 -- The target up to its first `?`.
 abbrev pub path_in : List ℕ → List ℕ
@@ -19,8 +20,8 @@ path_in target = before_first (λ b. b == 63) target
 abbrev pub pairs_in : List ℕ → List Pair
 pairs_in target = query_pairs (after_first (λ b. b == 63) target)
 
--- The method and the target name a route, whose query and body spell the question; no body is an empty one.
-abbrev pub SpellsQuestion : List ℕ → List ℕ → Option (List ℕ) → Question → Type 0
+-- The method and the target name a route, whose query and body spell the request; no body is an empty one.
+abbrev pub SpellsQuestion : List ℕ → List ℕ → Option (List ℕ) → Request → Type 0
 SpellsQuestion method target body q = MatchOption (route_of (path_in target) method) ⊥ (λ route. Spells (pairs_in target) (unwrap_or body []) route q)
 
 -- The method and the target name a route, and the query is at fault.

@@ -5,5 +5,5 @@
 mod answers;
 mod questions;
 
-pub use answers::read_answer;
+pub use answers::{read_answer, read_refusal};
 pub use questions::read_question;

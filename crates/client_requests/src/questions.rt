@@ -2,7 +2,7 @@
 ghost use Rattle.std.specs.Prelude.{◌≡◌, ◌↔◌, ℕ, length, true, IfOk};
 ghost use Rattle.std.specs.Option.{option_copied};
 ghost use Rattle.host_client.specs.Question.{is_question, ask_text};
-ghost use Rattle.api_http.specs.Questions.{Question};
+ghost use Rattle.settings_machine.specs.Requests.{Request};
 ghost use Rattle.api_http.specs.Requests.{Asks, Refuses, Waits, IfWhole, IfRefused};
 ghost use Rattle.api_http.specs.declared.refusal.Refusal.{Refusal};
 ghost use Rattle.client_requests.specs.Agreed.{SpellsQuestion, IsRefusedFor};
@@ -14,7 +14,7 @@ use std::alloc::{AllocError, Global};
 /// What the server reads where the client asks this question: the whole text is one request, or it is refused.
 ///
 /// It is a request exactly where the method and the path of the target, up to its first `?`, are those of a row of
-/// the server's table, and the query and the body spell a question of that row. It is refused as `NoPath`, `Method`,
+/// the server's table, and the query and the body spell a request of that row. It is refused as `NoPath`, `Method`,
 /// `Query` or `Body` exactly where one of these is at fault, the first of them; never for its form, and never are
 /// more bytes waited for. The only error is want of memory.
 pub fn read_question(
@@ -24,7 +24,7 @@ pub fn read_question(
     body: Option<&[u8]>,
 ) -> Result<Reading, AllocError>
     requires { is_question method.now target.now (option_copied body) ≡ true }
-    ensures asks { let text = ask_text method.now target.now (option_copied body.entry) in (q : Question) (n : ℕ)
+    ensures asks { let text = ask_text method.now target.now (option_copied body.entry) in (q : Request) (n : ℕ)
         → Asks text q n ↔ (SpellsQuestion method.now target.now (option_copied body.entry) q × (n ≡ length text)) }
     ensures refuses { (r : Refusal) → Refuses (ask_text method.now target.now (option_copied body.entry)) r
         ↔ IsRefusedFor method.now target.now (option_copied body.entry) r }

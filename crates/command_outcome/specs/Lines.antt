@@ -3,6 +3,8 @@ use Rattle.std.specs.Prelude.{ℕ, List, [], ◌∷◌, ◌++◌, codes, decimal
 use Rattle.outside.specs.PathText.{joined}
 use Rattle.key_names.specs.Key.{printed}
 use Rattle.version_links.specs.Versions.{version_text}
+use Rattle.settings_machine.specs.Requests.{refusal_status}
+use Rattle.machine_answers.specs.Bodies.{refusal_text}
 use Rattle.template_eval.specs.declared.render_error.RenderError.{RenderError}
 use Rattle.template_eval.specs.declared.render_error.RenderError.TheVariants as render
 use Rattle.command_outcome.specs.declared.refusal.Refusal.{Refusal}
@@ -26,7 +28,7 @@ status_of (Render file error) = 10
 status_of (Status service number) = 10
 status_of (Missing at target) = 11
 status_of (Conflict key) = 11
-status_of (Refused status body) = 13
+status_of (Refused refusal) = 13
 status_of (AlreadyThere version) = 14
 status_of (OldFormat directory) = 15
 status_of (GeneratorStatus key number) = 16
@@ -73,7 +75,7 @@ told (Render file error) = codes "render" ++ spaced file ++ spaced (render_word 
 told (Status service number) = codes "status" ++ spaced service ++ spaced (decimal number)
 told (Missing at target) = codes "missing" ++ spaced (version_text at) ++ spaced (version_text target)
 told (Conflict key) = codes "conflict" ++ spaced (printed key)
-told (Refused status body) = codes "refused" ++ spaced (decimal status) ++ spaced body
+told (Refused refusal) = codes "refused" ++ spaced (decimal (refusal_status refusal)) ++ spaced (refusal_text refusal)
 told (AlreadyThere version) = codes "already there" ++ spaced (version_text version)
 told (OldFormat directory) = codes "old format" ++ spaced (joined directory)
 told (GeneratorStatus key number) = codes "generator" ++ spaced (printed key) ++ codes " status " ++ decimal number

@@ -85,12 +85,7 @@ pub enum Refusal {
         key: Key,
     },
     /// 13: the machine refuses what is asked for.
-    Refused {
-        /// The status of the reply that a client of the socket would get.
-        status: u16,
-        /// The body of that reply.
-        body: Bytes,
-    },
+    Refused(settings_machine::Refusal),
     /// 14: a store is there already.
     AlreadyThere {
         /// The version that its links lead to.

@@ -3,11 +3,14 @@ ghost use Rattle.std.specs.Prelude.{◌≡◌, ◌++◌, ◌∷◌, [], IfOk, On
 ghost use Rattle.outside.specs.PathText.{joined};
 ghost use Rattle.key_names.specs.Key.{printed};
 ghost use Rattle.version_links.specs.Versions.{version_text};
+ghost use Rattle.settings_machine.specs.Requests.{refusal_status};
+ghost use Rattle.machine_answers.specs.Bodies.{refusal_text};
 ghost use Rattle.command_outcome.specs.Lines.{status_of, line_of, told, spaced, render_word, render_path};
 
 use crate::Refusal;
 use itoa::Buffer;
 use key_names::{Key, Text};
+use machine_answers::refusal_text;
 use outside::Path;
 use std::alloc::{AllocError, Global};
 use template_eval::RenderError;
@@ -172,15 +175,19 @@ fn push_data(line: &mut Vec<u8>, kind: &Text, at: &Text) -> Result<(), AllocErro
     push_text(line, at)
 }
 
-fn push_reply(line: &mut Vec<u8>, status: u16, body: &[u8]) -> Result<(), AllocError>
+// Adds what a client of the socket would be told: the status and the text of the refusal.
+fn push_refused(
+    alloc: Global,
+    line: &mut Vec<u8>,
+    refusal: &settings_machine::Refusal,
+) -> Result<(), AllocError>
     ensures { OnOk result (line.new.items ≡ line.old.items
-        ++ (codes "refused" ++ spaced (decimal status) ++ spaced body.now)) }
+        ++ (codes "refused" ++ spaced (decimal (refusal_status refusal.now)) ++ spaced (refusal_text refusal.now))) }
 {
     let mut buffer = Buffer::new();
     line.extend_from_slice(b"refused ")?;
-    line.extend_from_slice(buffer.format(status).as_bytes())?;
-    line.push(b' ')?;
-    line.extend_from_slice(body)
+    line.extend_from_slice(buffer.format(refusal.status()).as_bytes())?;
+    push_text(line, &refusal_text(alloc, refusal)?)
 }
 
 // Adds what is told of the refusal behind the program's name.
@@ -204,7 +211,7 @@ fn push_told(alloc: Global, line: &mut Vec<u8>, refusal: &Refusal) -> Result<(),
         Refusal::Status { service, number } => push_status(line, service, *number),
         Refusal::Missing { at, target } => push_missing(alloc, line, at, target),
         Refusal::Conflict { key } => push_key(line, "conflict", key),
-        Refusal::Refused { status, body } => push_reply(line, *status, body.as_slice()),
+        Refusal::Refused(refusal) => push_refused(alloc, line, refusal),
         Refusal::AlreadyThere { version } => push_there(alloc, line, version),
         Refusal::OldFormat { directory } => push_path(line, "old format", directory),
         Refusal::GeneratorStatus { key, number } => {
@@ -246,7 +253,7 @@ impl Refusal {
             Refusal::NotCovered { .. } => 9,
             Refusal::Render { .. } | Refusal::Status { .. } => 10,
             Refusal::Missing { .. } | Refusal::Conflict { .. } => 11,
-            Refusal::Refused { .. } => 13,
+            Refusal::Refused(_) => 13,
             Refusal::AlreadyThere { .. } => 14,
             Refusal::OldFormat { .. } => 15,
             Refusal::GeneratorStatus { .. } | Refusal::GeneratorOutput { .. } => 16,

@@ -1,28 +1,34 @@
 -- Requests one after another.
-use Rattle.std.proofs.Common.{arith, ◌≡◌, ◌≢◌, ℕ, ◌+◌, ◌<◌, ◌≤◌, length, get_or, take, drop, Bool, true, false, List, [], ◌∷◌, ◌++◌, Result, Ok, Err, append_assoc, refl, sym, ◌∙◌, ap, subst}
+use Rattle.std.proofs.Common.{◌≡◌, ℕ, ◌+◌, ◌<◌, length, get_or, take, drop, true, false, List, [], ◌∷◌, ◌++◌, Result, Ok, Err, refl, sym, ◌∙◌, ap, subst}
 use Rattle.std.proofs.lemmas.List.{take_more, drop_more, map-append, take-append-drop}
-use Rattle.outside.specs.Faults.{Rose, HasCauseOf}
+use Rattle.outside.specs.Faults.{HandsOn}
 use Rattle.outside.specs.History.{History}
-use Rattle.api_http.specs.Questions.{question}
-use Rattle.api_http.specs.declared.ask.Ask.{Ask}
-use Rattle.api_http.specs.Replies.{Sent, is_of_success}
+use Rattle.outside.specs.declared.disk_error.DiskErr.{DiskErr}
+use Rattle.outside.specs.declared.disk_error.DiskErr.TheVariants as disk
 use Rattle.store_open.specs.Laws.{HoldsImage}
 use Rattle.settings_machine.specs.World.{Image, World}
+use Rattle.settings_machine.specs.Asked.{request_of}
+use Rattle.settings_machine.specs.Requests as machine
 use Rattle.settings_machine.specs.Requests.{Request, Reply, is_success}
 use Rattle.settings_machine.specs.Step.{Outcome, Answered, request_next}
 use Rattle.settings_machine.specs.Events.{Event, Asked, next, after}
 use Rattle.settings_machine.specs.Paid.{IsGood}
+use Rattle.settings_machine.specs.declared.refusal.Refusal.{Refusal as Reason}
+use Rattle.settings_machine.specs.declared.request.Request as asked
+use Rattle.machine_answers.specs.Replies.{reply_of}
+use Rattle.machine_answers.specs.declared.answer.Answer.{Answer}
+use Rattle.machine_answers.specs.declared.answer.Answer.TheVariants as answer
 use Rattle.machine_disk.specs.Kept.{Folder, Kept}
-use Rattle.machine_disk.specs.Ran.{Ran, Handled, Reopens}
+use Rattle.machine_disk.specs.Ran.{Ran, Reopens}
 use Rattle.machine_disk.proofs.Runs.{ran_none, ran_more}
-use Rattle.machine_answers.specs.Asks.{request_of}
-use Rattle.api_core.specs.Asks.{Says}
-use Rattle.api_core.specs.Cores.{core_state}
-use Rattle.api_core.specs.Handled.{IsHandled, Handles}
+use Rattle.command_outcome.specs.declared.refusal.Refusal.{Refusal}
+use Rattle.command_outcome.specs.declared.refusal.Refusal.TheVariants as refused
+use Rattle.api_core.specs.Cores.{core_state, IsEvent, Commits}
+use Rattle.api_core.specs.Plans.{Replies}
 use Rattle.api_core.specs.declared.serving.Core.{Core}
-use Rattle.core_commands.specs.Asking.{requests, asked_all, AllSucceed, Succeeds, Stops, AskedBy, AsksEach, AskedLastBy, AsksEachAndLast}
-use Rattle.api_core.proofs.Replied.{says_success, alone}
-use Rattle.core_commands.proofs.Replied.{was_answered}
+use Rattle.api_core.proofs.Commitments.{commits_undone}
+use Rattle.core_commands.specs.Asking.{requests, asked_all, AllSucceed, Succeeds, Stops, AskedBy, AsksEach, AsksOne, AskedOneBy, AsksFor, TellsReply}
+use Rattle.core_commands.specs.Handing.{Tells}
 
 asked-append : (qs ps : List Request) → asked_all (qs ++ ps) ≡ asked_all qs ++ asked_all ps
 asked-append [] ps = refl
@@ -34,38 +40,91 @@ succeed_more : (I : Image) (W : World) (qs : List Request) (q : Request) → All
 succeed_more I W [] q all is = (is, tt)
 succeed_more I W (p ∷ qs) q all is = (all.0, succeed_more I (next I W (Asked p Answered)) qs q all.1 is)
 
--- One request, where no call of the disk has failed.
-pub record AsksOne (I : Image) (folder : Folder) (W V : World) (q : Request) (sent : Sent) (c now : Core) (old new : History) : Type 0 where
-  pub outcome : Outcome
-  pub opens : Reopens false outcome []
-  pub says : Says (request_next I W q outcome).reply sent
-  pub made : Ran I folder W V (Asked q outcome ∷ []) old new (core_state c) (core_state now)
-  pub holds : HoldsImage I now.image
+-- ---- one request
 
-one : (I : Image) (folder : Folder) (W V : World) (q : Request) (sent : Sent) (c now : Core) (old new : History) → c.faulted ≡ false
-    → IsHandled I folder W V q sent c now old new → AsksOne I folder W V q sent c now old new
-one I folder W V q sent c now old new calm h =
-    let e : Handled I c.faulted W q h.replied h.events = h.handled in
-    let a : (e.first ≡ []) × Reopens false e.outcome [] = alone e.outcome e.first (subst (λ (b : Bool). Reopens b e.outcome e.first) calm e.reopens) in
-    let made : h.events ≡ Asked q e.outcome ∷ [] = e.made ∙ ap (λ (l : List Event). l ++ Asked q e.outcome ∷ []) a.0 in
-    let replied : h.replied ≡ (request_next I W q e.outcome).reply = e.replied ∙ ap (λ (l : List Event). (request_next I (after I W l) q e.outcome).reply) a.0 in
-    record {
-      outcome = e.outcome;
-      opens = a.1;
-      says = subst (λ (r : Reply). Says r sent) replied h.says;
-      made = subst (λ (l : List Event). Ran I folder W V l old new (core_state c) (core_state now)) made h.ran;
-      holds = h.image;
-    }
+module _ {T : Type 0} (q : Request) (Of : Reply → T → Type 0) (c now : Core) (old new : History) (calm : c.faulted ≡ false) (image : now.image ≡ c.image) where
+  -- It was planned and committed, and answered with success,
+  asks_done : (a : Answer) → Replies c q a → is_success (reply_of a) ≡ true → (value : T) → Of (reply_of a) value → Commits c q (Ok tt) now old new
+      → AsksFor q Of (Ok value) c now old new
+  unfolding request_next
+  asks_done a replies success value of commits = record {
+    each = λ I good holds folder W V kept.
+        let e : IsEvent I folder W V q (Ok tt) old new (core_state c) (core_state now) = commits.event I good holds folder W V kept in
+        let same : (request_next I W q Answered).reply ≡ reply_of a = replies.by_image I holds folder W V old kept calm in record {
+          outcome = e.outcome;
+          opens = subst (λ (o : Outcome). Reopens false o []) (sym e.is) refl;
+          asks = (e.is, subst (λ (r : Reply). is_success r ≡ true) (sym same) success, subst (λ (r : Reply). Of r value) (sym same) of);
+          made = e.ran;
+          holds = subst (HoldsImage I) (sym image) holds;
+        };
+  }
 
--- By each image that the core holds.
-pub one_request : (I : Image) → IsGood I → (c now : Core) → HoldsImage I c.image → (folder : Folder) (W V : World) (q : Request) (sent : Sent)
-    (old new : History) → c.faulted ≡ false → Kept I folder W V old (core_state c) → Handles c q sent now old new
-    → AsksOne I folder W V q sent c now old new
-one_request I good c now holds folder W V q sent old new calm kept handles =
-    one I folder W V q sent c now old new calm (handles.each I good holds folder (λ faulted unopened. absurd (differ c.faulted calm faulted)) W V kept)
-  where
-    differ : (b : Bool) → b ≡ false → b ≡ true → ⊥
-    differ b one two = cc (one, two)
+  -- or refused by the machine.
+  asks_refused : (r : Reason) → Replies c q (answer.Refused r) → Commits c q (Ok tt) now old new → AsksFor q Of (Err (refused.Refused r)) c now old new
+  unfolding request_next
+  asks_refused r replies commits = record {
+    each = λ I good holds folder W V kept.
+        let e : IsEvent I folder W V q (Ok tt) old new (core_state c) (core_state now) = commits.event I good holds folder W V kept in
+        let same : (request_next I W q e.outcome).reply ≡ machine.Refused r =
+        ap (λ (o : Outcome). (request_next I W q o).reply) e.is ∙ replies.by_image I holds folder W V old kept calm in record {
+          outcome = e.outcome;
+          opens = subst (λ (o : Outcome). Reopens false o []) (sym e.is) refl;
+          asks = (subst (λ (x : Reply). is_success x ≡ false) (sym same) refl, subst (λ (x : Reply). Tells x (refused.Refused r)) (sym same) refl);
+          made = e.ran;
+          holds = subst (HoldsImage I) (sym image) holds;
+        };
+  }
+
+  -- A call of the disk failed.
+  asks_failed : Commits c q (Err disk.Failed) now old new → AsksFor q Of (Err refused.Disk) c now old new
+  unfolding request_next
+  asks_failed commits = record {
+    each = λ I good holds folder W V kept.
+        let e : IsEvent I folder W V q (Err disk.Failed) old new (core_state c) (core_state now) = commits.event I good holds folder W V kept in record {
+          outcome = e.outcome;
+          opens = subst (λ (o : Outcome). Reopens false o []) (sym e.is.1) refl;
+          asks = subst (λ (o : Outcome). (is_success (request_next I W q o).reply ≡ false) × Tells (request_next I W q o).reply refused.Disk) (sym e.is.1) (refl, refl);
+          made = e.ran;
+          holds = subst (HoldsImage I) (sym image) holds;
+        };
+  }
+
+  -- Memory was wanting.
+  pub asks_memory : Commits c q (Err disk.Memory) now old new → AsksFor q Of (Err refused.Memory) c now old new
+  unfolding request_next
+  asks_memory commits = record {
+    each = λ I good holds folder W V kept.
+        let e : IsEvent I folder W V q (Err disk.Memory) old new (core_state c) (core_state now) = commits.event I good holds folder W V kept in record {
+          outcome = e.outcome;
+          opens = subst (λ (o : Outcome). Reopens false o []) (sym e.is) refl;
+          asks = subst (λ (o : Outcome). (is_success (request_next I W q o).reply ≡ false) × Tells (request_next I W q o).reply refused.Memory) (sym e.is) (refl, refl);
+          made = e.ran;
+          holds = subst (HoldsImage I) (sym image) holds;
+        };
+  }
+
+  -- It was planned and committed, and this is told of its answer;
+  pub asks_told : (a : Answer) (result : Result T Refusal) → Replies c q a → TellsReply Of (reply_of a) result → Commits c q (Ok tt) now old new
+      → AsksFor q Of result c now old new
+  asks_told (answer.Said body) (Ok value) replies told commits = asks_done (answer.Said body) replies refl value told commits
+  asks_told answer.Empty (Ok value) replies told commits = asks_done answer.Empty replies refl value told commits
+  asks_told (answer.Refused r) (Err refusal) replies told commits =
+      subst (λ (x : Refusal). AsksFor q Of (Err x) c now old new) (sym told) (asks_refused r replies commits)
+  asks_told (answer.Refused r) (Ok value) replies told commits = absurd told
+  asks_told (answer.Said body) (Err refusal) replies told commits = absurd told
+  asks_told answer.Empty (Err refusal) replies told commits = absurd told
+
+  -- or it was not committed.
+  pub asks_uncommitted : (e : DiskErr) (refusal : Refusal) → HandsOn refused.Disk refused.Memory e refusal → Commits c q (Err e) now old new
+      → AsksFor q Of (Err refusal) c now old new
+  asks_uncommitted disk.Failed refusal is commits = subst (λ (x : Refusal). AsksFor q Of (Err x) c now old new) (sym is) (asks_failed commits)
+  asks_uncommitted disk.Memory refusal is commits = subst (λ (x : Refusal). AsksFor q Of (Err x) c now old new) (sym is) (asks_memory commits)
+
+-- It was not planned for want of memory.
+pub asks_unplanned : {T : Type 0} (q : Request) (Of : Reply → T → Type 0) (c : Core) (h : History) → c.faulted ≡ false → AsksFor q Of (Err refused.Memory) c c h h
+asks_unplanned q Of c h calm = asks_memory q Of c c h h calm refl (commits_undone c q calm c h h (record { core = refl; disk = refl }))
+
+-- ---- one after another
 
 -- Before the first request.
 pub none_asked : (c : Core) (old : History) → AsksEach [] (Ok tt) c c old old
@@ -74,161 +133,109 @@ none_asked c old = record {
       record { events = []; asks = record { events_are = refl; answered = tt }; made = ran_none I folder W V old (core_state c) kept; holds = holds };
 }
 
--- One more request that was answered with success, with the reply to it.
-pub one_last : (qs : List Request) (q : Request) (sent : Sent) (first mid now : Core) (old between new : History)
-    → mid.faulted ≡ false → is_of_success sent.status ≡ true → AsksEach qs (Ok tt) first mid old between
-    → Handles mid q sent now between new → AsksEachAndLast qs q (Ok sent) first now old new
-one_last qs q sent first mid now old between new calm fine so_far handles = record { each = by } where
-  by : (I : Image) → IsGood I → HoldsImage I first.image → (folder : Folder) (W V : World) → Kept I folder W V old (core_state first)
-      → AskedLastBy I folder W V qs q (Ok sent) first now old new
-  by I good holds folder W V kept =
-      let a : AskedBy I folder W V qs (Ok tt) first mid old between = so_far.each I good holds folder W V kept in
-      let s : Succeeds I W qs a.events = a.asks in
-      let X = after I W a.events in
-      let o : AsksOne I folder X a.made.other q sent mid now between new =
-      one_request I good mid now a.holds folder X a.made.other q sent between new calm a.made.kept handles in
-      let success : is_success (request_next I X q o.outcome).reply ≡ true = sym (says_success (request_next I X q o.outcome).reply sent o.says) ∙ fine in
-      let is : o.outcome ≡ Answered = was_answered I X q o.outcome success in
-      let event : a.events ++ Asked q o.outcome ∷ [] ≡ a.events ++ Asked q Answered ∷ [] = ap (λ (x : Outcome). a.events ++ Asked q x ∷ []) is in
-      let reply : (request_next I X q o.outcome).reply ≡ (request_next I (after I W (asked_all qs)) q Answered).reply =
-      ap (λ (x : Outcome). (request_next I X q x).reply) is ∙ ap (λ (l : List Event). (request_next I (after I W l) q Answered).reply) s.events_are in
-      record {
-        events = a.events ++ Asked q o.outcome ∷ [];
-        asks = (
-          record {
-            events_are = event ∙ ap (λ (l : List Event). l ++ Asked q Answered ∷ []) s.events_are ∙ sym (asked-append qs (q ∷ []));
-            answered = succeed_more I W qs q s.answered (subst (λ (r : Reply). is_success r ≡ true) reply success);
-          },
-          subst (λ (r : Reply). Says r sent) reply o.says,
-        );
-        made = ran_more I folder W V a.events (Asked q o.outcome ∷ []) old between new (core_state first) (core_state mid) (core_state now) a.made o.made;
-        holds = o.holds;
-      }
+-- Requests, and one more.
+pub record OneMore {T : Type 0} (I : Image) (folder : Folder) (W V : World) (qs : List Request) (q : Request) (Of : Reply → T → Type 0) (result : Result T Refusal)
+    (first now : Core) (old new : History) : Type 0 where
+  pub events : List Event
+  pub succeeds : Succeeds I W qs events
+  pub outcome : Outcome
+  pub opens : Reopens false outcome []
+  pub asks : AsksOne I (after I W events) q Of result outcome
+  pub made : Ran I folder W V (events ++ Asked q outcome ∷ []) old new (core_state first) (core_state now)
+  pub holds : HoldsImage I now.image
 
--- Without the reply to it.
-pub one_more : (qs : List Request) (q : Request) (sent : Sent) (first mid now : Core) (old between new : History)
-    → mid.faulted ≡ false → is_of_success sent.status ≡ true → AsksEach qs (Ok tt) first mid old between
-    → Handles mid q sent now between new → AsksEach (qs ++ q ∷ []) (Ok tt) first now old new
-one_more qs q sent first mid now old between new calm fine so_far handles = record {
-  each = λ I good holds folder W V kept.
-      let a : AskedLastBy I folder W V qs q (Ok sent) first now old new =
-      (one_last qs q sent first mid now old between new calm fine so_far handles).each I good holds folder W V kept in
-      record { events = a.events; asks = a.asks.0; made = a.made; holds = a.holds };
-}
+pub one_more : {T : Type 0} (qs : List Request) (q : Request) (Of : Reply → T → Type 0) (result : Result T Refusal) (first mid now : Core) (old between new : History)
+    → AsksEach qs (Ok tt) first mid old between → AsksFor q Of result mid now between new
+    → (I : Image) → IsGood I → HoldsImage I first.image → (folder : Folder) (W V : World) → Kept I folder W V old (core_state first)
+    → OneMore I folder W V qs q Of result first now old new
+one_more qs q Of result first mid now old between new so_far asks I good holds folder W V kept =
+    let a : AskedBy I folder W V qs (Ok tt) first mid old between = so_far.each I good holds folder W V kept in
+    let o : AskedOneBy I folder (after I W a.events) a.made.other q Of result mid now between new =
+    asks.each I good a.holds folder (after I W a.events) a.made.other a.made.kept in record {
+      events = a.events;
+      succeeds = a.asks;
+      outcome = o.outcome;
+      opens = o.opens;
+      asks = o.asks;
+      made = ran_more I folder W V a.events (Asked q o.outcome ∷ []) old between new (core_state first) (core_state mid) (core_state now) a.made o.made;
+      holds = o.holds;
+    }
 
--- One more request, which was not.
-pub one_refused : (qs : List Request) (q : Request) (left all : List Request) (sent : Sent) (first mid now : Core)
-    (old between new : History) → all ≡ qs ++ q ∷ left → mid.faulted ≡ false → is_of_success sent.status ≡ false → AsksEach qs (Ok tt) first mid old between
-    → Handles mid q sent now between new → AsksEach all (Err sent) first now old new
-one_refused qs q left all sent first mid now old between new whole calm bad so_far handles = record { each = by } where
-  by : (I : Image) → IsGood I → HoldsImage I first.image → (folder : Folder) (W V : World) → Kept I folder W V old (core_state first)
-      → AskedBy I folder W V all (Err sent) first now old new
-  by I good holds folder W V kept =
-      let a : AskedBy I folder W V qs (Ok tt) first mid old between = so_far.each I good holds folder W V kept in
-      let s : Succeeds I W qs a.events = a.asks in
-      let X = after I W a.events in
-      let o : AsksOne I folder X a.made.other q sent mid now between new =
-      one_request I good mid now a.holds folder X a.made.other q sent between new calm a.made.kept handles in
-      record {
-        events = a.events ++ Asked q o.outcome ∷ [];
-        asks = (
-          (request_next I X q o.outcome).reply,
-          o.says,
-          record {
-            first = qs;
-            last = q;
-            left = left;
-            all = whole;
-            answered = s.answered;
-            outcome = o.outcome;
-            opens = o.opens;
-            reply_is = ap (λ (l : List Event). (request_next I (after I W l) q o.outcome).reply) s.events_are;
-            refused = sym (says_success (request_next I X q o.outcome).reply sent o.says) ∙ bad;
-            events_are = ap (λ (l : List Event). l ++ Asked q o.outcome ∷ []) s.events_are;
-          },
-        );
-        made = ran_more I folder W V a.events (Asked q o.outcome ∷ []) old between new (core_state first) (core_state mid) (core_state now) a.made o.made;
-        holds = o.holds;
-      }
+module _ {T : Type 0} (I : Image) (W : World) (qs : List Request) (q : Request) (Of : Reply → T → Type 0) (events : List Event) (s : Succeeds I W qs events) (outcome : Outcome) where
+  at_asked : after I W events ≡ after I W (asked_all qs)
+  at_asked = ap (after I W) s.events_are
 
--- ---- requests and a last one
+  -- The last one was answered with success.
+  pub all_succeed : (value : T) → AsksOne I (after I W events) q Of (Ok value) outcome → Succeeds I W (qs ++ q ∷ []) (events ++ Asked q outcome ∷ [])
+  all_succeed value asks = record {
+    events_are = ap (λ (o : Outcome). events ++ Asked q o ∷ []) asks.0 ∙ ap (λ (l : List Event). l ++ Asked q Answered ∷ []) s.events_are ∙ sym (asked-append qs (q ∷ []));
+    answered = succeed_more I W qs q s.answered (subst (λ (X : World). is_success (request_next I X q Answered).reply ≡ true) at_asked asks.1);
+  }
 
--- The last one is not answered with success.
-pub last_refused : (qs : List Request) (q : Request) (sent : Sent) (first mid now : Core) (old between new : History)
-    → mid.faulted ≡ false → is_of_success sent.status ≡ false → AsksEach qs (Ok tt) first mid old between
-    → Handles mid q sent now between new → AsksEachAndLast qs q (Err sent) first now old new
-last_refused qs q sent first mid now old between new calm bad so_far handles = record {
-  each = λ I good holds folder W V kept.
-      let a : AskedBy I folder W V (qs ++ q ∷ []) (Err sent) first now old new =
-      (one_refused qs q [] (qs ++ q ∷ []) sent first mid now old between new refl calm bad so_far handles).each I good holds folder W V kept in
-      record { events = a.events; asks = a.asks; made = a.made; holds = a.holds };
-}
-
-stops_before : (I : Image) (W : World) (qs : List Request) (q : Request) (reply : Reply) (events : List Event) → Stops I W qs reply events → Stops I W (qs ++ q ∷ []) reply events
-stops_before I W qs q reply events s = record {
-  first = s.first;
-  last = s.last;
-  left = s.left ++ q ∷ [];
-  all = ap (λ (l : List Request). l ++ q ∷ []) s.all ∙ append_assoc s.first (s.last ∷ s.left) (q ∷ []);
-  answered = s.answered;
-  outcome = s.outcome;
-  opens = s.opens;
-  reply_is = s.reply_is;
-  refused = s.refused;
-  events_are = s.events_are;
-}
-
--- One before it is not, and it is not asked.
-pub first_refused : (qs : List Request) (q : Request) (sent : Sent) (first now : Core) (old new : History) → AsksEach qs (Err sent) first now old new
-    → AsksEachAndLast qs q (Err sent) first now old new
-first_refused qs q sent first now old new asks = record {
-  each = λ I good holds folder W V kept.
-      let a : AskedBy I folder W V qs (Err sent) first now old new = asks.each I good holds folder W V kept in
-      record { events = a.events; asks = (a.asks.0, a.asks.1, stops_before I W qs q a.asks.0 a.events a.asks.2); made = a.made; holds = a.holds };
-}
+  -- It was not, and the others are not asked.
+  pub last_stops : (left all : List Request) → all ≡ qs ++ q ∷ left → Reopens false outcome [] → (refusal : Refusal) → AsksOne I (after I W events) q Of (Err refusal) outcome
+      → Stops I W all (request_next I (after I W events) q outcome).reply (events ++ Asked q outcome ∷ [])
+  last_stops left all whole opens refusal asks = record {
+    first = qs;
+    last = q;
+    left = left;
+    all = whole;
+    answered = s.answered;
+    outcome = outcome;
+    opens = opens;
+    reply_is = ap (λ (X : World). (request_next I X q outcome).reply) at_asked;
+    refused = asks.0;
+    events_are = ap (λ (l : List Event). l ++ Asked q outcome ∷ []) s.events_are;
+  }
 
 -- ---- the requests up to one of them
 
 -- One more,
-pub requests_more : (asks : List Ask) (i : ℕ) (d : Ask) → i < length asks → requests (take (i + 1) asks) ≡ requests (take i asks) ++ request_of (question (get_or asks i d)) ∷ []
-requests_more asks i d below = ap requests (take_more asks i d below) ∙ map-append (λ a. request_of (question a)) (take i asks) (get_or asks i d ∷ [])
+requests_more : (asks : List asked.Request) (i : ℕ) (d : asked.Request) → i < length asks → requests (take (i + 1) asks) ≡ requests (take i asks) ++ request_of (get_or asks i d) ∷ []
+requests_more asks i d below = ap requests (take_more asks i d below) ∙ map-append request_of (take i asks) (get_or asks i d ∷ [])
 
 -- and those after it.
-pub requests_split : (asks : List Ask) (i : ℕ) (d : Ask) → i < length asks
-    → requests asks ≡ requests (take i asks) ++ request_of (question (get_or asks i d)) ∷ requests (drop (i + 1) asks)
+requests_split : (asks : List asked.Request) (i : ℕ) (d : asked.Request) → i < length asks
+    → requests asks ≡ requests (take i asks) ++ request_of (get_or asks i d) ∷ requests (drop (i + 1) asks)
 requests_split asks i d below =
-    ap requests (sym (take-append-drop i asks) ∙ ap (λ (l : List Ask). take i asks ++ l) (drop_more asks i d below))
-    ∙ map-append (λ a. request_of (question a)) (take i asks) (get_or asks i d ∷ drop (i + 1) asks)
-
--- ---- one request of a list
+    ap requests (sym (take-append-drop i asks) ∙ ap (λ (l : List asked.Request). take i asks ++ l) (drop_more asks i d below))
+    ∙ map-append request_of (take i asks) (get_or asks i d ∷ drop (i + 1) asks)
 
 -- One more request of the list was answered with success.
-pub asked_more : (asks : List Ask) (i : ℕ) (ask : Ask) → i < length asks → ask ≡ get_or asks i ask → (sent : Sent) (first mid now : Core)
-    (old between new : History) → mid.faulted ≡ false → is_of_success sent.status ≡ true → AsksEach (requests (take i asks)) (Ok tt) first mid old between
-    → Handles mid (request_of (question ask)) sent now between new → AsksEach (requests (take (i + 1) asks)) (Ok tt) first now old new
-asked_more asks i ask below is sent first mid now old between new calm fine so_far handles =
-    let more : requests (take (i + 1) asks) ≡ requests (take i asks) ++ request_of (question ask) ∷ [] =
-    requests_more asks i ask below ∙ ap (λ (a : Ask). requests (take i asks) ++ request_of (question a) ∷ []) (sym is) in
-    subst (λ (qs : List Request). AsksEach qs (Ok tt) first now old new) (sym more)
-    (one_more (requests (take i asks)) (request_of (question ask)) sent first mid now old between new calm fine so_far handles)
+pub asked_more : {T : Type 0} (Of : Reply → T → Type 0) (value : T) (asks : List asked.Request) (i : ℕ) (ask : asked.Request) → i < length asks → ask ≡ get_or asks i ask
+    → (first mid now : Core) (old between new : History) → AsksEach (requests (take i asks)) (Ok tt) first mid old between
+    → AsksFor (request_of ask) Of (Ok value) mid now between new → AsksEach (requests (take (i + 1) asks)) (Ok tt) first now old new
+asked_more Of value asks i ask below is first mid now old between new so_far one =
+    let qs = requests (take i asks) in
+    let more : requests (take (i + 1) asks) ≡ qs ++ request_of ask ∷ [] =
+    requests_more asks i ask below ∙ ap (λ (a : asked.Request). qs ++ request_of a ∷ []) (sym is) in
+    subst (λ (l : List Request). AsksEach l (Ok tt) first now old new) (sym more) (record {
+      each = λ I good holds folder W V kept.
+          let m = one_more qs (request_of ask) Of (Ok value) first mid now old between new so_far one I good holds folder W V kept in record {
+            events = m.events ++ Asked (request_of ask) m.outcome ∷ [];
+            asks = all_succeed I W qs (request_of ask) Of m.events m.succeeds m.outcome value m.asks;
+            made = m.made;
+            holds = m.holds;
+          };
+    })
 
 -- One was not.
-pub asked_last : (asks : List Ask) (i : ℕ) (ask : Ask) → i < length asks → ask ≡ get_or asks i ask → (sent : Sent) (first mid now : Core)
-    (old between new : History) → mid.faulted ≡ false → is_of_success sent.status ≡ false → AsksEach (requests (take i asks)) (Ok tt) first mid old between
-    → Handles mid (request_of (question ask)) sent now between new → AsksEach (requests asks) (Err sent) first now old new
-asked_last asks i ask below is sent first mid now old between new calm bad so_far handles =
-    one_refused (requests (take i asks)) (request_of (question ask)) (requests (drop (i + 1) asks)) (requests asks) sent first mid now old between new
-    (requests_split asks i ask below ∙ ap (λ (a : Ask). requests (take i asks) ++ request_of (question a) ∷ requests (drop (i + 1) asks)) (sym is)) calm bad so_far handles
-
-error_is : {T E : Type 0} (e f : E) → ◌≡◌ {A = Result T E} (Err e) (Err f) → e ≡ f
-error_is e f is = cc is
-
--- A reply without success tells of a failed disk exactly where the count rose.
-pub stop_cause : {T : Type 0} (sent fault : Sent) (before mid now : ℕ) → mid ≡ before → mid ≤ now → (sent ≡ fault → Rose mid now) → (sent ≢ fault → now ≡ mid)
-    → HasCauseOf {T = T} fault before now (Err sent)
-stop_cause {T = T} sent fault before mid now same later rose kept = record {
-  later = omega arith;
-  failed = λ is. subst (λ (n : ℕ). Rose n now) same (rose (error_is {T = T} sent fault is));
-  kept = tt;
-  other = λ err not. kept (λ is. not (ap (λ (s : Sent). Err s) is)) ∙ same;
+pub asked_last : {T : Type 0} (Of : Reply → T → Type 0) (refusal : Refusal) (asks : List asked.Request) (i : ℕ) (ask : asked.Request) → i < length asks → ask ≡ get_or asks i ask
+    → (first mid now : Core) (old between new : History) → AsksEach (requests (take i asks)) (Ok tt) first mid old between
+    → AsksFor (request_of ask) Of (Err refusal) mid now between new → AsksEach (requests asks) (Err refusal) first now old new
+asked_last Of refusal asks i ask below is first mid now old between new so_far one = record {
+  each = λ I good holds folder W V kept.
+      let qs = requests (take i asks) in
+      let whole : requests asks ≡ qs ++ request_of ask ∷ requests (drop (i + 1) asks) =
+      requests_split asks i ask below ∙ ap (λ (a : asked.Request). qs ++ request_of a ∷ requests (drop (i + 1) asks)) (sym is) in
+      let m = one_more qs (request_of ask) Of (Err refusal) first mid now old between new so_far one I good holds folder W V kept in record {
+        events = m.events ++ Asked (request_of ask) m.outcome ∷ [];
+        asks = (
+          (request_next I (after I W m.events) (request_of ask) m.outcome).reply,
+          m.asks.1,
+          last_stops I W qs (request_of ask) Of m.events m.succeeds m.outcome (requests (drop (i + 1) asks)) (requests asks) whole m.opens refusal m.asks,
+        );
+        made = m.made;
+        holds = m.holds;
+      };
 }

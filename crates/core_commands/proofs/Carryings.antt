@@ -1,60 +1,20 @@
--- A store is opened, and what follows.
-use Rattle.std.proofs.Common.{◌≡◌, inr, false, List, Option, Result, Ok, Err, IfErr, refl, sym, ap}
+-- What follows an opening, and what is told at the end.
+use Rattle.std.proofs.Common.{◌≡◌, inr, List, Option, Result, Ok, Err}
 use Rattle.std.specs.Result.{result_and}
 use Rattle.outside.specs.History.{History}
 use Rattle.outside.specs.Spawner.{Run}
 use Rattle.outside.proofs.Told.{moves_map}
-use Rattle.store_open.specs.Laws.{HoldsImage, IsImageOfFolder}
-use Rattle.store_open.specs.Opening.{Opens}
 use Rattle.store_open.specs.declared.opened.Opened.{Opened}
 use Rattle.store_open.specs.declared.open_error.OpenError.{OpenError}
-use Rattle.store_open.proofs.MachineRuns.{openings_run}
-use Rattle.settings_machine.specs.World.{Image, World, Job, Idle, is_running}
-use Rattle.settings_machine.specs.Opening.{added_keys}
+use Rattle.settings_machine.specs.World.{Image, World, Idle}
 use Rattle.settings_machine.specs.Requests.{Request}
-use Rattle.settings_machine.specs.Step.{noting, opened}
 use Rattle.settings_machine.specs.Events.{Event}
-use Rattle.settings_machine.specs.Paid.{IsGood}
-use Rattle.machine_disk.specs.Kept.{Folder, CoreState, DiskAt}
-use Rattle.machine_disk.specs.Ran.{OpensTo}
-use Rattle.machine_disk.proofs.Runs.{opens_kept}
+use Rattle.machine_disk.specs.Kept.{Folder, CoreState}
 use Rattle.api_core.specs.declared.serving.Core.{Core}
 use Rattle.command_outcome.specs.declared.refusal.Refusal.{Refusal}
 use Rattle.command_outcome.specs.declared.refusal.Refusal.TheVariants as refused
-use Rattle.core_commands.specs.Carried.{Comes, HoldsAll, core_over, Follows, GoesOn, GoesOnFrom, MakesBy, Makes, CarriesOut}
+use Rattle.core_commands.specs.Carried.{Comes, HoldsAll, core_over, Follows, GoesOn, FollowsOpening, CarriesOut}
 use Rattle.core_commands.specs.Handing.{not_opened}
-
--- ---- an opening
-
--- An opening leaves an idle job idle.
-pub opened_job : (I : Image) (W : World) → W.job ≡ Idle → Idle ≡ (opened I W false).job
-unfolding opened
-opened_job I W idle = sym (ap (λ (j : Job). noting j (added_keys I.defaults.values W.held.live.values)) idle)
-
--- The store was opened, and it goes on.
-pub opens_makes : {T : Type 0} (qs : List Request) (Tells : World → T → Type 0) (store : Opened) (result : Result T Refusal) (ran_before ran_after : Option (List Run))
-    (old between new : History) → Opens false (Ok store) old between → GoesOnFrom qs Tells store result ran_before ran_after between new
-    → Makes qs Tells (Ok store) result ran_before ran_after old new
-opens_makes qs Tells store result ran_before ran_after old between new opens goes = record { unopened = tt; each = by } where
-  by : (I : Image) → IsGood I → (folder : Folder) → IsImageOfFolder I folder → (W V : World) → DiskAt I folder W V old → W.job ≡ Idle
-      → GoesOn I folder W V qs Tells store result ran_before ran_after old new
-  by I good folder is W V disk idle =
-      let run : OpensTo I folder W V false store.place store.held old between × HoldsImage I store.image =
-      openings_run I good folder is W V false (Ok store) old between disk (ap is_running idle) opens in
-      record {
-        between = between;
-        opens = run.0;
-        follows = goes.each I good run.1 folder (opened I W false) (opened I W false)
-            (opens_kept I folder W V false store.place store.held old between (core_over store) run.0 refl refl (opened_job I W idle) refl);
-      }
-
--- It was refused.
-pub refusal_makes : {T : Type 0} (qs : List Request) (Tells : World → T → Type 0) (e : OpenError) (result : Result T Refusal) (ran_before ran_after : Option (List Run))
-    (old new : History) → Opens false (Err e) old new → Makes qs Tells (Err e) result ran_before ran_after old new
-refusal_makes qs Tells e result ran_before ran_after old new opens = record {
-  unopened = opens;
-  each = λ I good folder is W V disk idle. openings_run I good folder is W V false (Err e) old new disk (ap is_running idle) opens;
-}
 
 -- ---- what is told at the end
 
@@ -77,7 +37,7 @@ comes_err I W qs P Q (refused.Render file error) asked turned comes = comes
 comes_err I W qs P Q (refused.Status service number) asked turned comes = comes
 comes_err I W qs P Q (refused.Missing at target) asked turned comes = comes
 comes_err I W qs P Q (refused.Conflict key) asked turned comes = comes
-comes_err I W qs P Q (refused.Refused status body) asked turned comes = comes
+comes_err I W qs P Q (refused.Refused refusal) asked turned comes = comes
 comes_err I W qs P Q (refused.AlreadyThere version) asked turned comes = comes
 comes_err I W qs P Q (refused.OldFormat directory) asked turned comes = comes
 comes_err I W qs P Q (refused.GeneratorStatus key number) asked turned comes = comes
@@ -94,35 +54,19 @@ module _ {A B : Type 0} (qs : List Request) (P : World → A → Type 0) (Q : Wo
       record { asked = f.asked; turned = f.turned; comes = step I W f.asked f.turned f.comes; now = f.now; made = f.made; runs = f.runs }
 
   -- From an open store,
-  pub goes_as : (store : Opened) (old new : History) → GoesOnFrom qs P store r ran_before ran_after old new → GoesOnFrom qs Q store s ran_before ran_after old new
+  pub goes_as : (store : Opened) (old new : History) → GoesOn qs P store r ran_before ran_after old new → GoesOn qs Q store s ran_before ran_after old new
   goes_as store old new goes = record { each = λ I good holds folder W V kept. follows_as I folder W V (core_over store) old new (goes.each I good holds folder W V kept) }
 
-  by_opening : (I : Image) (folder : Folder) (W V : World) (opening : Result Opened OpenError) (old new : History) → MakesBy I folder W V qs P opening r ran_before ran_after old new
-      → MakesBy I folder W V qs Q opening s ran_before ran_after old new
-  by_opening I folder W V (Ok store) old new goes =
-      let X = opened I W false in
-      record { between = goes.between; opens = goes.opens; follows = follows_as I folder X X (core_over store) goes.between new goes.follows }
-  by_opening I folder W V (Err e) old new run = run
-
   module _ (hands : (e : OpenError) → r ≡ Err (not_opened e) → s ≡ Err (not_opened e)) where
-    handed : (opening : Result Opened OpenError) → IfErr opening (λ e. r ≡ Err (not_opened e)) → IfErr opening (λ e. s ≡ Err (not_opened e))
-    handed (Ok store) is = tt
-    handed (Err e) is = hands e is
+    followed : (opening : Result Opened OpenError) (between told_after : Option History) → FollowsOpening qs P opening r ran_before ran_after between told_after
+        → FollowsOpening qs Q opening s ran_before ran_after between told_after
+    followed (Ok store) between told_after goes = moves_map (goes_as store) goes
+    followed (Err e) between told_after is = (hands e is.0, is.1, is.2)
 
     -- and with the opening, what is told at the end is another thing of the same.
     pub carries_as : (told_before told_after : Option History) → CarriesOut qs P r ran_before ran_after told_before told_after
         → CarriesOut qs Q s ran_before ran_after told_before told_after
-    carries_as told_before told_after c = record {
-      opening = c.opening;
-      hands = handed c.opening c.hands;
-      unspawned = c.unspawned;
-      makes = moves_map
-          (λ old new (m : Makes qs P c.opening r ran_before ran_after old new). record {
-            unopened = m.unopened;
-            each = λ I good folder is W V disk idle. by_opening I folder W V c.opening old new (m.each I good folder is W V disk idle);
-          })
-          c.makes;
-    }
+    carries_as told_before told_after c = record { opening = c.opening; between = c.between; opens = c.opens; follows = followed c.opening c.between told_after c.follows }
 
 module _ {A B : Type 0} (qs : List Request) (P : World → A → Type 0) (Q : World → B → Type 0) (ran_before ran_after : Option (List Run)) (told_before told_after : Option History) where
   -- A refusal,
@@ -144,7 +88,7 @@ module _ {A B : Type 0} (qs : List Request) (P : World → A → Type 0) (Q : Wo
 
 -- The core that is answered holds what it held; a refusal stays one.
 pub goes_core : (qs : List Request) (core : Core) (done : Result Unit Refusal) (ran_before ran_after : Option (List Run)) (store : Opened) (old new : History)
-    → GoesOnFrom qs (λ W d. HoldsAll W core) store done ran_before ran_after old new → GoesOnFrom qs HoldsAll store (result_and done (Ok core)) ran_before ran_after old new
+    → GoesOn qs (λ W d. HoldsAll W core) store done ran_before ran_after old new → GoesOn qs HoldsAll store (result_and done (Ok core)) ran_before ran_after old new
 goes_core qs core (Ok d) ran_before ran_after store old new goes =
     goes_as qs (λ W d. HoldsAll W core) HoldsAll (Ok d) (Ok core) ran_before ran_after (λ I W asked turned comes. comes) store old new goes
 goes_core qs core (Err e) ran_before ran_after store old new goes =

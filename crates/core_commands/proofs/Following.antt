@@ -4,10 +4,10 @@ use Rattle.std.proofs.lemmas.List.{append-nil}
 use Rattle.outside.specs.History.{History}
 use Rattle.outside.specs.Spawner.{Run}
 use Rattle.outside.proofs.Told.{moves_same, moves_stay, moves_map}
-use Rattle.api_http.specs.Replies.{Sent}
 use Rattle.store_open.specs.Laws.{HoldsImage}
 use Rattle.store_open.specs.declared.opened.Opened.{Opened}
 use Rattle.settings_machine.specs.World.{Image, World, Job, Idle, Failed, Running, is_running}
+use Rattle.settings_machine.specs.Requests as machine
 use Rattle.settings_machine.specs.Requests.{Request, Reply}
 use Rattle.settings_machine.specs.Events.{Event, after}
 use Rattle.settings_machine.specs.Paid.{IsGood}
@@ -20,49 +20,27 @@ use Rattle.machine_disk.proofs.Runs.{ran_none, ran_more}
 use Rattle.machine_disk.proofs.Meanings.{core_holds}
 use Rattle.affected_apply.specs.Turned.{AreEvents}
 use Rattle.command_outcome.specs.declared.refusal.Refusal.{Refusal}
-use Rattle.command_outcome.specs.declared.refusal.Refusal.TheVariants as refused
-use Rattle.api_core.specs.Asks.{Says}
 use Rattle.api_core.specs.Cores.{core_state}
 use Rattle.api_core.specs.Turned.{IsTurned, Turns}
 use Rattle.api_core.specs.declared.serving.Core.{Core}
 use Rattle.core_commands.specs.Asking.{Stops, AskedBy, AsksEach}
-use Rattle.core_commands.specs.Carried.{HasStopped, HasEnded, Comes, HoldsAll, core_over, Follows, GoesOnFrom}
-use Rattle.core_commands.specs.Handing.{failed_for, told_reply, HandsSent, HandsCause, HandsJob, Drives}
-use Rattle.core_commands.proofs.Replied.{not_unopened, IsTold, machines, no_memory, disk, says_told, says_fault}
+use Rattle.core_commands.specs.Carried.{HasEnded, Comes, HoldsAll, core_over, Follows, GoesOn}
+use Rattle.core_commands.specs.Handing as told
+use Rattle.core_commands.specs.Handing.{failed_for, HandsCause, HandsJob, Drives}
 use Rattle.core_commands.proofs.Fresh.{IsFresh, asked_fresh}
 use Rattle.core_commands.proofs.Requested.{succeeds_runs, stops_runs}
 
 module _ {T : Type 0} (I : Image) (W : World) (qs : List Request) (Tells : World → T → Type 0) where
   -- ---- what a refusal comes to
 
-  told_come : (reply : Reply) (asked : List Event) → HasStopped I W qs reply asked [] → (refusal : Refusal) → IsTold reply refusal → Comes I W qs Tells (Err refusal) asked []
-  told_come reply asked stopped refusal (machines r is told) =
-      subst (λ (x : Refusal). Comes I W qs Tells (Err x) asked []) (sym told)
-      (record { refusal = r; stopped = subst (λ (x : Reply). HasStopped I W qs x asked []) is stopped; told = refl })
-  told_come reply asked stopped refusal (no_memory is told) =
-      subst (λ (x : Refusal). Comes I W qs Tells (Err x) asked []) (sym told) (inl (inl (subst (λ (x : Reply). HasStopped I W qs x asked []) is stopped)))
-  told_come reply asked stopped refusal (disk is told) =
-      subst (λ (x : Refusal). Comes I W qs Tells (Err x) asked []) (sym told) (inl (subst (λ (x : Reply). HasStopped I W qs x asked []) is stopped))
-
-  untold_come : (reply : Reply) (sent : Sent) (asked : List Event) → Says reply sent → HasStopped I W qs reply asked [] → (sent.status ≡ 500 → ⊥) → (told : Refusal)
-      → IsTold reply told → Comes I W qs Tells (Err refused.Memory) asked []
-  untold_come reply sent asked says stopped fine told (machines r is told_is) = inl (inr (r, subst (λ (x : Reply). HasStopped I W qs x asked []) is stopped))
-  untold_come reply sent asked says stopped fine told (no_memory is told_is) = inl (inl (subst (λ (x : Reply). HasStopped I W qs x asked []) is stopped))
-  untold_come reply sent asked says stopped fine told (disk is told_is) = absurd (fine (says_fault reply sent says is))
-
   -- A reply without success.
-  stops_come : (reply : Reply) (sent : Sent) (asked : List Event) → Says reply sent → Stops I W qs reply asked → (refusal : Refusal) → HandsSent sent refusal
-      → Comes I W qs Tells (Err refusal) asked []
-  stops_come reply sent asked says stops refusal hands = by hands where
-    stopped : HasStopped I W qs reply asked []
-    stopped = record { stops = stops; no_turns = refl }
-
-    told : IsTold reply (told_reply sent)
-    told = says_told reply sent says stops.refused (λ at is. not_unopened I _ stops.last stops.outcome at stops.opens (sym stops.reply_is ∙ is))
-
-    by : HandsSent sent refusal → Comes I W qs Tells (Err refusal) asked []
-    by (inl is) = subst (λ (x : Refusal). Comes I W qs Tells (Err x) asked []) (sym is) (told_come reply asked stopped (told_reply sent) told)
-    by (inr none) = subst (λ (x : Refusal). Comes I W qs Tells (Err x) asked []) (sym none.0) (untold_come reply sent asked says stopped none.1 (told_reply sent) told)
+  stops_come : (reply : Reply) (asked : List Event) → Stops I W qs reply asked → (refusal : Refusal) → told.Tells reply refusal → Comes I W qs Tells (Err refusal) asked []
+  stops_come (machine.Refused r) asked stops refusal told = subst (λ (x : Refusal). Comes I W qs Tells (Err x) asked []) (sym told) (record { stops = stops; no_turns = refl })
+  stops_come machine.NoMemory asked stops refusal told = subst (λ (x : Refusal). Comes I W qs Tells (Err x) asked []) (sym told) (inl (record { stops = stops; no_turns = refl }))
+  stops_come machine.DiskFault asked stops refusal told = subst (λ (x : Refusal). Comes I W qs Tells (Err x) asked []) (sym told) (inl (record { stops = stops; no_turns = refl }))
+  stops_come (machine.Said body) asked stops refusal told = absurd told
+  stops_come machine.Empty asked stops refusal told = absurd told
+  stops_come (machine.NotOpened at) asked stops refusal told = absurd told
 
   cause_come : (c : Cause) (asked turned : List Event) → HasEnded I W qs (Failed c) asked turned → Comes I W qs Tells (Err (failed_for c)) asked turned
   cause_come cause.Disk asked turned ended = inr ended
@@ -86,21 +64,21 @@ module _ {T : Type 0} (I : Image) (W : World) (qs : List Request) (Tells : World
 -- ---- what follows
 
 -- One of the requests is not answered with success.
-pub follows_stop : {T : Type 0} (qs : List Request) (Tells : World → T → Type 0) (store : Opened) (sent : Sent) (refusal : Refusal) (c now : Core)
-    (ran_before ran_after : Option (List Run)) (old new : History) → core_state c ≡ core_over store → c.image ≡ store.image → HandsSent sent refusal → ran_after ≡ ran_before
-    → AsksEach qs (Err sent) c now old new → GoesOnFrom qs Tells store (Err refusal) ran_before ran_after old new
-follows_stop {T = T} qs Tells store sent refusal c now ran_before ran_after old new before_is image_is hands same asks = record { each = by } where
+pub follows_stop : {T : Type 0} (qs : List Request) (Tells : World → T → Type 0) (store : Opened) (refusal : Refusal) (c now : Core)
+    (ran_before ran_after : Option (List Run)) (old new : History) → core_state c ≡ core_over store → c.image ≡ store.image → ran_after ≡ ran_before
+    → AsksEach qs (Err refusal) c now old new → GoesOn qs Tells store (Err refusal) ran_before ran_after old new
+follows_stop {T = T} qs Tells store refusal c now ran_before ran_after old new before_is image_is same asks = record { each = by } where
   by : (I : Image) → IsGood I → HoldsImage I store.image → (folder : Folder) (W V : World) → Kept I folder W V old (core_over store)
       → Follows I folder W V qs Tells (Err refusal) (core_over store) ran_before ran_after old new
   by I good holds folder W V kept =
-      let a : AskedBy I folder W V qs (Err sent) c now old new =
+      let a : AskedBy I folder W V qs (Err refusal) c now old new =
       asks.each I good (subst (HoldsImage I) (sym image_is) holds) folder W V (subst (Kept I folder W V old) (sym before_is) kept) in
       let s : Stops I W qs a.asks.0 a.events = a.asks.2 in
       let whole : a.events ++ [] ≡ a.events = append-nil a.events in
       record {
         asked = a.events;
         turned = [];
-        comes = stops_come I W qs Tells a.asks.0 sent a.events a.asks.1 s refusal hands;
+        comes = stops_come I W qs Tells a.asks.0 a.events s refusal a.asks.1;
         now = core_state now;
         made = subst (λ (es : List Event). Ran I folder W V es old new (core_over store) (core_state now)) (sym whole)
             (subst (λ (s : CoreState). Ran I folder W V a.events old new s (core_state now)) before_is a.made);
@@ -151,7 +129,7 @@ ends_from qs store c mid now ran_before ran_mid ran_after old between new before
 -- The job failed.
 pub follows_failed : {T : Type 0} (qs : List Request) (Tells : World → T → Type 0) (store : Opened) (refusal : Refusal) (job : Job) (now : CoreState)
     (ran_before ran_after : Option (List Run)) (old new : History) → HandsJob now.job (Some refusal) → EndsFrom qs store job now ran_before ran_after old new
-    → GoesOnFrom qs Tells store (Err refusal) ran_before ran_after old new
+    → GoesOn qs Tells store (Err refusal) ran_before ran_after old new
 follows_failed qs Tells store refusal job now ran_before ran_after old new hands ends = record {
   each = λ I good holds folder W V kept.
       let e : EndsAt I folder W V qs store job now ran_before ran_after old new = ends.each I good holds folder W V kept in
@@ -172,7 +150,7 @@ done_idle before now (inr is) fresh = is
 pub follows_done : {T : Type 0} (qs : List Request) (Tells : World → T → Type 0) (store : Opened) (said : T) (job : Job) (now : CoreState)
     (ran_before ran_after : Option (List Run)) (old new : History) → Drives job now.job (Ok tt) → now.faulted ≡ false
     → ((X : World) → X.held ≡ now.held → X.job ≡ Idle → Tells X said) → EndsFrom qs store job now ran_before ran_after old new
-    → GoesOnFrom qs Tells store (Ok said) ran_before ran_after old new
+    → GoesOn qs Tells store (Ok said) ran_before ran_after old new
 follows_done qs Tells store said job now ran_before ran_after old new drives calm tells ends = record {
   each = λ I good holds folder W V kept.
       let e : EndsAt I folder W V qs store job now ran_before ran_after old new = ends.each I good holds folder W V kept in
@@ -189,7 +167,7 @@ follows_done qs Tells store said job now ran_before ran_after old new drives cal
 -- Turns were made: what the core holds then, or why the job failed.
 pub follows_driven : (qs : List Request) (store : Opened) (result : Result (Unit {0}) Refusal) (job : Job) (now : Core)
     (ran_before ran_after : Option (List Run)) (old new : History) → Drives job (core_state now).job result → OnOk result ((core_state now).faulted ≡ false)
-    → EndsFrom qs store job (core_state now) ran_before ran_after old new → GoesOnFrom qs (λ W done. HoldsAll W now) store result ran_before ran_after old new
+    → EndsFrom qs store job (core_state now) ran_before ran_after old new → GoesOn qs (λ W done. HoldsAll W now) store result ran_before ran_after old new
 follows_driven qs store (Ok done) job now ran_before ran_after old new drives calm ends =
     follows_done qs (λ W done. HoldsAll W now) store done job (core_state now) ran_before ran_after old new drives calm (λ X held job. (held, job)) ends
 follows_driven qs store (Err refusal) job now ran_before ran_after old new drives calm ends =

@@ -1,4 +1,3 @@
-pub mod Replied
 pub mod Asked
 pub mod Requested
 pub mod Fresh
@@ -8,3 +7,4 @@ pub mod Told
 pub mod Causes
 pub mod Paying
 pub mod Commits
+pub mod Stopping

@@ -1,5 +1,5 @@
 -- What a command over an open store comes to, and what it makes of the machine's run.
-use Rattle.std.specs.Prelude.{◌≡◌, ◌⊎◌, ℕ, false, List, [], ◌∷◌, ◌++◌, Option, Result, Ok, Err, OnErr, IfErr, codes, map}
+use Rattle.std.specs.Prelude.{◌≡◌, ◌⊎◌, ℕ, false, List, [], ◌∷◌, ◌++◌, Option, Result, Ok, Err, codes, map}
 use Rattle.outside.specs.History.{History}
 use Rattle.outside.specs.Spawner.{Run}
 use Rattle.outside.specs.Told.{Moves}
@@ -9,13 +9,12 @@ use Rattle.json_trees.specs.declared.scalar.Scalar.{Scalar}
 use Rattle.settings_machine.specs.World.{Key, Image, World, Job, Idle, Failed}
 use Rattle.settings_machine.specs.Requests as machine
 use Rattle.settings_machine.specs.Requests.{Request, DropTx, Patch, Apply, CommitAndApply, Reply, NoMemory, DiskFault}
-use Rattle.settings_machine.specs.Step.{opened}
 use Rattle.settings_machine.specs.Events.{Event, after}
 use Rattle.settings_machine.specs.Paid.{IsGood}
 use Rattle.settings_machine.specs.declared.cause.Cause.TheVariants as cause
-use Rattle.machine_disk.specs.Kept.{Folder, CoreState, DiskAt, Kept}
-use Rattle.machine_disk.specs.Ran.{Ran, IsDriven, OpensTo, RunsBy}
-use Rattle.store_open.specs.Laws.{IsImageOfFolder, HoldsImage, HasRun}
+use Rattle.machine_disk.specs.Kept.{Folder, CoreState, Kept}
+use Rattle.machine_disk.specs.Ran.{Ran, IsDriven, RunsBy}
+use Rattle.store_open.specs.Laws.{HoldsImage}
 use Rattle.store_open.specs.Opening.{Opens}
 use Rattle.store_open.specs.declared.opened.Opened.{Opened}
 use Rattle.store_open.specs.declared.open_error.OpenError.{OpenError}
@@ -24,7 +23,7 @@ use Rattle.command_outcome.specs.declared.refusal.Refusal.TheVariants as refused
 use Rattle.api_core.specs.Cores.{core_state}
 use Rattle.api_core.specs.declared.serving.Core.{Core}
 use Rattle.core_commands.specs.Asking.{Succeeds, Stops}
-use Rattle.core_commands.specs.Handing.{not_opened, as_replied}
+use Rattle.core_commands.specs.Handing.{not_opened}
 
 -- ---- the requests of commands
 
@@ -57,22 +56,14 @@ pub record HasEnded (I : Image) (W : World) (qs : List Request) (job : Job) (ask
   pub driven : IsDriven I (after I W asked) turned
   pub job_is : (after I (after I W asked) turned).job ≡ job
 
--- The machine refuses one of the requests, and its refusal is told by status and body.
-pub record IsRefused (I : Image) (W : World) (qs : List Request) (status : ℕ) (body : List ℕ) (asked turned : List Event) : Type 0 where
-  pub refusal : machine.Refusal
-  pub stopped : HasStopped I W qs (machine.Refused refusal) asked turned
-  pub told : refused.Refused status body ≡ as_replied refusal
-
--- Memory was wanting: for a request, to tell of one that was refused, for a turn, or to tell how the job ended.
+-- Memory was wanting: for a request, for a turn, or to tell how the job ended.
 abbrev pub LacksMemory : Image → World → List Request → List Event → List Event → Type 0
-LacksMemory I W qs asked turned =
-    (HasStopped I W qs NoMemory asked turned ⊎ ((r : machine.Refusal) × HasStopped I W qs (machine.Refused r) asked turned))
-    ⊎ ((job : Job) × HasEnded I W qs job asked turned)
+LacksMemory I W qs asked turned = HasStopped I W qs NoMemory asked turned ⊎ ((job : Job) × HasEnded I W qs job asked turned)
 
 -- What it comes to, by its events: all requests and all turns with an idle job at the end, which is told of the last world; or why not.
 abbrev pub Comes : {T : Type 0} → Image → World → List Request → (World → T → Type 0) → Result T Refusal → List Event → List Event → Type 0
 Comes I W qs Tells (Ok said) asked turned = HasEnded I W qs Idle asked turned × Tells (after I (after I W asked) turned) said
-Comes I W qs Tells (Err (refused.Refused status body)) asked turned = IsRefused I W qs status body asked turned
+Comes I W qs Tells (Err (refused.Refused refusal)) asked turned = HasStopped I W qs (machine.Refused refusal) asked turned
 Comes I W qs Tells (Err (refused.Spawn name)) asked turned = HasEnded I W qs (Failed (cause.Spawn name)) asked turned
 Comes I W qs Tells (Err (refused.Render file error)) asked turned = HasEnded I W qs (Failed (cause.Render file error)) asked turned
 Comes I W qs Tells (Err (refused.Status service number)) asked turned = HasEnded I W qs (Failed (cause.Status service number)) asked turned
@@ -105,34 +96,25 @@ pub record Follows {T : Type 0} (I : Image) (folder : Folder) (W V : World) (qs 
   pub made : Ran I folder W V (asked ++ turned) old new before now
   pub runs : RunsBy I W (asked ++ turned) ran_before ran_after
 
--- The store was opened as the machine opens it, and what follows is made from the opened world.
-pub record GoesOn {T : Type 0} (I : Image) (folder : Folder) (W V : World) (qs : List Request) (Tells : World → T → Type 0) (store : Opened) (result : Result T Refusal)
-    (ran_before ran_after : Option (List Run)) (old new : History) : Type 0 where
-  pub between : History
-  pub opens : OpensTo I folder W V false store.place store.held old between
-  pub follows : Follows I folder (opened I W false) (opened I W false) qs Tells result (core_over store) ran_before ran_after between new
+-- By each image that was read with the store, in each world at which the disk is with the store open.
+pub record GoesOn {T : Type 0} (qs : List Request) (Tells : World → T → Type 0) (store : Opened) (result : Result T Refusal) (ran_before ran_after : Option (List Run))
+    (old new : History) : Type 0 where
+  pub each : (I : Image) → IsGood I → HoldsImage I store.image → (folder : Folder) (W V : World) → Kept I folder W V old (core_over store)
+      → Follows I folder W V qs Tells result (core_over store) ran_before ran_after old new
 
--- What a command makes of the machine's run: its events where the store was opened, and else what the opening that was refused made.
-abbrev pub MakesBy : {T : Type 0} → Image → Folder → World → World → List Request → (World → T → Type 0) → Result Opened OpenError → Result T Refusal
-    → Option (List Run) → Option (List Run) → History → History → Type 0
-MakesBy I folder W V qs Tells (Ok store) result ran_before ran_after old new = GoesOn I folder W V qs Tells store result ran_before ran_after old new
-MakesBy I folder W V qs Tells (Err e) result ran_before ran_after old new = HasRun I folder W V false (Err e) old new
+-- What comes after an opening: requests and turns where it succeeded; why it did not is told as it is, and then nothing more is done.
+abbrev pub FollowsOpening : {T : Type 0} → List Request → (World → T → Type 0) → Result Opened OpenError → Result T Refusal → Option (List Run) → Option (List Run)
+    → Option History → Option History → Type 0
+FollowsOpening qs Tells (Ok store) result ran_before ran_after between told_after = Moves between told_after (GoesOn qs Tells store result ran_before ran_after)
+FollowsOpening qs Tells (Err e) result ran_before ran_after between told_after = (result ≡ Err (not_opened e)) × (told_after ≡ between) × (ran_after ≡ ran_before)
 
--- By each image that the folder makes, and in each world without a job at which the disk is. What a refused opening leaves is said of every disk.
-pub record Makes {T : Type 0} (qs : List Request) (Tells : World → T → Type 0) (opening : Result Opened OpenError) (result : Result T Refusal)
-    (ran_before ran_after : Option (List Run)) (old new : History) : Type 0 where
-  pub unopened : OnErr opening (Opens false opening old new)
-  pub each : (I : Image) → IsGood I → (folder : Folder) → IsImageOfFolder I folder → (W V : World) → DiskAt I folder W V old → W.job ≡ Idle
-      → MakesBy I folder W V qs Tells opening result ran_before ran_after old new
-
--- The store is opened, without boot; requests are asked, and turns made until no job runs. Why it was not opened is told as it is,
--- and then no program was run.
+-- The store is opened, without boot; requests are asked, and turns made until no job runs.
 pub record CarriesOut {T : Type 0} (qs : List Request) (Tells : World → T → Type 0) (result : Result T Refusal) (ran_before ran_after : Option (List Run))
     (told_before told_after : Option History) : Type 0 where
   pub opening : Result Opened OpenError
-  pub hands : IfErr opening (λ e. result ≡ Err (not_opened e))
-  pub unspawned : OnErr opening (ran_after ≡ ran_before)
-  pub makes : Moves told_before told_after (Makes qs Tells opening result ran_before ran_after)
+  pub between : Option History
+  pub opens : Moves told_before between (Opens false opening)
+  pub follows : FollowsOpening qs Tells opening result ran_before ran_after between told_after
 
 -- Memory was wanting before it began.
 pub record HasNotBegun {T : Type 0} (result : Result T Refusal) (ran_before ran_after : Option (List Run)) (told_before told_after : Option History) : Type 0 where
@@ -144,11 +126,3 @@ pub record HasNotBegun {T : Type 0} (result : Result T Refusal) (ran_before ran_
 abbrev pub Carried : {T : Type 0} → List Request → (World → T → Type 0) → Result T Refusal → Option (List Run) → Option (List Run) → Option History → Option History → Type 0
 Carried qs Tells result ran_before ran_after told_before told_after =
     CarriesOut qs Tells result ran_before ran_after told_before told_after ⊎ HasNotBegun result ran_before ran_after told_before told_after
-
--- ---- for private clauses
-
--- By each image that was read with the store, in each world at which the disk is with the store open.
-pub record GoesOnFrom {T : Type 0} (qs : List Request) (Tells : World → T → Type 0) (store : Opened) (result : Result T Refusal) (ran_before ran_after : Option (List Run))
-    (old new : History) : Type 0 where
-  pub each : (I : Image) → IsGood I → HoldsImage I store.image → (folder : Folder) (W V : World) → Kept I folder W V old (core_over store)
-      → Follows I folder W V qs Tells result (core_over store) ran_before ran_after old new

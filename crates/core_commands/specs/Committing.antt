@@ -1,10 +1,10 @@
 -- What a commit of pairs to an open store comes to, and what it makes of the machine's run.
-use Rattle.std.specs.Prelude.{◌≡◌, ◌++◌, ◌⊎◌, ℕ, List, [], ◌∷◌, Result, Ok, Err}
+use Rattle.std.specs.Prelude.{◌≡◌, ◌++◌, ◌⊎◌, ℕ, List, [], ◌∷◌, Ok, Err}
 use Rattle.outside.specs.History.{History}
 use Rattle.json_trees.specs.declared.scalar.Scalar.{Scalar}
 use Rattle.serde_json.specs.Written.{compact_text}
-use Rattle.api_http.specs.Replies.{Sent}
 use Rattle.held_text.specs.HeldText.{keys_data}
+use Rattle.machine_answers.specs.Bodies.{IsTextOf}
 use Rattle.settings_machine.specs.World.{Key, Image, World}
 use Rattle.settings_machine.specs.Requests as machine
 use Rattle.settings_machine.specs.Requests.{Request, DropTx, Patch, Commit, NoMemory, DiskFault, Said, KeyList}
@@ -16,11 +16,9 @@ use Rattle.machine_disk.specs.Ran.{Ran}
 use Rattle.store_open.specs.Laws.{HoldsImage}
 use Rattle.store_open.specs.declared.opened.Opened.{Opened}
 use Rattle.command_outcome.specs.Ends.{Outcome}
-use Rattle.command_outcome.specs.declared.refusal.Refusal.{Refusal}
 use Rattle.command_outcome.specs.declared.refusal.Refusal.TheVariants as refused
 use Rattle.core_commands.specs.Asking.{asked_all, Succeeds, Stops}
 use Rattle.core_commands.specs.Carried.{puts_of, core_over}
-use Rattle.core_commands.specs.Handing.{as_replied, HandsSent}
 
 -- ---- the requests
 
@@ -48,20 +46,14 @@ pub record IsKeysLine (I : Image) (W : World) (tx : List ℕ) (pairs : List (Key
 
 -- ---- what it comes to
 
--- The machine refuses one of the requests, and its refusal is told by status and body.
-pub record IsPatchRefused (I : Image) (W : World) (qs : List Request) (status : ℕ) (body : List ℕ) (events : List Event) : Type 0 where
-  pub refusal : machine.Refusal
-  pub stops : Stops I W qs (machine.Refused refusal) events
-  pub told : refused.Refused status body ≡ as_replied refusal
-
--- Memory was wanting: before the first request, for one of them, to tell of one that was refused, or to tell how they ended.
+-- Memory was wanting: before the first request, or for one of them.
 abbrev pub LacksRoom : Image → World → List Request → List Event → Type 0
-LacksRoom I W qs events = (events ≡ []) ⊎ (Stops I W qs NoMemory events ⊎ (((r : machine.Refusal) × Stops I W qs (machine.Refused r) events) ⊎ Succeeds I W qs events))
+LacksRoom I W qs events = (events ≡ []) ⊎ Stops I W qs NoMemory events
 
 -- What it comes to, by its events, from W: all requests are answered with success, and the keys are told; or why not.
 abbrev pub ComesTo : Image → World → List ℕ → List (Key × Scalar) → Outcome → List Event → Type 0
 ComesTo I W tx pairs (Ok line) events = Succeeds I W (commit_requests tx pairs) events × IsKeysLine I W tx pairs line
-ComesTo I W tx pairs (Err (refused.Refused status body)) events = IsPatchRefused I W (commit_requests tx pairs) status body events
+ComesTo I W tx pairs (Err (refused.Refused refusal)) events = Stops I W (commit_requests tx pairs) (machine.Refused refusal) events
 ComesTo I W tx pairs (Err refused.Disk) events = Stops I W (commit_requests tx pairs) DiskFault events
 ComesTo I W tx pairs (Err refused.Memory) events = LacksRoom I W (commit_requests tx pairs) events
 ComesTo I W tx pairs (Err _) events = ⊥
@@ -79,18 +71,9 @@ pub record Commits (tx : List ℕ) (pairs : List (Key × Scalar)) (store : Opene
   pub each : (I : Image) → IsGood I → HoldsImage I store.image → (folder : Folder) (W V : World) → Kept I folder W V old (core_over store)
       → IsCommitted I folder W V tx pairs outcome (core_over store) old new
 
--- Why pairs were not committed: the machine refuses them, or the disk or memory failed.
-abbrev pub IsOfCommit : Refusal → Type 0
-IsOfCommit (refused.Refused status body) = Unit {0}
-IsOfCommit refused.Disk = Unit {0}
-IsOfCommit refused.Memory = Unit {0}
-IsOfCommit _ = ⊥
-
 -- ---- for private clauses
 
--- How the reply to the commit is told: its body as a line, or that memory was wanting for it; and a reply without success as what it is.
-abbrev pub HandsLast : Result Sent Sent → Outcome → Type 0
-HandsLast (Ok sent) (Ok line) = line ≡ sent.body ++ 10 ∷ []
-HandsLast (Ok sent) (Err refusal) = refusal ≡ refused.Memory
-HandsLast (Err sent) (Ok line) = ⊥
-HandsLast (Err sent) (Err refusal) = HandsSent sent refusal
+-- The line is the text of the body that the machine replies, and a line feed.
+abbrev pub IsBodyLine : machine.Reply → List ℕ → Type 0
+IsBodyLine (Said body) line = (text : List ℕ) × IsTextOf body text × (line ≡ text ++ 10 ∷ [])
+IsBodyLine _ line = Unit {0}

@@ -1,8 +1,7 @@
 -- How refusals of lower calls are handed on.
-use Rattle.std.specs.Prelude.{◌≡◌, ◌≢◌, ◌==◌, ◌≤◌, ◌⊎◌, ⊤, ℕ, List, Option, Some, None, Result, Ok, Err, false, if◌then◌else◌}
+use Rattle.std.specs.Prelude.{◌≡◌, ◌≢◌, ◌≤◌, ◌⊎◌, ⊤, ℕ, List, Option, Some, None, Result, Ok, Err, false}
 use Rattle.std.specs.Result.{IsErrOf}
 use Rattle.outside.specs.Faults.{Rose}
-use Rattle.api_http.specs.Replies.{Sent, status_of, refusal_text}
 use Rattle.settings_machine.specs.World.{Job, Idle, Failed, Running, is_running}
 use Rattle.settings_machine.specs.Requests as machine
 use Rattle.settings_machine.specs.declared.cause.Cause.{Cause}
@@ -11,7 +10,6 @@ use Rattle.store_open.specs.declared.open_error.OpenError.{OpenError}
 use Rattle.store_open.specs.declared.open_error.OpenError.TheVariants as opening
 use Rattle.command_outcome.specs.declared.refusal.Refusal.{Refusal}
 use Rattle.command_outcome.specs.declared.refusal.Refusal.TheVariants as refused
-use Rattle.machine_answers.specs.Answers.{refusal_of}
 
 -- Why a store was not opened, as it is.
 abbrev pub not_opened : OpenError → Refusal
@@ -25,9 +23,12 @@ not_opened (opening.IllTyped key) = refused.IllTyped key
 not_opened opening.Failed = refused.Disk
 not_opened opening.Memory = refused.Memory
 
--- The machine's refusal of a request, by the status and the body of the reply that a client of the socket would get.
-abbrev pub as_replied : machine.Refusal → Refusal
-as_replied r = refused.Refused (status_of (refusal_of r)).0 (refusal_text (refusal_of r))
+-- How a reply that isn't of success is told.
+abbrev pub Tells : machine.Reply → Refusal → Type 0
+Tells (machine.Refused r) refusal = refusal ≡ refused.Refused r
+Tells machine.NoMemory refusal = refusal ≡ refused.Memory
+Tells machine.DiskFault refusal = refusal ≡ refused.Disk
+Tells _ refusal = ⊥
 
 -- Why a job failed, as it is.
 abbrev pub failed_for : Cause → Refusal
@@ -60,12 +61,9 @@ abbrev pub Drives : Job → Job → Result Unit Refusal → Type 0
 Drives before now (Ok done) = ((is_running before ≡ false) × (now ≡ before)) ⊎ (now ≡ Idle)
 Drives before now (Err refusal) = HandsJob now (Some refusal)
 
--- ---- for private clauses
-
--- What a reply that isn't of success is told as, where memory serves.
-abbrev pub told_reply : Sent → Refusal
-told_reply sent = if sent.status == 500 then refused.Disk else if sent.status == 503 then refused.Memory else refused.Refused sent.status sent.body
-
--- It is told so; or memory was wanting for it, and the disk had not failed.
-abbrev pub HandsSent : Sent → Refusal → Type 0
-HandsSent sent refusal = (refusal ≡ told_reply sent) ⊎ ((refusal ≡ refused.Memory) × (sent.status ≢ 500))
+-- Why a request was not answered with success: the machine refuses it, or the disk or memory failed.
+abbrev pub IsOfRequest : Refusal → Type 0
+IsOfRequest (refused.Refused refusal) = ⊤
+IsOfRequest refused.Disk = ⊤
+IsOfRequest refused.Memory = ⊤
+IsOfRequest _ = ⊥

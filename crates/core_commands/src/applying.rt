@@ -6,10 +6,10 @@ ghost use Rattle.core_commands.specs.Handing.{HasSpawnCause};
 ghost use Rattle.core_commands.specs.Lines.{IsJobLine};
 
 use crate::telling::{Telling, carry_and_tell};
-use api_http::Ask;
 use command_outcome::Refusal;
 use key_names::Bytes;
 use outside::{Disk, Spawner};
+use settings_machine::Request;
 use std::alloc::Global;
 
 /// Applies what is owed: opens the store, without boot; asks for the job; makes turns until no job runs; and answers what a client
@@ -27,5 +27,5 @@ pub fn apply<D: Disk, S: Spawner>(
     ensures spawn { HasSpawnCause (S.faults spawner.old) (S.faults spawner.new) result }
     ensures asked { S.asked spawner.new ≡ S.asked spawner.old }
 {
-    carry_and_tell(alloc, &[Ask::Apply], Telling::Job, disk, spawner)
+    carry_and_tell(alloc, &[Request::Apply], Telling::Job, disk, spawner)
 }

@@ -1,76 +1,115 @@
-//! Requests are asked one after another.
-ghost use Rattle.std.specs.Prelude.{◌≡◌, ◌≢◌, All, Ok, Err, IfErr, OnOk, false, true};
+//! Requests are asked: each is planned and then committed.
+ghost use Rattle.std.specs.Prelude.{◌≡◌, All, IfOk, IfErr, OnOk, false};
 ghost use Rattle.outside.specs.Told.{Moves};
 ghost use Rattle.outside.specs.Faults.{HasCauseOf};
-ghost use Rattle.api_http.specs.Questions.{question, IsProper};
-ghost use Rattle.api_http.specs.Replies.{refused, is_of_success};
-ghost use Rattle.machine_answers.specs.Asks.{request_of};
+ghost use Rattle.settings_machine.specs.Asked.{request_of};
+ghost use Rattle.settings_machine.specs.Requests.{IsProper};
 ghost use Rattle.api_core.specs.Cores.{core_state, IsSound};
-ghost use Rattle.core_commands.specs.Asking.{AsksEach, AsksEachAndLast, requests};
+ghost use Rattle.machine_answers.specs.Replies.{reply_of, MayPrint};
+ghost use Rattle.core_commands.specs.Asking.{AsksEach, AsksFor, TellsReply, requests};
+ghost use Rattle.core_commands.specs.Committing.{IsBodyLine};
+ghost use Rattle.core_commands.specs.Handing.{IsOfRequest};
 
-use api_core::Core;
-use api_http::{Ask, Refusal, Reply};
+use crate::lines::line_of;
+use api_core::{Core, Planned};
+use command_outcome::Refusal;
+use key_names::Bytes;
+use machine_answers::Answer;
 use outside::Disk;
-use std::alloc::Global;
+use settings_machine::Request;
+use std::alloc::{AllocError, Global};
 
-/// Asks one request after another, until one isn't answered with success; the reply to that is answered.
+// Why a request was refused, if it was.
+fn refused(answer: Answer) -> Result<(), Refusal>
+    ensures { TellsReply (λ reply done. Unit {0}) (reply_of answer) result }
+{
+    match answer {
+        Answer::Said(_) | Answer::Empty => Ok(()),
+        Answer::Refused(refusal) => Err(Refusal::Refused(refusal)),
+    }
+}
+
+// Asks one request.
+fn ask<D: Disk>(
+    alloc: Global,
+    core: &mut Core,
+    request: &Request,
+    disk: &mut D,
+) -> Result<(), Refusal>
+    requires sound { IsSound core.old }
+    requires calm { (core_state core.old).faulted ≡ false }
+    requires proper { IsProper (request_of request.now) }
+    ensures asks { Moves (D.told disk.old) (D.told disk.new)
+        (AsksFor (request_of request.now) (λ reply done. Unit {0}) result core.old core.new) }
+    ensures sound { IsSound core.new }
+    ensures calm { OnOk result ((core_state core.new).faulted ≡ false) }
+    ensures of_request { IfErr result IsOfRequest }
+    ensures cause { HasCauseOf Refusal.Disk (D.faults disk.old) (D.faults disk.new) result }
+{
+    let Planned { answer, effect } = core.plan(alloc, request)?;
+    core.commit(alloc, disk, effect)?;
+    refused(answer)
+}
+
+/// Asks one request after another, until one isn't answered with success. No call of the disk has failed since the store was opened,
+/// and each key of a `Patch` begins with `settings`.
 ///
-/// No call of the disk has failed since the store was opened, and each request is one that a client may ask. So a reply with status
-/// 500 tells that the disk failed, one with 503 that memory was wanting, and one with 4xx comes exactly by the machine.
+/// `Refused` comes exactly where the machine refuses a request, `Disk` where the disk failed, and `Memory` where memory was wanting.
 pub(crate) fn ask_each<D: Disk>(
     alloc: Global,
     core: &mut Core,
-    asks: &[Ask],
+    asks: &[Request],
     disk: &mut D,
-) -> Result<(), Reply>
+) -> Result<(), Refusal>
     requires sound { IsSound core.old }
     requires calm { (core_state core.old).faulted ≡ false }
-    requires proper { All (λ ask. IsProper (question ask)) asks.now }
+    requires proper { All (λ ask. IsProper (request_of ask)) asks.now }
 
     // They are requests of the machine, on the disk and in the core, crash included.
     ensures asks { Moves (D.told disk.old) (D.told disk.new)
         (AsksEach (requests asks.now) result core.old core.new) }
     ensures sound { IsSound core.new }
     ensures calm { OnOk result ((core_state core.new).faulted ≡ false) }
-    ensures fault { IfErr result (λ reply. reply.status ≡ 500 → reply ≡ refused Refusal.DiskFault) }
-    ensures cause { HasCauseOf (refused Refusal.DiskFault) (D.faults disk.old) (D.faults disk.new) result }
+    ensures of_request { IfErr result IsOfRequest }
+    ensures cause { HasCauseOf Refusal.Disk (D.faults disk.old) (D.faults disk.new) result }
 {
-    for ask in asks {
-        let reply = core.handle(alloc, ask, disk);
-        if !reply.is_of_success() {
-            return Err(reply);
-        }
+    for request in asks {
+        ask(alloc, core, request, disk)?;
     }
     Ok(())
 }
 
-/// Asks one request after another and then a last one, until one isn't answered with success; the reply to that is the error. It
-/// answers the reply to the last one. It is for a store like that of `ask_each`, and the replies tell the same.
-pub(crate) fn ask_each_and_last<D: Disk>(
+// The line that tells an answer, or why the request was refused; the error is out of memory.
+fn line_told(alloc: Global, answer: Answer) -> Result<Result<Bytes, Refusal>, AllocError>
+    requires { MayPrint answer }
+    ensures { IfOk result (TellsReply IsBodyLine (reply_of answer)) }
+{
+    match answer {
+        Answer::Said(body) => Ok(Ok(line_of(alloc, &body.text(alloc)?)?)),
+        Answer::Empty => Ok(Ok(Bytes::of(Vec::new(alloc)))),
+        Answer::Refused(refusal) => Ok(Err(Refusal::Refused(refusal))),
+    }
+}
+
+/// Asks one request, and answers the text of what it is answered, and a line feed, which is printed before anything is written.
+/// It is for a core like that of `ask_each`, and its errors tell the same.
+pub(crate) fn ask_and_print<D: Disk>(
     alloc: Global,
     core: &mut Core,
-    asks: &[Ask],
-    last: &Ask,
+    request: &Request,
     disk: &mut D,
-) -> Result<Reply, Reply>
+) -> Result<Bytes, Refusal>
     requires sound { IsSound core.old }
     requires calm { (core_state core.old).faulted ≡ false }
-    requires proper { All (λ ask. IsProper (question ask)) asks.now }
-    requires proper_last { IsProper (question last.now) }
+    requires proper { IsProper (request_of request.now) }
     ensures asks { Moves (D.told disk.old) (D.told disk.new)
-        (AsksEachAndLast (requests asks.now) (request_of (question last.now)) result core.old core.new) }
+        (AsksFor (request_of request.now) IsBodyLine result core.old core.new) }
     ensures sound { IsSound core.new }
-    ensures calm { OnOk result ((core_state core.new).faulted ≡ false) }
-    ensures fault { IfErr result (λ reply. reply.status ≡ 500 → reply ≡ refused Refusal.DiskFault) }
-    ensures cause { HasCauseOf (refused Refusal.DiskFault) (D.faults disk.old) (D.faults disk.new) result }
+    ensures of_request { IfErr result IsOfRequest }
+    ensures cause { HasCauseOf Refusal.Disk (D.faults disk.old) (D.faults disk.new) result }
 {
-    if let Err(reply) = ask_each(alloc, core, asks, disk) {
-        return Err(reply);
-    }
-    let reply = core.handle(alloc, last, disk);
-    if reply.is_of_success() {
-        Ok(reply)
-    } else {
-        Err(reply)
-    }
+    let Planned { answer, effect } = core.plan(alloc, request)?;
+    let line = line_told(alloc, answer)?;
+    core.commit(alloc, disk, effect)?;
+    line
 }

@@ -3,20 +3,21 @@ ghost use Rattle.std.specs.Prelude.{◌≡◌, All, Ok, false};
 ghost use Rattle.std.specs.Result.{result_and};
 ghost use Rattle.outside.specs.Told.{Moves};
 ghost use Rattle.outside.specs.Faults.{HasCauseOf};
-ghost use Rattle.api_http.specs.Questions.{question, IsProper};
+ghost use Rattle.settings_machine.specs.Asked.{request_of};
+ghost use Rattle.settings_machine.specs.Requests.{IsProper};
 ghost use Rattle.store_open.specs.Opening.{IsSoundOpened};
 ghost use Rattle.api_core.specs.Cores.{core_state, IsSound};
 ghost use Rattle.core_commands.specs.Asking.{requests};
-ghost use Rattle.core_commands.specs.Carried.{CarriesOut, GoesOnFrom, HoldsAll, IsOver};
+ghost use Rattle.core_commands.specs.Carried.{CarriesOut, GoesOn, HoldsAll, IsOver};
 ghost use Rattle.core_commands.specs.Handing.{HasSpawnCause};
 
 use crate::asking::ask_each;
 use crate::driving::drive;
-use crate::handing::{not_opened, refused};
+use crate::handing::not_opened;
 use api_core::Core;
-use api_http::Ask;
 use command_outcome::Refusal;
 use outside::{Disk, Spawner};
+use settings_machine::Request;
 use std::alloc::Global;
 use store_open::{Opened, open_store};
 
@@ -24,22 +25,20 @@ use store_open::{Opened, open_store};
 fn ask_and_drive<D: Disk, S: Spawner>(
     alloc: Global,
     core: &mut Core,
-    asks: &[Ask],
+    asks: &[Request],
     disk: &mut D,
     spawner: &mut S,
 ) -> Result<(), Refusal>
     requires sound { IsSound core.old }
     requires calm { (core_state core.old).faulted ≡ false }
-    requires proper { All (λ ask. IsProper (question ask)) asks.now }
+    requires proper { All (λ ask. IsProper (request_of ask)) asks.now }
     ensures goes { (store : Opened) → IsOver core.old store → Moves (D.told disk.old) (D.told disk.new)
-        (GoesOnFrom (requests asks.now) (λ W done. HoldsAll W core.new) store result (S.runs spawner.old) (S.runs spawner.new)) }
+        (GoesOn (requests asks.now) (λ W done. HoldsAll W core.new) store result (S.runs spawner.old) (S.runs spawner.new)) }
     ensures cause { HasCauseOf Refusal.Disk (D.faults disk.old) (D.faults disk.new) result }
     ensures spawn { HasSpawnCause (S.faults spawner.old) (S.faults spawner.new) result }
     ensures asked { S.asked spawner.new ≡ S.asked spawner.old }
 {
-    if let Err(reply) = ask_each(alloc, core, asks, disk) {
-        return Err(refused(alloc, &reply));
-    }
+    ask_each(alloc, core, asks, disk)?;
     drive(alloc, core, disk, spawner)
 }
 
@@ -54,14 +53,14 @@ fn once_done<T: Drop>(done: Result<(), Refusal>, value: T) -> Result<T, Refusal>
 fn go_on<D: Disk, S: Spawner>(
     alloc: Global,
     store: Opened,
-    asks: &[Ask],
+    asks: &[Request],
     disk: &mut D,
     spawner: &mut S,
 ) -> Result<Core, Refusal>
     requires opened { IsSoundOpened store }
-    requires proper { All (λ ask. IsProper (question ask)) asks.now }
+    requires proper { All (λ ask. IsProper (request_of ask)) asks.now }
     ensures goes { Moves (D.told disk.old) (D.told disk.new)
-        (GoesOnFrom (requests asks.now) HoldsAll store result (S.runs spawner.old) (S.runs spawner.new)) }
+        (GoesOn (requests asks.now) HoldsAll store result (S.runs spawner.old) (S.runs spawner.new)) }
     ensures cause { HasCauseOf Refusal.Disk (D.faults disk.old) (D.faults disk.new) result }
     ensures spawn { HasSpawnCause (S.faults spawner.old) (S.faults spawner.new) result }
     ensures asked { S.asked spawner.new ≡ S.asked spawner.old }
@@ -78,11 +77,11 @@ fn go_on<D: Disk, S: Spawner>(
 /// `Spawn`, `Render` or `Status` where the job failed so. `Disk` where the disk failed; `Memory` where memory is wanting.
 pub(crate) fn carry<D: Disk, S: Spawner>(
     alloc: Global,
-    asks: &[Ask],
+    asks: &[Request],
     disk: &mut D,
     spawner: &mut S,
 ) -> Result<Core, Refusal>
-    requires proper { All (λ ask. IsProper (question ask)) asks.now }
+    requires proper { All (λ ask. IsProper (request_of ask)) asks.now }
     ensures carries { CarriesOut (requests asks.now) HoldsAll result
         (S.runs spawner.old) (S.runs spawner.new) (D.told disk.old) (D.told disk.new) }
     ensures cause { HasCauseOf Refusal.Disk (D.faults disk.old) (D.faults disk.new) result }

@@ -4,49 +4,45 @@ ghost use Rattle.outside.specs.Told.{Moves};
 ghost use Rattle.outside.specs.Faults.{HasCauseOf};
 ghost use Rattle.key_names.specs.Key.{is_prefix};
 ghost use Rattle.settings_tree.specs.Content.{settings_key};
-ghost use Rattle.api_http.specs.Questions.{question, IsProper};
+ghost use Rattle.settings_machine.specs.Asked.{request_of};
+ghost use Rattle.settings_machine.specs.Requests.{IsProper};
 ghost use Rattle.store_open.specs.Opening.{IsSoundOpened};
 ghost use Rattle.api_core.specs.Cores.{core_state, IsSound};
 ghost use Rattle.core_commands.specs.Asking.{requests};
 ghost use Rattle.core_commands.specs.Carried.{IsOver};
-ghost use Rattle.core_commands.specs.Committing.{patch_requests, Commits, IsOfCommit, HandsLast};
+ghost use Rattle.core_commands.specs.Handing.{IsOfRequest};
+ghost use Rattle.core_commands.specs.Committing.{patch_requests, Commits};
 
-use crate::asking::ask_each_and_last;
-use crate::handing::refused;
+use crate::asking::{ask_and_print, ask_each};
 use crate::lines::line_of;
 use crate::setting::puts_of;
 use api_core::Core;
-use api_http::{Ask, Reply};
 use command_outcome::Refusal;
 use key_names::{Bytes, Key, Text};
 use outside::Disk;
+use settings_machine::Request;
 use settings_tree::{Scalar, TxName};
 use std::alloc::{AllocError, Global};
 use store_open::Opened;
 
 // The requests before the commit: the transaction is dropped, and patched with the pairs.
-fn patch_asks(alloc: Global, tx: &TxName, pairs: &[(Key, Scalar)]) -> Result<[Ask; 2], AllocError>
+fn patch_asks(
+    alloc: Global,
+    tx: &TxName,
+    pairs: &[(Key, Scalar)],
+) -> Result<[Request; 2], AllocError>
     requires settings { All (λ pair. IsTrue (is_prefix settings_key pair.0)) pairs.now }
     ensures requests { IfOk result (λ asks. requests asks ≡ patch_requests tx.now pairs.now) }
-    ensures proper { IfOk result (λ asks. All (λ ask. IsProper (question ask)) asks) }
+    ensures proper { IfOk result (λ asks. All (λ ask. IsProper (request_of ask)) asks) }
 {
     let puts = puts_of(alloc, pairs)?;
     Ok([
-        Ask::DropTx { tx: tx.copy()? },
-        Ask::Patch {
+        Request::DropTx { tx: tx.copy()? },
+        Request::Patch {
             tx: tx.copy()?,
             pairs: puts,
         },
     ])
-}
-
-// The body of the reply, as a line.
-fn body_line(alloc: Global, reply: &Reply) -> Result<Bytes, AllocError>
-    ensures { IfOk result (λ line. line ≡ reply.now.body ++ 10 ∷ []) }
-{
-    let mut line = reply.body().to_vec(alloc)?;
-    line.push(b'\n')?;
-    Ok(Bytes::of(line))
 }
 
 // The line that tells of no keys.
@@ -56,16 +52,6 @@ fn no_keys(alloc: Global) -> Result<Bytes, Refusal>
 {
     let text = Text::from_str(alloc, "[]")?;
     Ok(line_of(alloc, &text)?)
-}
-
-// How the reply to the commit is told.
-fn told(alloc: Global, replied: Result<Reply, Reply>) -> Result<Bytes, Refusal>
-    ensures { HandsLast replied result }
-{
-    match replied {
-        Ok(reply) => Ok(body_line(alloc, &reply)?),
-        Err(reply) => Err(refused(alloc, &reply)),
-    }
 }
 
 // Commits the pairs to the core of a store that was just opened: see `commit_pairs`.
@@ -80,15 +66,15 @@ fn commit_by<D: Disk>(
     requires calm { (core_state core.old).faulted ≡ false }
     requires settings { All (λ pair. IsTrue (is_prefix settings_key pair.0)) pairs.now }
     ensures commits { (store : Opened) → IsOver core.old store → Moves (D.told disk.old) (D.told disk.new) (Commits tx pairs.now store result) }
-    ensures of_commit { IfErr result IsOfCommit }
+    ensures of_request { IfErr result IsOfRequest }
     ensures cause { HasCauseOf Refusal.Disk (D.faults disk.old) (D.faults disk.new) result }
 {
     if pairs.is_empty() {
         return no_keys(alloc);
     }
     let asks = patch_asks(alloc, &tx, pairs)?;
-    let replied = ask_each_and_last(alloc, core, &asks, &Ask::Commit { tx }, disk);
-    told(alloc, replied)
+    ask_each(alloc, core, &asks, disk)?;
+    ask_and_print(alloc, core, &Request::Commit { tx }, disk)
 }
 
 /// Commits pairs to a store that was just opened: drops the transaction, patches it with the pairs in order, and commits it. It
@@ -107,7 +93,7 @@ pub fn commit_pairs<D: Disk>(
     requires opened { IsSoundOpened store }
     requires settings { All (λ pair. IsTrue (is_prefix settings_key pair.0)) pairs.now }
     ensures commits { Moves (D.told disk.old) (D.told disk.new) (Commits tx pairs.now store result) }
-    ensures of_commit { IfErr result IsOfCommit }
+    ensures of_request { IfErr result IsOfRequest }
     ensures cause { HasCauseOf Refusal.Disk (D.faults disk.old) (D.faults disk.new) result }
 {
     let mut core = Core::new(store);

@@ -1,16 +1,12 @@
 //! How refusals of lower calls are handed on.
-ghost use Rattle.std.specs.Prelude.{◌≡◌, IfOk, IsOk};
+ghost use Rattle.std.specs.Prelude.{◌≡◌};
 ghost use Rattle.affected_apply.specs.Jobs.{job_of};
-ghost use Rattle.core_commands.specs.Handing.{not_opened, failed_for, HandsSent, HandsCause, HandsJob};
+ghost use Rattle.core_commands.specs.Handing.{not_opened, failed_for, HandsCause, HandsJob};
 
 use affected_apply::JobState;
-use api_http::Reply;
 use command_outcome::Refusal;
-use key_names::Bytes;
 use settings_machine::Cause;
-use std::alloc::{AllocError, Global};
 use store_open::OpenError;
-use template_eval::RenderError;
 
 /// Why a store was not opened.
 pub fn not_opened(error: OpenError) -> Refusal
@@ -29,62 +25,16 @@ pub fn not_opened(error: OpenError) -> Refusal
     }
 }
 
-// The machine's refusal of a request, by the status and the body of the reply. The only error is want of memory.
-fn replied(alloc: Global, status: u16, body: &[u8]) -> Result<Refusal, AllocError>
-    ensures { IfOk result (λ refusal. refusal ≡ Refusal.Refused status body.now) }
-{
-    Ok(Refusal::Refused {
-        status,
-        body: Bytes::of(body.to_vec(alloc)?),
-    })
-}
-
-/// What a reply that isn't of success is told as, where no call of the disk had failed before: a failure of the disk, want of memory,
-/// or a refusal of the machine, by its status and its body.
-pub(crate) fn refused(alloc: Global, reply: &Reply) -> Refusal
-    ensures { HandsSent reply.now result }
-{
-    match reply.status() {
-        500 => Refusal::Disk,
-        503 => Refusal::Memory,
-        status => match replied(alloc, status, reply.body()) {
-            Ok(refusal) => refusal,
-            Err(_) => Refusal::Memory,
-        },
-    }
-}
-
-fn copy_of(error: &RenderError) -> Result<RenderError, AllocError>
-    ensures { IfOk result (λ copy. copy ≡ error.now) }
-{
-    match error {
-        RenderError::Missing { path } => Ok(RenderError::Missing { path: path.copy()? }),
-        RenderError::NotScalar { path } => Ok(RenderError::NotScalar { path: path.copy()? }),
-        RenderError::NotList { path } => Ok(RenderError::NotList { path: path.copy()? }),
-        RenderError::BadBase64 { path } => Ok(RenderError::BadBase64 { path: path.copy()? }),
-        RenderError::Memory => Ok(RenderError::Memory),
-    }
-}
-
-// Why a job failed. The only error is want of memory, which doesn't come where the disk failed.
-fn copied_cause(cause: &Cause) -> Result<Refusal, AllocError>
-    ensures told { IfOk result (λ refusal. refusal ≡ failed_for cause.now) }
-    ensures disk { cause.now ≡ Cause.Disk → IsOk result }
+// Why a job failed, as it is.
+fn of_cause(cause: Cause) -> Refusal
+    ensures { result ≡ failed_for cause }
 {
     match cause {
-        Cause::Disk => Ok(Refusal::Disk),
-        Cause::Spawn { service } => Ok(Refusal::Spawn {
-            name: service.copy()?,
-        }),
-        Cause::Render { file, error } => Ok(Refusal::Render {
-            file: file.copy()?,
-            error: copy_of(error)?,
-        }),
-        Cause::Status { service, number } => Ok(Refusal::Status {
-            service: service.copy()?,
-            number: *number,
-        }),
-        Cause::Memory => Ok(Refusal::Memory),
+        Cause::Disk => Refusal::Disk,
+        Cause::Spawn { service } => Refusal::Spawn { name: service },
+        Cause::Render { file, error } => Refusal::Render { file, error },
+        Cause::Status { service, number } => Refusal::Status { service, number },
+        Cause::Memory => Refusal::Memory,
     }
 }
 
@@ -92,8 +42,8 @@ fn copied_cause(cause: &Cause) -> Result<Refusal, AllocError>
 fn failed_for(cause: &Cause) -> Refusal
     ensures { HandsCause cause.now result }
 {
-    match copied_cause(cause) {
-        Ok(refusal) => refusal,
+    match cause.copy() {
+        Ok(cause) => of_cause(cause),
         Err(_) => Refusal::Memory,
     }
 }

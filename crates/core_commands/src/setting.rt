@@ -3,17 +3,18 @@ ghost use Rattle.std.specs.Prelude.{◌≡◌, All, IsTrue, IfOk};
 ghost use Rattle.outside.specs.Faults.{HasCauseOf};
 ghost use Rattle.key_names.specs.Key.{is_prefix};
 ghost use Rattle.settings_tree.specs.Content.{settings_key};
-ghost use Rattle.api_http.specs.Questions.{question, IsProper};
+ghost use Rattle.settings_machine.specs.Asked.{request_of};
+ghost use Rattle.settings_machine.specs.Requests.{IsProper};
 ghost use Rattle.core_commands.specs.Asking.{requests};
 ghost use Rattle.core_commands.specs.Carried.{Carried, set_tx, puts_of, set_requests};
 ghost use Rattle.core_commands.specs.Handing.{HasSpawnCause};
 ghost use Rattle.core_commands.specs.Lines.{IsSettingsLine};
 
 use crate::telling::{Telling, carry_and_tell};
-use api_http::Ask;
 use command_outcome::Refusal;
 use key_names::{Bytes, Key};
 use outside::{Disk, Spawner};
+use settings_machine::Request;
 use settings_tree::{Pending, Scalar, TxName};
 use std::alloc::{AllocError, Global};
 
@@ -42,20 +43,20 @@ pub(crate) fn puts_of(
 }
 
 // The requests of the command.
-fn set_asks(alloc: Global, pairs: &[(Key, Scalar)]) -> Result<[Ask; 3], AllocError>
+fn set_asks(alloc: Global, pairs: &[(Key, Scalar)]) -> Result<[Request; 3], AllocError>
     requires settings { All (λ pair. IsTrue (is_prefix settings_key pair.0)) pairs.now }
     ensures requests { IfOk result (λ asks. requests asks ≡ set_requests pairs.now) }
-    ensures proper { IfOk result (λ asks. All (λ ask. IsProper (question ask)) asks) }
+    ensures proper { IfOk result (λ asks. All (λ ask. IsProper (request_of ask)) asks) }
 {
     let puts = puts_of(alloc, pairs)?;
     let tx = set_tx(alloc)?;
     Ok([
-        Ask::DropTx { tx: tx.copy()? },
-        Ask::Patch {
+        Request::DropTx { tx: tx.copy()? },
+        Request::Patch {
             tx: tx.copy()?,
             pairs: puts,
         },
-        Ask::CommitAndApply { tx },
+        Request::CommitAndApply { tx },
     ])
 }
 

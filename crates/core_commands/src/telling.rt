@@ -3,7 +3,8 @@ ghost use Rattle.std.specs.Prelude.{◌≡◌, ◌∷◌, [], All, IfErr, IfOk};
 ghost use Rattle.outside.specs.Faults.{HasCauseOf};
 ghost use Rattle.settings_tree.specs.Content.{settings_key};
 ghost use Rattle.settings_machine.specs.World.{World, Idle};
-ghost use Rattle.api_http.specs.Questions.{question, IsProper};
+ghost use Rattle.settings_machine.specs.Asked.{request_of};
+ghost use Rattle.settings_machine.specs.Requests.{IsProper};
 ghost use Rattle.core_commands.specs.Asking.{requests};
 ghost use Rattle.core_commands.specs.Carried.{CarriesOut};
 ghost use Rattle.core_commands.specs.Handing.{HasSpawnCause};
@@ -12,11 +13,11 @@ ghost use Rattle.core_commands.specs.Telling.{Tells};
 
 use crate::carrying::carry;
 use crate::lines::{line_of, tree_line};
-use api_http::Ask;
 use command_outcome::Refusal;
 use key_names::{Bytes, Key};
-use machine_answers::{JobShown, job_text};
+use machine_answers::job_text;
 use outside::{Disk, Spawner};
+use settings_machine::{JobStatus, Request};
 use settings_tree::{Content, Held, Owed};
 use std::alloc::Global;
 
@@ -45,7 +46,7 @@ fn idle_line(alloc: Global, owed: &Owed) -> Result<Bytes, Refusal>
     ensures ok { IfOk result (λ line. (W : World) → W.held.owed ≡ owed.now → W.job ≡ Idle → IsJobLine W line) }
     ensures memory { IfErr result (λ refusal. refusal ≡ Refusal.Memory) }
 {
-    let text = job_text(alloc, JobShown::Idle, owed)?;
+    let text = job_text(alloc, &JobStatus::Idle, owed)?;
     Ok(line_of(alloc, &text)?)
 }
 
@@ -63,12 +64,12 @@ fn last_line(alloc: Global, held: &Held, telling: Telling) -> Result<Bytes, Refu
 /// Carries out the requests as [`carry`] does, and answers the line that tells of the last world.
 pub(crate) fn carry_and_tell<D: Disk, S: Spawner>(
     alloc: Global,
-    asks: &[Ask],
+    asks: &[Request],
     telling: Telling,
     disk: &mut D,
     spawner: &mut S,
 ) -> Result<Bytes, Refusal>
-    requires proper { All (λ ask. IsProper (question ask)) asks.now }
+    requires proper { All (λ ask. IsProper (request_of ask)) asks.now }
     ensures carries { CarriesOut (requests asks.now) (Tells telling) result
         (S.runs spawner.old) (S.runs spawner.new) (D.told disk.old) (D.told disk.new) }
     ensures cause { HasCauseOf Refusal.Disk (D.faults disk.old) (D.faults disk.new) result }

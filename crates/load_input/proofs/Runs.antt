@@ -5,16 +5,19 @@ use Rattle.outside.specs.Door.{LastBy}
 use Rattle.outside.specs.Exchange.{Exchange, fresh}
 use Rattle.outside.specs.History.{History}
 use Rattle.outside.specs.Spawner.{Run}
-use Rattle.api_http.specs.Questions.{question}
 use Rattle.api_http.specs.Replies.{Sent, is_of_success}
 use Rattle.api_http.specs.Requests.{Asks}
-use Rattle.api_http.specs.declared.ask.Ask.{Ask}
+use Rattle.api_http.specs.Says.{Says}
+use Rattle.api_http.proofs.Said.{says_success}
+use Rattle.api_server.specs.Handled.{IsHandled, Handles}
 use Rattle.api_server.specs.Hearing.{input_of, IsHeard}
+use Rattle.api_server.specs.declared.handled.Handled.TheVariants as came
 use Rattle.api_server.specs.declared.hearing.Heard.TheVariants as heard
-use Rattle.machine_answers.specs.Asks.{request_of}
+use Rattle.settings_machine.specs.Asked.{request_of}
+use Rattle.settings_machine.specs.declared.request.Request as asked
 use Rattle.settings_machine.specs.World.{Image, World, Job, Idle, is_running}
 use Rattle.settings_machine.specs.Requests.{Request, Reply, is_success}
-use Rattle.settings_machine.specs.Step.{Answer, request_next, turn_next}
+use Rattle.settings_machine.specs.Step.{Outcome, Answered, WithoutMemory, Unopened, Faulted, Answer, request_next, turn_next}
 use Rattle.settings_machine.specs.Events.{Event, Opened, Asked, Unread, Turned, Began, Moved, next, after}
 use Rattle.settings_machine.specs.Paid.{IsGood}
 use Rattle.settings_machine.proofs.Programs.{request_runs}
@@ -23,15 +26,12 @@ use Rattle.machine_disk.specs.Kept.{Folder, Kept}
 use Rattle.machine_disk.specs.Ran.{Ran, Reopens, Handled, IsSlice}
 use Rattle.machine_disk.proofs.Runs.{ran_none, ran_more}
 use Rattle.store_open.specs.Laws.{HoldsImage}
-use Rattle.api_core.specs.Asks.{Says}
 use Rattle.api_core.specs.Cores.{core_state}
-use Rattle.api_core.specs.Handled.{IsHandled, Handles}
 use Rattle.api_core.specs.Turned.{IsTurned, Turns}
 use Rattle.api_core.specs.declared.serving.Core.{Core}
 use Rattle.load_input.specs.declared.counts.Counts.{Counts}
 use Rattle.load_input.specs.Counts.{no_counts, with_reply, with_turn, with_event, with_events}
 use Rattle.load_input.specs.Counted.{IsAskedBy, AreAskedBy, requests_in, AskedIdle, CountedBy, Counted}
-use Rattle.api_core.proofs.Replied.{says_success, alone}
 use Rattle.api_server.proofs.Lasts.{head_same}
 
 clash : (b : Bool) → b ≡ false → b ≡ true → ⊥
@@ -105,16 +105,23 @@ counted_then bs cs c mid now n m k r s t old between new one two = record { each
         image = b.image;
       }
 
+-- Where no call of the disk has failed, no opening comes before the request.
+alone : (o : Outcome) (first : List Event) → Reopens false o first → (first ≡ []) × Reopens false o []
+alone Answered first is = (is, refl)
+alone WithoutMemory first is = (is, refl)
+alone (Unopened at) first is = absurd is
+alone (Faulted taken) first is = (is, refl)
+
 -- One request, where no call of the disk has failed: its reply is one of success or not.
 pub counted_reply : (bytes : List ℕ) (c now : Core) (q : Request) (sent : Sent) (fine : Bool) (n m : Counts) (runs : List Run) (old new : History) → c.faulted ≡ false
-    → (core_state c).job ≡ Idle → IsAskedBy bytes q → is_of_success sent.status ≡ fine → m ≡ with_reply fine n → Handles c q sent now old new
+    → (core_state c).job ≡ Idle → IsAskedBy bytes q → is_of_success sent.status ≡ fine → m ≡ with_reply fine n → Handles c q (came.Answered sent) now old new
     → Counted (bytes ∷ []) c now n m runs runs old new
 counted_reply bytes c now q sent fine n m runs old new calm idle by_bytes success is handles = record { each = by } where
   by : (I : Image) → IsGood I → HoldsImage I c.image → (folder : Folder) (W V : World) → Kept I folder W V old (core_state c) → runs ≡ W.runs
       → CountedBy I folder W V (bytes ∷ []) c now n m runs old new
   by I good of folder W V kept are =
-      let h : IsHandled I folder W V q sent c now old new = handles.each I good of folder (λ faulted opened. absurd (clash c.faulted calm faulted)) W V kept in
-      let e : Handled I c.faulted W q h.replied h.events = h.handled in
+      let h : IsHandled I folder W V q (came.Answered sent) c now old new = handles.each I good of folder (λ faulted opened. absurd (clash c.faulted calm faulted)) W V kept in
+      let e : Handled I c.faulted W q h.replied h.events = h.handled_by in
       let a : (e.first ≡ []) × Reopens false e.outcome [] = alone e.outcome e.first (subst (λ (b : Bool). Reopens b e.outcome e.first) calm e.reopens) in
       let made : h.events ≡ Asked q e.outcome ∷ [] = e.made ∙ ap (λ (l : List Event). l ++ Asked q e.outcome ∷ []) a.0 in
       let replied : h.replied ≡ (request_next I W q e.outcome).reply = e.replied ∙ ap (λ (l : List Event). (request_next I (after I W l) q e.outcome).reply) a.0 in
@@ -122,7 +129,7 @@ counted_reply bytes c now q sent fine n m runs old new calm idle by_bytes succes
       let told : fine ≡ is_success (request_next I W q e.outcome).reply = sym success ∙ says_success (request_next I W q e.outcome).reply sent says in
       record {
         events = Asked q e.outcome ∷ [];
-        made = subst (λ (l : List Event). Ran I folder W V l old new (core_state c) (core_state now)) made h.ran;
+        made = subst (λ (l : List Event). Ran I folder W V l old new (core_state c) (core_state now)) made h.made;
         runs = are ∙ sym (request_runs I W q e.outcome);
         counts = is ∙ ap (λ (b : Bool). with_reply b n) told;
         asked = (by_bytes, tt);
@@ -201,17 +208,15 @@ turn_is n m a b goes_on r s job is before after_it goes =
 -- ---- what a connection asks
 
 -- What is heard from the start of a connection is asked by its bytes.
-pub heard_by : (bytes : List ℕ) (ask : Ask) (old new : List Exchange) → old ≡ fresh bytes ∷ [] → LastBy (IsHeard (heard.Asked ask)) old new
-    → IsAskedBy bytes (request_of (question ask))
+pub heard_by : (bytes : List ℕ) (ask : asked.Request) (old new : List Exchange) → old ≡ fresh bytes ∷ [] → LastBy (IsHeard (heard.Asked ask)) old new
+    → IsAskedBy bytes (request_of ask)
 heard_by bytes ask old new is last =
     let start : last.before ≡ fresh bytes = head_same last.before (fresh bytes) last.others [] (sym last.old_is ∙ is) in
     let input : input_of last.now ≡ bytes = last.moved.input ∙ ap input_of start in
-    let heard_it : (n : ℕ) × Asks (input_of last.now) (question ask) n = last.moved.hears (ap (λ (e : Exchange). e.heard) start) in
+    let heard_it : (n : ℕ) × Asks (input_of last.now) (request_of ask) n = last.moved.hears (ap (λ (e : Exchange). e.heard) start) in
     record {
-      asked = question ask;
       size = heard_it.0;
-      asks = subst (λ (l : List ℕ). Asks l (question ask) heard_it.0) input heard_it.1;
-      is = refl;
+      asks = subst (λ (l : List ℕ). Asks l (request_of ask) heard_it.0) input heard_it.1;
     }
 
 -- With no bytes more, and by other words for the same bytes.

@@ -5,7 +5,6 @@ use Rattle.outside.specs.Spawner.{Run}
 use Rattle.disk_memory.specs.Asked.{run_of}
 use Rattle.disk_memory.specs.Spawner.{runs_of}
 use Rattle.disk_memory.specs.declared.spawner.MemorySpawner.{MemorySpawner}
-use Rattle.api_http.specs.Questions.{Question}
 use Rattle.api_http.specs.Requests.{Asks}
 use Rattle.settings_machine.specs.World.{Image, World, is_running}
 use Rattle.settings_machine.specs.Requests.{Request}
@@ -13,7 +12,6 @@ use Rattle.settings_machine.specs.Events.{Event, Asked, next, after}
 use Rattle.settings_machine.specs.Paid.{IsGood}
 use Rattle.machine_disk.specs.Kept.{Folder, Kept}
 use Rattle.machine_disk.specs.Ran.{Ran}
-use Rattle.machine_answers.specs.Asks.{request_of}
 use Rattle.store_open.specs.Laws.{HoldsImage}
 use Rattle.api_core.specs.Cores.{core_state}
 use Rattle.api_core.specs.declared.serving.Core.{Core}
@@ -26,10 +24,8 @@ ran spawner = map run_of (runs_of spawner)
 
 -- The bytes begin with a whole request, which asks this.
 pub record IsAskedBy (bytes : List ℕ) (q : Request) : Type 0 where
-  pub asked : Question
   pub size : ℕ
-  pub asks : Asks bytes asked size
-  pub is : q ≡ request_of asked
+  pub asks : Asks bytes q size
 
 -- Each of the requests is asked by its bytes.
 abbrev pub AreAskedBy : List (List ℕ) → List Request → Type 0

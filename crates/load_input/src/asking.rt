@@ -7,7 +7,8 @@ ghost use Rattle.disk_memory.specs.Door.{told, state, exchanges_of, inputs_of, I
 ghost use Rattle.disk_memory.specs.Pieces.{joined};
 ghost use Rattle.api_server.specs.Hearing.{IsHeard};
 ghost use Rattle.outside.specs.Spawner.{Run};
-ghost use Rattle.api_http.specs.Questions.{question, IsProper};
+ghost use Rattle.settings_machine.specs.Asked.{request_of};
+ghost use Rattle.settings_machine.specs.Requests.{IsProper};
 ghost use Rattle.settings_machine.specs.World.{Idle};
 ghost use Rattle.api_http.specs.Replies.{is_of_success};
 ghost use Rattle.api_core.specs.Cores.{core_state, IsSound};
@@ -15,9 +16,9 @@ ghost use Rattle.load_input.specs.Counts.{with_reply};
 ghost use Rattle.load_input.specs.Counted.{Counted};
 
 use crate::counts::Counts;
-use api_core::{Core, Reply};
-use api_http::Ask;
-use api_server::{Heard, hear, say};
+use api_core::{Core, Request};
+use api_http::Reply;
+use api_server::{Handled, Heard, handle, hear, say};
 use disk_memory::{Input, MemoryDoor};
 use key_names::Bytes;
 use outside::{Disk, Door};
@@ -73,29 +74,25 @@ fn connection(alloc: Global, request: &Bytes) -> Result<MemoryDoor, AllocError>
 }
 
 // What the connection at hand asks. Each connection of the run asks something whole, so nothing else comes but for want of memory.
-fn asked(alloc: Global, door: &mut MemoryDoor) -> Result<Ask, AllocError>
+fn asked(alloc: Global, door: &mut MemoryDoor) -> Result<Request, AllocError>
     requires busy { (state door.old).busy ≡ true }
-    ensures heard { IfOk result (λ ask. Moves (told door.old) (told door.new) (LastBy (IsHeard (Heard.Asked ask)))) }
-    ensures proper { IfOk result (λ ask. IsProper (question ask)) }
+    ensures heard { IfOk result (λ request. Moves (told door.old) (told door.new) (LastBy (IsHeard (Heard.Asked request)))) }
+    ensures proper { IfOk result (λ request. IsProper (request_of request)) }
     ensures same { state door.new ≡ state door.old }
 {
     match hear(alloc, door) {
-        Heard::Asked { ask } => Ok(ask),
+        Heard::Asked { request } => Ok(request),
         Heard::Refused { refusal: _ } => Err(AllocError),
         Heard::Ended => Err(AllocError),
         Heard::Memory => Err(AllocError),
     }
 }
 
-// Counts the reply, unless memory was wanting or the disk has failed.
+// Counts the reply.
 fn count(counts: &mut Counts, reply: &Reply) -> Result<(), AllocError>
     ensures success { OnOk result (is_of_success reply.now.status ≡ true → counts.new ≡ with_reply true counts.old) }
     ensures refused { OnOk result (is_of_success reply.now.status ≡ false → counts.new ≡ with_reply false counts.old) }
-    ensures calm { OnOk result (reply.now.status ≢ 500) }
 {
-    if reply.status() >= 500 {
-        return Err(AllocError);
-    }
     if reply.is_of_success() {
         return counts.count_ok();
     }
@@ -121,8 +118,11 @@ pub(crate) fn answer<D: Disk>(
     ensures one { OnOk result (counts.new.ok + counts.new.refused ≡ counts.old.ok + counts.old.refused + 1) }
 {
     let mut door = connection(alloc, request)?;
-    let ask = asked(alloc, &mut door)?;
-    let reply = core.handle(alloc, &ask, disk);
+    let request = asked(alloc, &mut door)?;
+    let Handled::Answered(reply) = handle(alloc, core, &request, disk) else {
+        // Memory was wanting: this disk never fails.
+        return Err(AllocError);
+    };
     say(&mut door, reply.bytes());
     door.finish();
     count(counts, &reply)?;

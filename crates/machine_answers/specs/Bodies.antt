@@ -12,10 +12,14 @@ use Rattle.json_trees.specs.Tree.{pending_data}
 use Rattle.json_trees.specs.Written.{data_tokens}
 use Rattle.held_text.specs.HeldText.{list_data, keys_data, owed_data}
 use Rattle.settings_tree.specs.declared.entry.Owed.{Owed}
-use Rattle.settings_machine.specs.World.{Key, Job, Idle, Failed, Running}
+use Rattle.settings_machine.specs.World.{Key}
 use Rattle.settings_machine.specs.Requests.{Body, TreeOf, PendingTreeOf, TextsByName, ListsByKey, KeyList, NameList, JobIs}
 use Rattle.settings_machine.specs.declared.cause.Cause.{Cause}
 use Rattle.settings_machine.specs.declared.cause.Cause.TheVariants as cause
+use Rattle.settings_machine.specs.declared.job.JobStatus.{JobStatus}
+use Rattle.settings_machine.specs.declared.job.JobStatus.TheVariants as status
+use Rattle.settings_machine.specs.declared.refusal.Refusal.{Refusal}
+use Rattle.settings_machine.specs.declared.refusal.Refusal.TheVariants as refusal
 
 -- ---- lists, and values by name
 
@@ -55,10 +59,23 @@ abbrev pub failure : Cause → Owed → List (List ℕ × Data)
 failure c owed = (codes "cause", string (cause_words c)) ∷ standing (codes "failed") owed
 
 -- The job and what is owed.
-abbrev pub job_entries : Job → Owed → List (List ℕ × Data)
-job_entries Idle owed = standing (codes "idle") owed
-job_entries (Failed c) owed = failure c owed
-job_entries (Running work) owed = standing (codes "running") owed
+abbrev pub job_entries : JobStatus → Owed → List (List ℕ × Data)
+job_entries status.Idle owed = standing (codes "idle") owed
+job_entries (status.Failed c) owed = failure c owed
+job_entries status.Running owed = standing (codes "running") owed
+
+-- ---- refusals
+
+-- What kind of refusal it is, and where.
+abbrev pub refusal_entries : Refusal → List (List ℕ × Data)
+refusal_entries (refusal.BadType key wanted) = (codes "error", string (codes "type")) ∷ (codes "key", string (printed key)) ∷ (codes "wanted", string wanted) ∷ []
+refusal_entries (refusal.NoKey key) = (codes "error", string (codes "key")) ∷ (codes "key", string (printed key)) ∷ []
+refusal_entries (refusal.NoName name) = (codes "error", string (codes "name")) ∷ (codes "name", string name) ∷ []
+refusal_entries (refusal.NoPending tx) = (codes "error", string (codes "no-pending")) ∷ (codes "tx", string tx) ∷ []
+
+-- The text by which a client is told of it.
+abbrev pub refusal_text : Refusal → List ℕ
+refusal_text r = compact_text (object (members_of (refusal_entries r)))
 
 -- ---- bodies
 
@@ -70,7 +87,7 @@ IsTextOf (TextsByName texts) text = text ≡ compact_text (object (members_of (m
 IsTextOf (ListsByKey lists) text = text ≡ compact_text (object (members_of (map list_entry lists)))
 IsTextOf (KeyList keys) text = text ≡ compact_text (keys_data keys)
 IsTextOf (NameList names) text = text ≡ compact_text (names_data names)
-IsTextOf (JobIs job owed) text = text ≡ compact_text (object (members_of (job_entries job owed)))
+IsTextOf (JobIs standing owed) text = text ≡ compact_text (object (members_of (job_entries standing owed)))
 
 -- ---- for private clauses
 

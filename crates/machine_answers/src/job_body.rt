@@ -2,17 +2,14 @@
 ghost use Rattle.std.specs.Prelude.{◌≡◌, ◌++◌, IfOk, OnOk, codes, decimal};
 ghost use Rattle.serde_json.specs.Data.{object};
 ghost use Rattle.held_text.specs.HeldRules.{Wrote, WroteMembers};
-ghost use Rattle.settings_machine.specs.World.{Job};
 ghost use Rattle.settings_machine.specs.Requests.{JobIs};
-ghost use Rattle.machine_answers.specs.Bodies.{cause_words, standing, failure, members_of, IsTextOf};
-ghost use Rattle.machine_answers.specs.Shown.{Shows, shown_entries};
+ghost use Rattle.machine_answers.specs.Bodies.{cause_words, standing, failure, job_entries, members_of, IsTextOf};
 
-use crate::JobShown;
 use held_text::write_owed;
 use json::Writer;
 use json_trees::text_of;
 use key_names::Text;
-use settings_machine::Cause;
+use settings_machine::{Cause, JobStatus};
 use settings_tree::Owed;
 use std::alloc::{AllocError, Global};
 
@@ -78,28 +75,28 @@ fn write_failed(
 fn write_members(
     writer: &mut Writer,
     alloc: Global,
-    shown: JobShown<'_>,
+    status: &JobStatus,
     owed: &Owed,
 ) -> Result<(), AllocError>
-    ensures { OnOk result (WroteMembers (members_of (shown_entries shown.entry owed.now)) writer.old writer.new) }
+    ensures { OnOk result (WroteMembers (members_of (job_entries status.now owed.now)) writer.old writer.new) }
 {
-    match shown {
-        JobShown::Idle => write_standing(writer, "idle", owed),
-        JobShown::Failed(cause) => write_failed(writer, alloc, cause, owed),
-        JobShown::Running => write_standing(writer, "running", owed),
+    match status {
+        JobStatus::Idle => write_standing(writer, "idle", owed),
+        JobStatus::Failed(cause) => write_failed(writer, alloc, cause, owed),
+        JobStatus::Running => write_standing(writer, "running", owed),
     }
 }
 
 fn write_job(
     writer: &mut Writer,
     alloc: Global,
-    shown: JobShown<'_>,
+    status: &JobStatus,
     owed: &Owed,
 ) -> Result<(), AllocError>
-    ensures { OnOk result (Wrote (object (members_of (shown_entries shown.entry owed.now))) writer.old writer.new) }
+    ensures { OnOk result (Wrote (object (members_of (job_entries status.now owed.now))) writer.old writer.new) }
 {
     writer.begin_object()?;
-    write_members(writer, alloc, shown, owed)
+    write_members(writer, alloc, status, owed)
 }
 
 /// The body that tells the job and what is owed: an object of compact JSON (RFC 8259) with these members, in this order.
@@ -108,11 +105,11 @@ fn write_job(
 /// - `job`: `idle`, `failed` or `running`
 /// - `owed`: `"all"` or a list of keys, printed and rising
 ///
-/// The only error is want of memory. It takes the time of printing the owed keys.
-pub fn job_text(alloc: Global, shown: JobShown<'_>, owed: &Owed) -> Result<Text, AllocError>
-    ensures { IfOk result (λ text. (job : Job) → Shows job shown.entry → IsTextOf (JobIs job owed.now) text) }
+/// The only error is out of memory. It takes the time of printing the owed keys.
+pub fn job_text(alloc: Global, status: &JobStatus, owed: &Owed) -> Result<Text, AllocError>
+    ensures { IfOk result (IsTextOf (JobIs status.now owed.now)) }
 {
     let mut writer = Writer::new(Vec::new(alloc));
-    write_job(&mut writer, alloc, shown, owed)?;
+    write_job(&mut writer, alloc, status, owed)?;
     Ok(text_of(writer))
 }

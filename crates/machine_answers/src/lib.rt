@@ -1,12 +1,12 @@
-//! What the map machine replies, as answers of HTTP: the request that a question is, and the text of each body.
+//! What the map machine answers, as values, and the texts of what they tell.
 #![tactic(auto)]
 
+mod answer;
 mod job_body;
-mod job_shown;
 mod lists;
-mod machine_reply;
 mod objects;
+mod refusal_body;
 
+pub use answer::{Answer, Body};
 pub use job_body::job_text;
-pub use job_shown::JobShown;
-pub use machine_reply::MachineReply;
+pub use refusal_body::refusal_text;

@@ -3,7 +3,6 @@ use disk_memory::MemoryDisk;
 use outside::{Disk, Path};
 use std::alloc::Global;
 use std::io::{self, ErrorKind};
-use std::string::String;
 use version_links::Version;
 
 /// The error where what is read has not its form.
@@ -13,26 +12,16 @@ pub fn bad() -> io::Error {
 
 /// The bytes that the hexadecimal digits are.
 pub fn bytes_of(alloc: Global, digits: &str) -> io::Result<Vec<u8>> {
-    match hex::decode(alloc, digits) {
-        Ok(bytes) => Ok(bytes),
-        Err(_) => Err(bad()),
-    }
+    hex::decode(alloc, digits).ok().ok_or(bad())
 }
 
 // Puts the file that the line tells on the disk.
 fn put(alloc: Global, disk: &mut MemoryDisk, line: &str) -> io::Result<()> {
-    let Some(rest) = line.strip_prefix("file ") else {
-        return Err(bad());
-    };
+    let rest = line.strip_prefix("file ").ok_or(bad())?;
     let (path, digits) = rest.split_once(' ').unwrap_or((rest, ""));
     let bytes = bytes_of(alloc, digits)?;
-    let Ok(path) = Path::read(alloc, path.as_bytes()) else {
-        return Err(bad());
-    };
-    match disk.replace(&path, &bytes) {
-        Ok(()) => Ok(()),
-        Err(_) => Err(bad()),
-    }
+    let path = Path::read(alloc, path.as_bytes()).ok().ok_or(bad())?;
+    disk.replace(&path, &bytes).ok().ok_or(bad())
 }
 
 // No image has more.

@@ -8,49 +8,69 @@
 //! each program ends with 0.
 #![tactic(auto)]
 
-ghost use Rattle.model_file.specs.Model.{AreTyped};
-ghost use Rattle.opening_step.specs.Step.{AreSettings};
-ghost use Rattle.settings_machine.specs.Typed.{IsTypedHeld};
-ghost use Rattle.typed_settings.specs.Order.{IsTable};
-
 mod lines;
-mod machine;
 
-use crate::lines::read_head;
-use crate::machine::{booted, image_of, reply_to};
+use crate::lines::{bad, bytes_of, read_head};
 use disk_memory::MemoryDisk;
-use plain_machine::{PlainImage, PlainMachine};
+use machine_replies::Host;
+use plain_machine::{OpeningAnswer, TurnAnswer};
+use settings_machine::{Job, Request};
+use std::alloc::{AllocError, Global};
 use std::io::{self, BufRead, BufReader};
 use std::process::ExitCode;
 use version_links::Version;
 
-// Prints the reply to each connection of the input.
-fn reply_to_all(rt: &HostRuntime, image: &PlainImage, machine: &mut PlainMachine) -> io::Result<()>
-    requires table { IsTable image.now.types }
-    requires typed { IsTypedHeld image.now.types machine.old.held }
-{
-    let alloc = rt.alloc();
-    for line in BufReader::new(alloc, rt.reader())?.lines(alloc) {
-        let reply = reply_to(alloc, image, machine, line?.as_str())?;
-        println!(rt; "{reply}")?;
+// No jobs that follow one another take more turns.
+const MOST_TURNS: u32 = 100_000;
+
+// Turns that go well, until no job runs.
+fn turns(alloc: Global, host: &mut Host) -> Result<(), AllocError> {
+    for _ in 0..MOST_TURNS {
+        let Job::Running(_) = &host.machine.job else {
+            return Ok(());
+        };
+        host.turn(alloc, TurnAnswer::Fine { status: 0 })?;
     }
     Ok(())
 }
 
-// What the machine of the image replies to each connection of the input, once its store has begun at the version and was applied.
-fn replay(rt: &HostRuntime, image: &PlainImage, version: Version) -> io::Result<()>
-    requires table { IsTable image.now.types }
-    requires defaults { AreTyped image.now.types image.now.defaults.values }
-    requires settings { AreSettings image.now.defaults.values }
-{
-    let mut machine = booted(rt.alloc(), image, version)?;
-    reply_to_all(rt, image, &mut machine)
+// The host of the image on the disk, whose store has begun at the version.
+fn read(alloc: Global, disk: &mut MemoryDisk, version: Version) -> io::Result<Box<Host>> {
+    match Host::read(alloc, disk, version) {
+        Ok(host) => Ok(Box::new(alloc, host)?),
+        Err(_) => Err(bad()),
+    }
+}
+
+// That host, whose store was opened at a boot and applied.
+fn booted(alloc: Global, disk: &mut MemoryDisk, version: Version) -> io::Result<Box<Host>> {
+    let mut host = read(alloc, disk, version)?;
+    host.open(alloc, true, OpeningAnswer::Succeeded)?;
+    host.ask(alloc, &Request::Apply)?;
+    turns(alloc, &mut host)?;
+    Ok(host)
+}
+
+// The reply to the request whose bytes these hexadecimal digits are, as such digits. All turns of the job are made behind it.
+fn reply_to(alloc: Global, host: &mut Host, digits: &str) -> io::Result<String> {
+    let bytes = bytes_of(alloc, digits)?;
+    let reply = host.reply_to(alloc, &bytes)?;
+    turns(alloc, host)?;
+    host.machine.runs.clear();
+    match &reply {
+        Some(reply) => Ok(hex::encode(alloc, reply.bytes())?),
+        None => Ok(String::new(alloc)),
+    }
 }
 
 fn main(rt: HostRuntime) -> io::Result<ExitCode> {
-    let mut disk = MemoryDisk::new(rt.alloc())?;
+    let alloc = rt.alloc();
+    let mut disk = MemoryDisk::new(alloc)?;
     let version = read_head(&rt, &mut disk)?;
-    let image = image_of(rt.alloc(), &mut disk)?;
-    replay(&rt, &image, version)?;
+    let mut host = booted(alloc, &mut disk, version)?;
+    for line in BufReader::new(alloc, rt.reader())?.lines(alloc) {
+        let reply = reply_to(alloc, &mut host, line?.as_str())?;
+        println!(rt; "{reply}")?;
+    }
     Ok(ExitCode::SUCCESS)
 }

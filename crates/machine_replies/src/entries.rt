@@ -5,23 +5,18 @@ use plain_machine::PlainMachine;
 use settings_tree::{Pending, TxName};
 use std::alloc::{AllocError, Global};
 
-/// The key of this one segment. The only error is want of memory, and text that is no segment.
-pub(crate) fn key_of(alloc: Global, first: &[u8]) -> Result<Key, AllocError> {
-    match Key::of_segment(alloc, first) {
-        Ok(key) => Ok(key),
-        Err(_) => Err(AllocError),
-    }
-}
-
-/// The live values below the key, rising.
+/// The live values below this segment, rising. The only error is out of memory, and what is no segment.
 pub(crate) fn live_below(
     alloc: Global,
     machine: &PlainMachine,
-    prefix: &Key,
+    first: &[u8],
 ) -> Result<Vec<Entry>, AllocError> {
+    let Ok(prefix) = Key::of_segment(alloc, first) else {
+        return Err(AllocError);
+    };
     let mut entries = Vec::new(alloc);
-    for (key, value) in &machine.held.live.below(prefix)? {
-        entries.push((key.copy()?, value.print(alloc)?))?;
+    for (key, value) in machine.held.live.below(&prefix)? {
+        entries.push((key, value.print(alloc)?))?;
     }
     Ok(entries)
 }
@@ -41,8 +36,8 @@ pub(crate) fn pending_in(
     tx: &TxName,
 ) -> Result<Vec<Entry>, AllocError> {
     let mut entries = Vec::new(alloc);
-    for (key, value) in &pending_tx::pending(alloc, &machine.held, tx)? {
-        entries.push((key.copy()?, pending_text(alloc, value)?))?;
+    for (key, value) in pending_tx::pending(alloc, &machine.held, tx)? {
+        entries.push((key, pending_text(alloc, &value)?))?;
     }
     Ok(entries)
 }

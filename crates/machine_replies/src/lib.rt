@@ -1,16 +1,16 @@
-//! The machine in memory as a server: the image that it goes by, and what it replies to each request, as the bytes of HTTP.
+//! A host in memory as a server: an image with the machine that goes by it, and what it replies to each request.
 //!
 //! It stands beside the product, for programs that try a server. Bodies that are trees are written here anew, not by the code that
 //! the server runs; lists, refusals and the job are printed by the server's own.
 #![tactic(auto)]
 
-mod changing;
 mod entries;
-mod image;
+mod host;
 mod reading;
-mod replying;
+mod rest;
+mod told;
 mod tree;
 
-pub use image::read_plain;
+pub use host::{Host, changes};
 pub use reading::settings_text;
-pub use replying::{changes, reply_of};
+pub use told::Told;

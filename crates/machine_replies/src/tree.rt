@@ -10,21 +10,14 @@ fn meet_at(one: &Key, other: &Key, level: usize) -> bool {
     level < one.len() && level < other.len() && one.segment(level) == other.segment(level)
 }
 
-// How many segments from this level on both keys begin with.
-fn shared(one: &Key, other: &Key, skip: usize) -> usize {
-    for level in skip..one.len() {
+// How many segments both keys begin with.
+fn shared(one: &Key, other: &Key) -> usize {
+    for level in 0..one.len() {
         if !meet_at(one, other, level) {
-            return level.saturating_sub(skip);
+            return level;
         }
     }
-    one.len().saturating_sub(skip)
-}
-
-fn push_times(out: &mut String, times: usize, text: &str) -> Result<(), AllocError> {
-    for _ in 0..times {
-        out.push_str(text)?;
-    }
-    Ok(())
+    one.len()
 }
 
 // The segment as a name of JSON. Its bytes are printed ASCII without quotes, so only a backslash is escaped.
@@ -50,13 +43,12 @@ fn push_names(out: &mut String, key: &Key, first: usize) -> Result<(), AllocErro
     Ok(())
 }
 
-// How many objects of the key before are closed between the two.
-fn closed(before: &Key, skip: usize, common: usize) -> usize {
-    before
-        .len()
-        .saturating_sub(skip)
-        .saturating_sub(common)
-        .saturating_sub(1)
+// Ends the objects of the key before, but for those of so many first segments.
+fn close(out: &mut String, before: &Key, common: usize) -> Result<(), AllocError> {
+    for _ in common.saturating_add(1)..before.len() {
+        out.push('}')?;
+    }
+    Ok(())
 }
 
 fn push_entry(
@@ -66,18 +58,18 @@ fn push_entry(
     skip: usize,
 ) -> Result<(), AllocError> {
     let (key, value) = entry;
-    let mut common = 0;
+    let mut common = skip;
     if let Some(before) = before {
-        common = shared(before, key, skip);
-        push_times(out, closed(before, skip, common), "}")?;
+        common = shared(before, key);
+        close(out, before, common)?;
         out.push(',')?;
     }
-    push_names(out, key, skip.saturating_add(common))?;
+    push_names(out, key, common)?;
     out.push_str(value.as_str())
 }
 
-/// The object of these entries, which rise and none of whose keys begins another, without so many first segments of the
-/// keys. The only error is want of memory.
+/// The object of these entries, which rise and none of whose keys begins another, without so many first segments, which all keys
+/// share. The only error is want of memory.
 pub(crate) fn tree_text(alloc: Global, entries: &[Entry], skip: usize) -> Result<Text, AllocError> {
     let mut out = String::from_str(alloc, "{")?;
     let mut before = None;
@@ -86,7 +78,7 @@ pub(crate) fn tree_text(alloc: Global, entries: &[Entry], skip: usize) -> Result
         before = Some(&entry.0);
     }
     if let Some(before) = before {
-        push_times(&mut out, closed(before, skip, 0), "}")?;
+        close(&mut out, before, skip)?;
     }
     out.push('}')?;
     Ok(Text::of(out))

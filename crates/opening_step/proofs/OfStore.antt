@@ -1,5 +1,5 @@
 -- Keys of the store, and those of an image.
-use Rattle.std.proofs.Common.{◌≡◌, ◌⊎◌, inl, inr, ◌||◌, ℕ, List, [], ◌∷◌, Bool, true, false, not, refl, sym, ap}
+use Rattle.std.proofs.Common.{◌≡◌, ℕ, List, [], ◌∷◌, Bool, true, false, not, refl, sym, ap}
 use Rattle.std.specs.Prelude.{codes, IsTrue}
 use Rattle.std.specs.Ordering.{eq_by_cmp}
 use Rattle.std.proofs.lemmas.Bool.{and_parts}
@@ -29,18 +29,3 @@ store_not_image q store = by (is_of_image q) store where
   by : (b : Bool) → not b ≡ true → b ≡ false
   by false e = refl
   by true e = absurd (cc e)
-
--- of a model's keys those of the store are settings
-pub store_setting : (q : Key) → IsTrue (is_prefix settings_key q) ⊎
-    (IsTrue (is_prefix (codes "services" ∷ []) q) ⊎ IsTrue (is_prefix (codes "configuration-files" ∷ []) q)) → is_of_store q ≡ true
-    → is_prefix settings_key q ≡ true
-store_setting q (inl setting) store = setting
-store_setting q (inr (inl service)) store = absurd (by (is_prefix (codes "services" ∷ []) q) (is_prefix (codes "configuration-files" ∷ []) q) service store) where
-  by : (a b : Bool) → a ≡ true → not (a || b) ≡ true → ⊥
-  by true b here e = cc e
-  by false b here e = cc here
-store_setting q (inr (inr file)) store = absurd (by (is_prefix (codes "services" ∷ []) q) (is_prefix (codes "configuration-files" ∷ []) q) file store) where
-  by : (a b : Bool) → b ≡ true → not (a || b) ≡ true → ⊥
-  by true b here e = cc e
-  by false true here e = cc e
-  by false false here e = cc here

@@ -1,3 +1,4 @@
+pub mod Plainly
 pub mod JobSteps
 pub mod PathMaps
 pub mod RequestsAnswered

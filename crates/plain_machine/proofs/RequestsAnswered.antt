@@ -10,7 +10,7 @@ use Rattle.settings_machine.specs.World.{Key, Image, World, Job, Idle, Failed, R
 use Rattle.settings_machine.specs.Typed.{Wanted, first_wanted}
 use Rattle.settings_machine.specs.Requests.{Patch, DropTx, Commit, Apply, CommitAndApply, Reply, Empty}
 use Rattle.settings_machine.specs.Step.{request_next, with_held, with_job, noting, asked_for, patch_next, commit_next, commit_and_apply_next, committed_world, applied}
-use Rattle.settings_machine.specs.Plain.{IsAnswered, keys_reply, missing_reply}
+use Rattle.plain_machine.specs.Plain.{IsAnswered, keys_reply, missing_reply}
 use Rattle.settings_machine.specs.JobSeen.{job_seen, IsApplied}
 use Rattle.plain_machine.specs.Jobs.{noted, with_since, fresh_job, next_job, taken_up}
 use Rattle.plain_machine.specs.Steps.{IsAsked}

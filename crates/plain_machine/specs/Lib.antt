@@ -1,3 +1,4 @@
+pub mod Plain
 pub mod Worlds
 pub mod Steps
 pub mod Jobs

@@ -1,7 +1,7 @@
 //! The requests that begin a job. What each tells is what the machine replies.
 ghost use Rattle.std.specs.Prelude.{◌≡◌, IfOk, OnOk, OnErr, None, Err};
 ghost use Rattle.std.specs.FinMap.{get};
-ghost use Rattle.settings_machine.specs.Plain.{keys_reply, missing_reply};
+ghost use Rattle.plain_machine.specs.Plain.{keys_reply, missing_reply};
 ghost use Rattle.settings_machine.specs.Requests.{Apply, CommitAndApply, Empty};
 ghost use Rattle.settings_machine.specs.Typed.{IsTypedHeld};
 ghost use Rattle.pending_tx.specs.declared.answers.CommitError.TheVariants.{NoPending as Missing};
@@ -12,8 +12,9 @@ ghost use Rattle.plain_machine.specs.Worlds.{world_of};
 use crate::image::PlainImage;
 use crate::job_steps::{next_job, note, noted, take_up};
 use crate::machine::PlainMachine;
+use crate::pending::keep_rule;
 use pending_tx::CommitError;
-use settings_machine::{apply, keep_rule};
+use settings_machine::apply;
 use settings_tree::{KeyList, TxName};
 use std::alloc::{AllocError, Global};
 

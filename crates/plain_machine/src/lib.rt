@@ -10,6 +10,7 @@ mod job_steps;
 mod machine;
 mod opening;
 mod opening_answer;
+mod pending;
 mod ran;
 mod todo;
 mod transactions;

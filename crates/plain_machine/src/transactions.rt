@@ -3,8 +3,7 @@ ghost use Rattle.std.specs.Prelude.{◌≡◌, All, IfOk, IsTrue, OnErr, None, E
 ghost use Rattle.std.specs.FinMap.{get};
 ghost use Rattle.key_names.specs.Key.{is_prefix};
 ghost use Rattle.settings_tree.specs.Content.{settings_key};
-ghost use Rattle.settings_machine.specs.Plain.{patch_reply, keys_reply, missing_reply};
-ghost use Rattle.settings_machine.specs.Refused.{seen};
+ghost use Rattle.plain_machine.specs.Plain.{patch_reply, keys_reply, missing_reply};
 ghost use Rattle.settings_machine.specs.Requests.{Patch, DropTx, Commit};
 ghost use Rattle.settings_machine.specs.Typed.{IsTypedHeld};
 ghost use Rattle.pending_tx.specs.declared.answers.CommitError.TheVariants.{NoPending as Missing};
@@ -15,9 +14,10 @@ ghost use Rattle.plain_machine.specs.Worlds.{world_of};
 use crate::image::PlainImage;
 use crate::job_steps::{note, noted};
 use crate::machine::PlainMachine;
+use crate::pending::{drop_tx, keep_rule, pend};
 use key_names::Key;
 use pending_tx::CommitError;
-use settings_machine::{Refused, drop_tx, keep_rule, pend};
+use settings_machine::Refusal;
 use settings_tree::{KeyList, Pending, TxName, is_setting};
 use std::alloc::{AllocError, Global};
 
@@ -39,11 +39,11 @@ impl PlainMachine {
         image: &PlainImage,
         tx: &TxName,
         pairs: &[(Key, Pending)],
-    ) -> Result<Option<Refused>, AllocError>
+    ) -> Result<Option<Refusal>, AllocError>
         requires table { IsTable image.now.types }
         requires typed { IsTypedHeld image.now.types self.old.held }
         requires settings { All (λ e. is_prefix settings_key e.0 ≡ true) pairs.now }
-        ensures asked { IfOk result (λ o. IsAsked image.now self.old (Patch tx.now pairs.now) self.new (patch_reply (seen o))) }
+        ensures asked { IfOk result (λ o. IsAsked image.now self.old (Patch tx.now pairs.now) self.new (patch_reply o)) }
         ensures typed { IsTypedHeld image.now.types self.new.held }
         ensures unchanged { OnErr result (world_of self.new ≡ world_of self.old) }
     {

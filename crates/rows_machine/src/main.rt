@@ -10,44 +10,29 @@
 //! - `values KEY JSON` and `pairs JSON` come to the replies of the server's own with these values below the key, and this patch of the settings.
 #![tactic(auto)]
 
-mod host;
-mod requests;
+mod replies;
+mod steps;
 
-use crate::host::{Kept, replayed};
+use crate::steps::{booted, path_of, step};
 use disk_memory::MemoryDisk;
-use outside::{Disk, Path};
+use machine_replies::Host;
+use outside::Disk;
 use row_files::{Given, Subject, all_go, bad};
 use std::alloc::Global;
 use std::io;
 use std::process::ExitCode;
 
-// A disk with an image, and the steps since the last boot, which are made again for each further one.
+// A disk with an image, and the host that was booted of it.
 #[derive(Drop)]
 struct Rows {
     disk: MemoryDisk,
-    steps: Option<Vec<Kept>>,
-}
-
-impl Rows {
-    // Makes a step behind those since the boot. One that makes none is not kept.
-    fn step(&mut self, alloc: Global, word: &str, text: &str) -> io::Result<Vec<u8>> {
-        let steps = self.steps.as_mut().ok_or(bad())?;
-        steps.push(Kept {
-            word: String::from_str(alloc, word)?,
-            text: String::from_str(alloc, text)?,
-        })?;
-        let shown = replayed(alloc, &mut self.disk, steps);
-        if shown.is_err() {
-            steps.pop();
-        }
-        shown
-    }
+    host: Option<Box<Host>>,
 }
 
 impl Subject for Rows {
     fn begin(&mut self, alloc: Global) -> io::Result<()> {
         self.disk = MemoryDisk::new(alloc)?;
-        self.steps = None;
+        self.host = None;
         Ok(())
     }
 
@@ -55,23 +40,25 @@ impl Subject for Rows {
         let text = given.words()?;
         Ok(Some(match word {
             "put" => {
-                let path = Path::read(alloc, given.text).ok().ok_or(bad())?;
-                let put = self.disk.replace(&path, given.lines.unwrap_or(b""));
+                let put = self
+                    .disk
+                    .replace(&path_of(alloc, text)?, given.lines.unwrap_or(b""));
                 put.ok().ok_or(bad())?;
                 Vec::new(alloc)
             }
             "boot" => {
-                self.steps = Some(Vec::new(alloc));
-                replayed(alloc, &mut self.disk, &[])?
+                self.host = None;
+                self.host = Some(booted(alloc, &mut self.disk)?);
+                Vec::new(alloc)
             }
-            "values" => requests::values(alloc, text)?,
-            "pairs" => requests::pending(alloc, text)?,
-            _ => self.step(alloc, word, text)?,
+            "values" => replies::values(alloc, text)?,
+            "pairs" => replies::pending(alloc, text)?,
+            _ => step(alloc, self.host.as_mut().ok_or(bad())?, word, text)?,
         }))
     }
 }
 
 fn main(rt: HostRuntime) -> io::Result<ExitCode> {
     let disk = MemoryDisk::new(rt.alloc())?;
-    all_go(&rt, &mut Rows { disk, steps: None })
+    all_go(&rt, &mut Rows { disk, host: None })
 }

@@ -1,6 +1,7 @@
 //! What bytes are read as: `not yet`, the word of a refusal, or what is asked with its values.
-use api_http::{Ask, Reading, Refusal, bytes_wanted, read_request};
+use api_http::{Reading, Refusal, bytes_wanted, read_request};
 use key_names::{Key, Text};
+use settings_machine::Request;
 use settings_tree::Pending;
 use std::alloc::{AllocError, Global};
 
@@ -39,30 +40,24 @@ fn patch(out: &mut String, tx: &str, pairs: &[(Key, Pending)]) -> Result<(), All
 }
 
 /// Tells the word of what is asked, the transaction, and the values.
-pub fn ask(out: &mut String, ask: &Ask) -> Result<(), AllocError> {
-    match ask {
-        Ask::Root => out.push_str("root"),
-        Ask::OsNames => out.push_str("os"),
-        Ask::Settings {
-            keys: Some(asked),
-            ..
-        } => keys(out, "keys", asked),
-        Ask::Settings {
-            prefix: Some(prefix),
-            ..
-        } => write!(out, "prefix {}", prefix.print()?.as_str()),
-        Ask::Settings { .. } => out.push_str("settings"),
-        Ask::Patch { tx, pairs } => patch(out, tx.as_str(), pairs),
-        Ask::Services { names: asked } => names(out, "services", asked),
-        Ask::Files { names: asked } => names(out, "files", asked),
-        Ask::Affected { keys: asked } => keys(out, "affected", asked),
-        Ask::Pending { tx } => write!(out, "pending {}", tx.as_str()),
-        Ask::DropTx { tx } => write!(out, "drop {}", tx.as_str()),
-        Ask::TxList => out.push_str("transactions"),
-        Ask::Commit { tx } => write!(out, "commit {}", tx.as_str()),
-        Ask::Apply => out.push_str("apply"),
-        Ask::CommitAndApply { tx } => write!(out, "commit-and-apply {}", tx.as_str()),
-        Ask::JobNow => out.push_str("job"),
+pub fn request(out: &mut String, request: &Request) -> Result<(), AllocError> {
+    match request {
+        Request::Root => out.push_str("root"),
+        Request::OsNames => out.push_str("os"),
+        Request::Settings => out.push_str("settings"),
+        Request::SettingsAt { keys: asked } => keys(out, "keys", asked),
+        Request::SettingsBelow { key } => write!(out, "prefix {}", key.print()?.as_str()),
+        Request::Patch { tx, pairs } => patch(out, tx.as_str(), pairs),
+        Request::Services { names: asked } => names(out, "services", asked),
+        Request::ConfigurationFiles { names: asked } => names(out, "files", asked),
+        Request::Affected { keys: asked } => keys(out, "affected", asked),
+        Request::Pends { tx } => write!(out, "pending {}", tx.as_str()),
+        Request::DropTx { tx } => write!(out, "drop {}", tx.as_str()),
+        Request::TxList => out.push_str("transactions"),
+        Request::Commit { tx } => write!(out, "commit {}", tx.as_str()),
+        Request::Apply => out.push_str("apply"),
+        Request::CommitAndApply { tx } => write!(out, "commit-and-apply {}", tx.as_str()),
+        Request::JobNow => out.push_str("job"),
     }
 }
 
@@ -86,9 +81,12 @@ pub fn refusal(out: &mut String, refusal: &Refusal) -> Result<(), AllocError> {
 pub fn read(alloc: Global, out: &mut String, bytes: &[u8]) -> Result<(), AllocError> {
     let mut more = 0;
     match read_request(alloc, bytes)? {
-        Reading::Whole { ask: asked, length } => {
+        Reading::Whole {
+            request: asked,
+            length,
+        } => {
             more = bytes.len().saturating_sub(length);
-            ask(out, &asked)?;
+            request(out, &asked)?;
         }
         Reading::NotYet => out.push_str("not yet")?,
         Reading::Refused { refusal: why } => refusal(out, &why)?,

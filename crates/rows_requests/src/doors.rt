@@ -5,7 +5,7 @@ ghost use Rattle.outside.specs.Door.{Accepts, Opens, LastBy, finished};
 ghost use Rattle.outside.specs.Told.{Moves};
 ghost use Rattle.outside.specs.Faults.{HasCause};
 
-use crate::asks::{ask, refusal};
+use crate::asks::{refusal, request};
 use api_server::{Heard, hear, say};
 use disk_memory::{Input, MemoryDoor};
 use outside::{Door, Failed};
@@ -99,7 +99,7 @@ fn inputs_of(
 // What was heard, as a line.
 fn told(out: &mut String, heard: &Heard) -> Result<(), AllocError> {
     match heard {
-        Heard::Asked { ask: asked } => ask(out, asked)?,
+        Heard::Asked { request: asked } => request(out, asked)?,
         Heard::Refused { refusal: why } => refusal(out, why)?,
         Heard::Ended => out.push_str("ended")?,
         Heard::Memory => out.push_str("memory")?,

@@ -1,23 +1,28 @@
 //! The bytes of replies.
-use api_http::{Answer, Refusal, Reply, print_reply};
+use api_http::{Refusal, Reply, print_answer, print_refusal, print_text};
 use key_names::{Key, Text};
+use machine_answers::Answer;
 use row_files::{bad, parts};
+use settings_machine::Refusal as Refused;
 use settings_tree::TxName;
 use std::alloc::{AllocError, Global};
 use std::io;
 
-// The refusal of the word, of which nothing else is told.
-fn plain_refusal(word: &str) -> io::Result<Refusal> {
-    Ok(match word {
-        "head-too-long" => Refusal::HeadTooLong,
-        "head" => Refusal::Head,
-        "no-path" => Refusal::NoPath,
-        "query" => Refusal::Query,
-        "length" => Refusal::Length,
-        "body-too-long" => Refusal::BodyTooLong,
-        "body" => Refusal::Body,
-        "memory" => Refusal::Memory,
-        "disk" => Refusal::DiskFault,
+// The refusal of HTTP of the word, with what is told of it.
+fn refusal_of(alloc: Global, word: &str, text: &str) -> io::Result<Refusal> {
+    let told = Text::from_str(alloc, text)?;
+    Ok(match (word, text) {
+        ("method", _) => Refusal::Method { path: told },
+        ("store", _) => Refusal::Store { at: told },
+        ("head-too-long", "") => Refusal::HeadTooLong,
+        ("head", "") => Refusal::Head,
+        ("no-path", "") => Refusal::NoPath,
+        ("query", "") => Refusal::Query,
+        ("length", "") => Refusal::Length,
+        ("body-too-long", "") => Refusal::BodyTooLong,
+        ("body", "") => Refusal::Body,
+        ("memory", "") => Refusal::Memory,
+        ("disk", "") => Refusal::DiskFault,
         _ => return Err(bad()),
     })
 }
@@ -26,46 +31,39 @@ fn key_of(alloc: Global, text: &str) -> io::Result<Key> {
     Key::read(alloc, text.as_bytes()).ok().ok_or(bad())
 }
 
-// The refusal of the word that tells a key, the type that is wanted or a transaction.
-fn named_refusal(alloc: Global, word: &str, text: &str) -> io::Result<Refusal> {
-    match word {
+// The refusal of the machine of the word, if it is one, with what is told of it.
+fn refused(alloc: Global, word: &str, text: &str) -> io::Result<Option<Refused>> {
+    Ok(Some(match word {
         "type" => {
             let (key, wanted) = text.split_once(' ').ok_or(bad())?;
             let (key, wanted) = (key_of(alloc, key)?, Text::from_str(alloc, wanted)?);
-            Ok(Refusal::BadType { key, wanted })
+            Refused::BadType { key, wanted }
         }
-        "no-key" => Ok(Refusal::NoKey {
+        "no-key" => Refused::NoKey {
             key: key_of(alloc, text)?,
-        }),
-        "no-pending" => match TxName::read(alloc, text.as_bytes())? {
-            Some(tx) => Ok(Refusal::NoPending { tx }),
-            None => Err(bad()),
         },
-        _ if text.is_empty() => plain_refusal(word),
-        _ => Err(bad()),
-    }
-}
-
-// The answer of the word, with what is told of it.
-fn answer_of(alloc: Global, word: &str, told: &str) -> io::Result<Answer> {
-    let text = Text::from_str(alloc, told)?;
-    let refusal = match word {
-        "json" => return Ok(Answer::Json { text }),
-        "empty" => return Ok(Answer::Empty),
-        "method" => Refusal::Method { path: text },
-        "no-name" => Refusal::NoName { name: text },
-        "store" => Refusal::Store { at: text },
-        _ => named_refusal(alloc, word, told)?,
-    };
-    Ok(Answer::Refused { refusal })
+        "no-name" => Refused::NoName {
+            name: Text::from_str(alloc, text)?,
+        },
+        "no-pending" => Refused::NoPending {
+            tx: TxName::read(alloc, text.as_bytes())?.ok_or(bad())?,
+        },
+        _ => return Ok(None),
+    }))
 }
 
 // The reply of the word; a fixed one takes no memory.
 fn reply_of(alloc: Global, word: &str, text: &str) -> io::Result<Reply> {
     match (word, text) {
-        ("fixed", "memory") => Ok(Reply::memory()),
-        ("fixed", "disk") => Ok(Reply::disk()),
-        _ => Ok(print_reply(alloc, &answer_of(alloc, word, text)?)?),
+        ("fixed", "memory") => return Ok(Reply::memory()),
+        ("fixed", "disk") => return Ok(Reply::disk()),
+        ("json", _) => return Ok(print_text(alloc, &Text::from_str(alloc, text)?)?),
+        ("empty", _) => return Ok(print_answer(alloc, &Answer::Empty)?),
+        _ => {}
+    }
+    match refused(alloc, word, text)? {
+        Some(refusal) => Ok(print_answer(alloc, &Answer::Refused(refusal))?),
+        None => Ok(print_refusal(alloc, &refusal_of(alloc, word, text)?)?),
     }
 }
 

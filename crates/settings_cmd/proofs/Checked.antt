@@ -27,7 +27,7 @@ told files image (Err (refused.BadJournal path)) read reports = absurd reports
 told files image (Err (refused.BadImage file kind at)) read reports = absurd reports
 told files image (Err (refused.IllTyped key)) read reports = absurd reports
 told files image (Err (refused.NotCovered lines)) read reports = record { image = image; read = read; report = reports }
-told files image (Err (refused.Refused status body)) read reports = absurd reports
+told files image (Err (refused.Refused refusal)) read reports = absurd reports
 told files image (Err (refused.AlreadyThere version)) read reports = absurd reports
 told files image (Err (refused.OldFormat directory)) read reports = absurd reports
 told files image (Err refused.Door) read reports = absurd reports

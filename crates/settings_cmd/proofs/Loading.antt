@@ -1,7 +1,6 @@
 -- The number of the command `load`, and what its answer tells.
-use Rattle.std.proofs.Common.{◌≡◌, inl, ℕ, ◌≤◌, List, [], ◌∷◌, Option, IfOk, IfErr, refl, sym, subst}
+use Rattle.std.proofs.Common.{◌≡◌, ℕ, ◌≤◌, List, [], ◌∷◌, IfErr, refl, sym, subst}
 use Rattle.std.specs.Result.{IsErrOf}
-use Rattle.outside.specs.History.{History}
 use Rattle.command_words.specs.Orders.{Spells, order_of, load}
 use Rattle.command_words.specs.declared.command.Command.{Command}
 use Rattle.command_words.specs.declared.command.Command.TheVariants.{Load}
@@ -9,8 +8,6 @@ use Rattle.command_outcome.specs.Ends.{Outcome}
 use Rattle.command_outcome.specs.declared.refusal.Refusal.{Refusal}
 use Rattle.command_outcome.specs.declared.refusal.Refusal.TheVariants as refused
 use Rattle.core_commands.specs.Handing.{HasSpawnCause}
-use Rattle.load_input.specs.Loads.{Loads}
-use Rattle.settings_cmd.specs.Carried.{Carried, IsLoaded}
 use Rattle.settings_cmd.proofs.Making.{is_none_of, spawn_none}
 
 load_range : (words : List (List ℕ)) (count : ℕ) → Spells words (load count) → (1 ≤ count) × (count ≤ 10000)
@@ -20,13 +17,6 @@ load_range (word ∷ words) count spelled = (spelled.1.spelled.low, spelled.1.sp
 -- The number that was read is in the range.
 pub load_in_range : (words : List (List ℕ)) (command : Command) (count : ℕ) → command ≡ Load count → Spells words (order_of command) → (1 ≤ count) × (count ≤ 10000)
 load_in_range words command count is spelled = load_range words count (subst (λ (k : Command). Spells words (order_of k)) is spelled)
-
--- The run that was made is that of the words.
-pub loaded : (count read : ℕ) (outcome : Outcome) (d : Option History) → load read ≡ load count → IfOk outcome (Loads read) → IfErr outcome (λ refusal. refusal ≡ refused.Memory)
-    → Carried (IsLoaded count) outcome d d
-loaded count read outcome d is loads memory =
-    let same : read ≡ count = cc is in
-    inl (record { lines = subst (λ (n : ℕ). IfOk outcome (Loads n)) same loads; memory = memory; same = refl })
 
 -- Where memory alone may be wanting, there is no other refusal,
 pub memory_alone : (outcome : Outcome) (e : Refusal) → (refused.Memory ≡ e → ⊥) → IfErr outcome (λ refusal. refusal ≡ refused.Memory) → IsErrOf outcome e → ⊥

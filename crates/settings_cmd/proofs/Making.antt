@@ -17,7 +17,8 @@ use Rattle.store_open.specs.declared.opened.Opened.{Opened}
 use Rattle.command_outcome.specs.Ends.{Outcome}
 use Rattle.command_outcome.specs.declared.refusal.Refusal.{Refusal}
 use Rattle.command_outcome.specs.declared.refusal.Refusal.TheVariants as refused
-use Rattle.core_commands.specs.Committing.{Commits, IsOfCommit}
+use Rattle.core_commands.specs.Committing.{Commits}
+use Rattle.core_commands.specs.Handing.{IsOfRequest}
 use Rattle.core_commands.specs.Handing.{HasSpawnCause}
 use Rattle.core_commands.proofs.Causes.{quiet_spawn}
 use Rattle.setting_generators.specs.Asking.{FailsBy, wanted}
@@ -191,7 +192,7 @@ spawn_unread r refusal x is of =
     (is_none_of IsOfGenerators r refused.Door (λ none. none) (refused_of IsOfGenerators r refusal is of))
 
 -- and pairs that all of them gave were committed, or not.
-pub spawn_committed : {A : Type 0} (pairs : A) (outcome : Outcome) (before now : ℕ) → HasSpawnCause {T = A} before now (Ok pairs) → IfErr outcome IsOfCommit → HasSpawnCause before now outcome
+pub spawn_committed : {A : Type 0} (pairs : A) (outcome : Outcome) (before now : ℕ) → HasSpawnCause {T = A} before now (Ok pairs) → IfErr outcome IsOfRequest → HasSpawnCause before now outcome
 spawn_committed pairs outcome before now cause of =
-    spawn_none outcome before now (cause.kept (λ name is. cc is) (λ is. cc is)) (λ name. is_none_of IsOfCommit outcome (refused.Spawn name) (λ none. none) of)
-    (is_none_of IsOfCommit outcome refused.Door (λ none. none) of)
+    spawn_none outcome before now (cause.kept (λ name is. cc is) (λ is. cc is)) (λ name. is_none_of IsOfRequest outcome (refused.Spawn name) (λ none. none) of)
+    (is_none_of IsOfRequest outcome refused.Door (λ none. none) of)

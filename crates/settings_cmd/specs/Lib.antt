@@ -1,6 +1,7 @@
 pub mod Carried
 pub mod Checks
 pub mod Committing
+pub mod Does
 pub mod Generators
 pub mod Gets
 pub mod Handing

@@ -1,19 +1,11 @@
 //! A command is carried out, from its words to the devices.
-ghost use Rattle.std.specs.Prelude.{◌≡◌, ◌≢◌, ◌⊎◌, ◌≤◌, ℕ, List, Bool, Option, true, false, IsErrOf, IsOk};
+ghost use Rattle.std.specs.Prelude.{◌≡◌, ℕ, List, false, IsErrOf};
 ghost use Rattle.outside.specs.Faults.{HasCauseOf, Rose};
 ghost use Rattle.outside.specs.Spawner.{texts};
 ghost use Rattle.core_commands.specs.Handing.{HasSpawnCause};
-ghost use Rattle.json_trees.specs.declared.scalar.Scalar.{Scalar as Value};
-ghost use Rattle.command_words.specs.Orders.{Spells, SpellsNone};
-ghost use Rattle.command_words.specs.Orders.{init as InitOrder, serve as ServeOrder, set as SetOrder, get as GetOrder, apply as ApplyOrder, check as CheckOrder};
-ghost use Rattle.command_words.specs.Orders.{migrate as MigrateOrder, prune as PruneOrder, generate as GenerateOrder, user_data as UserDataOrder, load as LoadOrder};
-ghost use Rattle.core_commands.specs.Carried.{Carried as Commanded, CarriesOut, set_requests, apply_requests};
-ghost use Rattle.core_commands.specs.Lines.{IsSettingsLine, IsJobLine};
-ghost use Rattle.api_server.specs.Serving.{wanted};
-ghost use Rattle.settings_cmd.specs.Serving.{HasServed};
-ghost use Rattle.version_links.specs.declared.version.Version.{Version};
-ghost use Rattle.settings_cmd.specs.Carried.{Carried, IsMisused, IsBegun, IsGot, IsChecked, IsMigrated, IsPruned, IsProvided, GeneratesOrNot, IsLoaded};
-ghost use Rattle.settings_cmd.specs.Carried.{ServesNot, RunsNothing, AsksNothing};
+ghost use Rattle.command_words.specs.Orders.{Order, Spells, SpellsNone};
+ghost use Rattle.settings_cmd.specs.Carried.{Carried, IsMisused, ServesNot, RunsNothing, AsksNothing};
+ghost use Rattle.settings_cmd.specs.Does.{Does, devices};
 
 use crate::beginning::begin;
 use crate::checking::check;
@@ -47,28 +39,9 @@ pub fn carry_out<D: Disk, S: Asker, N: Door>(
     requires idle { (N.state door.old).busy ≡ false }
     requires unused { (N.state door.old).accepted ≡ 0 }
     ensures usage { SpellsNone (texts words.now) → Carried IsMisused result (D.told disk.old) (D.told disk.new) }
-    ensures init { (version : Version) → Spells (texts words.now) (InitOrder version)
-        → Carried (IsBegun version) result (D.told disk.old) (D.told disk.new) }
-    ensures serve { (boot : Bool) (slice connections : Option ℕ) → Spells (texts words.now) (ServeOrder boot slice connections)
-        → HasServed boot slice (N.told door.old) (N.told door.new) (S.runs spawner.old) (S.runs spawner.new) result (D.told disk.old) (D.told disk.new) }
-    ensures served { (boot : Bool) (slice connections : Option ℕ) → Spells (texts words.now) (ServeOrder boot slice connections)
-        → IsOk result → ((N.state door.new).accepted ≡ wanted connections) ⊎ ((N.state door.new).ended ≡ true) }
-    ensures set { (pairs : List (List (List ℕ) × Value)) → Spells (texts words.now) (SetOrder pairs)
-        → Commanded (set_requests pairs) IsSettingsLine result (S.runs spawner.old) (S.runs spawner.new) (D.told disk.old) (D.told disk.new) }
-    ensures get { (keys : List (List (List ℕ))) → Spells (texts words.now) (GetOrder keys)
-        → Carried (IsGot keys) result (D.told disk.old) (D.told disk.new) }
-    ensures apply { Spells (texts words.now) ApplyOrder
-        → Commanded apply_requests IsJobLine result (S.runs spawner.old) (S.runs spawner.new) (D.told disk.old) (D.told disk.new) }
-    ensures check { Spells (texts words.now) CheckOrder → Carried IsChecked result (D.told disk.old) (D.told disk.new) }
-    ensures migrate { (version : Version) → Spells (texts words.now) (MigrateOrder version)
-        → IsMigrated version (S.asked spawner.old) (S.asked spawner.new) result (D.told disk.old) (D.told disk.new) }
-    ensures prune { Spells (texts words.now) PruneOrder → Carried IsPruned result (D.told disk.old) (D.told disk.new) }
-    ensures generate { Spells (texts words.now) GenerateOrder
-        → GeneratesOrNot (S.asked spawner.old) (S.asked spawner.new) result (D.told disk.old) (D.told disk.new) }
-    ensures user_data { (path : List (List ℕ)) → Spells (texts words.now) (UserDataOrder path)
-        → Carried (IsProvided path) result (D.told disk.old) (D.told disk.new) }
-    ensures load { (count : ℕ) → Spells (texts words.now) (LoadOrder count)
-        → Carried (IsLoaded count) result (D.told disk.old) (D.told disk.new) }
+    ensures does { (order : Order) → Spells (texts words.now) order → Does order result
+        (devices (D.told disk.old) (N.state door.old) (N.told door.old) (S.asked spawner.old) (S.runs spawner.old))
+        (devices (D.told disk.new) (N.state door.new) (N.told door.new) (S.asked spawner.new) (S.runs spawner.new)) }
     ensures unasked { AsksNothing (texts words.now) → S.asked spawner.new ≡ S.asked spawner.old }
     ensures unrun { RunsNothing (texts words.now) → S.runs spawner.new ≡ S.runs spawner.old }
     ensures shut { ServesNot (texts words.now) → N.told door.new ≡ N.told door.old }

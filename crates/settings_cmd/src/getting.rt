@@ -2,7 +2,7 @@
 ghost use Rattle.std.specs.Prelude.{◌≡◌, ◌∷◌, ◌++◌, [], IfOk};
 ghost use Rattle.outside.specs.Faults.{HasCauseOf};
 ghost use Rattle.settings_cmd.specs.Carried.{IsGot};
-ghost use Rattle.settings_cmd.specs.Gets.{Answers, IsNoKey, asked};
+ghost use Rattle.settings_cmd.specs.Gets.{Answers, asked};
 
 use command_outcome::Refusal;
 use core_commands::{not_opened, tree_line};
@@ -12,25 +12,14 @@ use settings_tree::{Content, first_without};
 use std::alloc::Global;
 use store_open::open_store;
 
-// The refusal of a key at and below which no value stands.
-fn no_value(alloc: Global, key: &Key) -> Result<Bytes, Refusal>
-    ensures { IsNoKey key.now result }
-{
-    let refusal = api_http::Refusal::NoKey { key: key.copy()? };
-    let text = refusal.body(alloc)?;
-    Err(Refusal::Refused {
-        status: refusal.status(),
-        body: Bytes::of(text.as_str().as_bytes().to_vec(alloc)?),
-    })
-}
-
 // The tree of the values at the keys and below them, where each of the keys that were given has one.
 fn asked_line(alloc: Global, live: &Content, given: &[Key], keys: &[Key]) -> Result<Bytes, Refusal>
     requires asked { keys.now ≡ asked given.now }
     ensures { Answers live.now.values given.now result }
 {
     if let Some(key) = first_without(live, given) {
-        return no_value(alloc, key);
+        let key = key.copy()?;
+        return Err(Refusal::Refused(settings_machine::Refusal::NoKey { key }));
     }
     Ok(tree_line(alloc, live, keys)?)
 }

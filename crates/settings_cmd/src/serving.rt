@@ -1,9 +1,8 @@
 //! The command `serve`.
-ghost use Rattle.std.specs.Prelude.{◌≡◌, ◌⊎◌, ◌≤◌, Ok, [], false, IsErrOf, IsOk, true};
+ghost use Rattle.std.specs.Prelude.{◌≡◌, ◌≤◌, Ok, [], false, IsErrOf};
 ghost use Rattle.outside.specs.Faults.{Rose};
-ghost use Rattle.api_server.specs.Serving.{wanted};
 ghost use Rattle.store_open.specs.Opening.{IsSoundOpened};
-ghost use Rattle.settings_cmd.specs.Serving.{served, IsServed};
+ghost use Rattle.settings_cmd.specs.Serving.{served, IsServed, HasAccepted};
 
 use api_core::Core;
 use api_server::serve;
@@ -42,7 +41,7 @@ pub(crate) fn serve_store<D: Disk, S: Spawner, N: Door>(
     requires unused { (N.state door.old).accepted ≡ 0 }
     ensures served { IsServed boot slice (N.told door.old) (N.told door.new) (S.runs spawner.old) (S.runs spawner.new) result (D.told disk.old) (D.told disk.new) }
     ensures idle { (N.state door.new).busy ≡ false }
-    ensures all { IsOk result → ((N.state door.new).accepted ≡ wanted connections) ⊎ ((N.state door.new).ended ≡ true) }
+    ensures accepted { HasAccepted connections result (N.state door.old) (N.state door.new) }
     ensures disk_fault { IsErrOf result Refusal.Disk → Rose (D.faults disk.old) (D.faults disk.new) }
     ensures door_fault { IsErrOf result Refusal.Door → Rose (N.faults door.old) (N.faults door.new) }
     ensures spawner_faults { S.faults spawner.old ≤ S.faults spawner.new }

@@ -14,5 +14,5 @@ pub mod Restarts
 pub mod Programs
 pub mod Answering
 pub mod Rendering
-pub mod Plainly
 pub mod Jobly
+pub mod Refusals

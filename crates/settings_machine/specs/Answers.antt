@@ -10,7 +10,9 @@ use Rattle.settings_tree.specs.Walks.{entries_below}
 use Rattle.metadata_links.specs.Nearest.{near, near_len}
 use Rattle.settings_machine.specs.World.{Key, Image}
 use Rattle.settings_machine.specs.Opening.{Values}
-use Rattle.settings_machine.specs.Requests.{Body, TreeOf, Refusal, NoKey, NoName, Reply, Said, Refused}
+use Rattle.settings_machine.specs.Requests.{Body, TreeOf, Reply, Said, Refused}
+use Rattle.settings_machine.specs.declared.refusal.Refusal.{Refusal}
+use Rattle.settings_machine.specs.declared.refusal.Refusal.TheVariants.{NoKey, NoName}
 
 -- A refusal where one is given, else the body.
 abbrev pub said_unless : Option Refusal → Body → Reply

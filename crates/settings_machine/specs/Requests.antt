@@ -1,9 +1,15 @@
 -- What a client asks of the machine, and what it is answered.
-use Rattle.std.specs.Prelude.{ℕ, Bool, true, false, List, Option}
+use Rattle.std.specs.Prelude.{⊤, ℕ, Bool, true, false, IsTrue, List, Option, All}
+use Rattle.key_names.specs.Key.{is_prefix}
 use Rattle.json_trees.specs.declared.pending.Pending.{Pending}
 use Rattle.json_trees.specs.declared.scalar.Scalar.{Scalar}
 use Rattle.settings_tree.specs.declared.entry.Owed.{Owed}
-use Rattle.settings_machine.specs.World.{Key, Job}
+use Rattle.settings_tree.specs.Content.{settings_key}
+use Rattle.settings_machine.specs.World.{Key, Job, Idle, Failed, Running}
+use Rattle.settings_machine.specs.declared.job.JobStatus.{JobStatus}
+use Rattle.settings_machine.specs.declared.job.JobStatus.TheVariants as standing
+use Rattle.settings_machine.specs.declared.refusal.Refusal.{Refusal}
+use Rattle.settings_machine.specs.declared.refusal.Refusal.TheVariants.{BadType, NoKey, NoName, NoPending}
 
 -- A whole request. A transaction is named by a list of bytes.
 pub data Request : Type 0 where
@@ -36,13 +42,25 @@ pub data Request : Type 0 where
   -- the job, and what is owed
   JobNow : Request
 
--- Why a request changes nothing: a pair that the types refuse and what is wanted there, a key without a live value, a name
--- that isn't there, a transaction that isn't there.
-pub data Refusal : Type 0 where
-  BadType : Key → List ℕ → Refusal
-  NoKey : Key → Refusal
-  NoName : List ℕ → Refusal
-  NoPending : List ℕ → Refusal
+-- Each key of a patch begins with `settings`.
+abbrev pub IsProper : Request → Type 0
+IsProper (Patch tx pairs) = All (λ pair. IsTrue (is_prefix settings_key pair.0)) pairs
+IsProper _ = ⊤
+
+-- Whether it asks alone, and changes nothing.
+abbrev pub is_reading : Request → Bool
+is_reading (Patch tx pairs) = false
+is_reading (DropTx tx) = false
+is_reading (Commit tx) = false
+is_reading Apply = false
+is_reading (CommitAndApply tx) = false
+is_reading _ = true
+
+-- How a job stands, as a client is told.
+abbrev pub job_status : Job → JobStatus
+job_status Idle = standing.Idle
+job_status (Failed cause) = standing.Failed cause
+job_status (Running work) = standing.Running
 
 -- What the body of an answer says.
 pub data Body : Type 0 where
@@ -58,8 +76,8 @@ pub data Body : Type 0 where
   KeyList : List Key → Body
   -- names
   NameList : List (List ℕ) → Body
-  -- the job, and what is owed
-  JobIs : Job → Owed → Body
+  -- how the job stands, and what is owed
+  JobIs : JobStatus → Owed → Body
 
 -- What a request is answered: a body with status 200, status 204, a refusal, want of memory, a fault of the disk, or that
 -- the store could not be opened again, for what stands there.

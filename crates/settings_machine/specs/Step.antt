@@ -14,12 +14,13 @@ use Rattle.metadata_links.specs.Links.{files_of, commands_of}
 use Rattle.template_eval.specs.Rendered.{Rendered}
 use Rattle.settings_machine.specs.declared.cause.Cause.{Cause}
 use Rattle.settings_machine.specs.declared.cause.Cause.TheVariants as cause
+use Rattle.settings_machine.specs.declared.refusal.Refusal.TheVariants.{BadType, NoPending}
 use Rattle.settings_machine.specs.World.{Key, Image, World, Files, Work, Job, Idle, Failed, Running, owes_none, path_of, rendered}
 use Rattle.settings_machine.specs.Typed.{Wanted, first_wanted}
 use Rattle.settings_machine.specs.Opening.{added_keys, opened_held}
 use Rattle.settings_machine.specs.Requests.{Request, Root, OsNames, Settings, SettingsAt, SettingsBelow, Patch, Services, ConfigurationFiles}
 use Rattle.settings_machine.specs.Requests.{Affected, Pends, DropTx, TxList, Commit, Apply, CommitAndApply, JobNow}
-use Rattle.settings_machine.specs.Requests.{BadType, NoPending, TreeOf, PendingTreeOf, TextsByName, ListsByKey, KeyList, NameList, JobIs}
+use Rattle.settings_machine.specs.Requests.{TreeOf, PendingTreeOf, TextsByName, ListsByKey, KeyList, NameList, JobIs, job_status}
 use Rattle.settings_machine.specs.Requests.{Reply, Said, Empty, Refused, NoMemory, DiskFault, NotOpened}
 use Rattle.settings_machine.specs.Answers.{said_unless, settings_of, settings_where, missing_key, below_names, nearest_lists}
 
@@ -131,7 +132,7 @@ answered I W TxList = stays W (Said (NameList (keys W.held.pending)))
 answered I W (Commit tx) = commit_next W tx (get W.held.pending tx)
 answered I W Apply = record { world = applied I W; reply = Empty }
 answered I W (CommitAndApply tx) = commit_and_apply_next I W tx (get W.held.pending tx)
-answered I W JobNow = stays W (Said (JobIs W.job W.held.owed))
+answered I W JobNow = stays W (Said (JobIs (job_status W.job) W.held.owed))
 
 -- The next world and the reply, with what the outside let the request come to. At a fault what is held is wholly that of
 -- the next world or wholly the old, no job begins, and a running one fails.

@@ -1,6 +1,7 @@
 //! The job, and how it begins.
 ghost use Rattle.std.specs.Prelude.{◌≡◌, ◌||◌, IfOk, IsOk, IsTrue, OnOk, OnErr};
 ghost use Rattle.settings_machine.specs.World.{Image, is_running, owes_none};
+ghost use Rattle.settings_machine.specs.Requests.{job_status};
 ghost use Rattle.settings_machine.specs.Step.{begun};
 ghost use Rattle.settings_machine.specs.JobSeen.{job_seen, IsApplied};
 
@@ -32,6 +33,30 @@ pub enum Job {
     Failed(Cause),
     /// One is running.
     Running(Work),
+}
+
+/// How a job stands, as a client is told.
+#[derive(Debug, Drop)]
+pub enum JobStatus {
+    /// Nothing is to be done.
+    Idle,
+    /// The last one failed.
+    Failed(Cause),
+    /// One is running.
+    Running,
+}
+
+impl Job {
+    /// How it stands. The only error is out of memory.
+    pub fn status(&self) -> Result<JobStatus, AllocError>
+        ensures { IfOk result (λ status. status ≡ job_status (job_seen self.now)) }
+    {
+        match self {
+            Job::Idle => Ok(JobStatus::Idle),
+            Job::Failed(cause) => Ok(JobStatus::Failed(cause.copy()?)),
+            Job::Running(_) => Ok(JobStatus::Running),
+        }
+    }
 }
 
 /// Whether nothing is owed. It takes no memory.

@@ -10,12 +10,14 @@ mod cause;
 mod file;
 mod job;
 mod law;
-mod pending;
+mod refusal;
 mod refused;
+mod request;
 
 pub use cause::Cause;
 pub use file::file_bytes;
-pub use job::{Job, Work, apply, begun, owes_none};
+pub use job::{Job, JobStatus, Work, apply, begun, owes_none};
 pub use law::laws;
-pub use pending::{Committed, commit, drop_tx, keep_rule, pend};
-pub use refused::{Refused, refused_pair};
+pub use refusal::Refusal;
+pub use refused::refused_pair;
+pub use request::Request;

@@ -1,5 +1,5 @@
 -- The commands are runs of the machine.
-use Rattle.std.proofs.Common.{◌≡◌, inl, inr, ◌⊎◌, ℕ, Bool, true, false, List, [], ◌∷◌, ◌++◌, Option, Result, Ok, Err, IfErr, OnErr, OnOk, refl, sym, ◌∙◌, ap, subst}
+use Rattle.std.proofs.Common.{◌≡◌, inl, inr, ◌⊎◌, ℕ, Bool, true, false, List, [], ◌∷◌, ◌++◌, Option, Some, None, Result, Ok, Err, refl, sym, ◌∙◌, ap, subst}
 use Rattle.outside.specs.Exchange.{Exchange}
 use Rattle.outside.specs.History.{History}
 use Rattle.outside.specs.Spawner.{Run}
@@ -8,9 +8,10 @@ use Rattle.outside.proofs.Told.{moves_same}
 use Rattle.outside.proofs.Crash.{settled_image}
 use Rattle.outside.specs.Tree.{file_in}
 use Rattle.settings_tree.specs.declared.held.Held.{Held}
-use Rattle.settings_machine.specs.World.{Image, World, is_running}
+use Rattle.settings_machine.specs.World.{Image, World, Job, Idle, is_running}
+use Rattle.settings_machine.specs.Opening.{added_keys}
 use Rattle.settings_machine.specs.Requests.{Request}
-use Rattle.settings_machine.specs.Step.{opened}
+use Rattle.settings_machine.specs.Step.{noting, opened}
 use Rattle.settings_machine.specs.Events.{Event, Opened, Succeeded, Failing, after, next}
 use Rattle.settings_machine.specs.Paid.{Paid, IsGood}
 use Rattle.machine_disk.specs.Store.{HasStore}
@@ -28,14 +29,18 @@ use Rattle.store_open.proofs.MachineRuns.{openings_run, refusals_keep}
 use Rattle.command_outcome.specs.Ends.{Outcome}
 use Rattle.command_outcome.specs.declared.refusal.Refusal.TheVariants as refused
 use Rattle.core_commands.specs.Lines.{IsSettingsLine, IsJobLine}
-use Rattle.core_commands.specs.Carried.{set_requests, apply_requests, core_over, GoesOn, Makes}
+use Rattle.core_commands.specs.Carried.{set_requests, apply_requests, core_over, Follows, GoesOn, FollowsOpening}
 use Rattle.core_commands.specs.Handing.{not_opened}
 use Rattle.settings_cmd.specs.Gets.{Answers, AnswersOpening}
-use Rattle.settings_cmd.specs.Serving.{served, OpensAndServes, Serves}
+use Rattle.settings_cmd.specs.Serving.{served, ServesOn, Serves, FollowsOpening as FollowsServing}
 use Rattle.settings_run.specs.Laws.{Begins, IsRun, IsUnopened, RequestEvents, RequestsRun, SetsRun, AppliesRun, ServeEvents, ServesRun, GetEvents, GetsRun}
 use Rattle.settings_run.proofs.Whole.{whole}
 use Rattle.settings_run.proofs.Served.{comes_served, all_served}
-use Rattle.core_commands.proofs.Carryings.{opened_job}
+
+-- An opening begins no job.
+pub opened_job : (I : Image) (W : World) (boot : Bool) → W.job ≡ Idle → Idle ≡ (opened I W boot).job
+unfolding opened
+opened_job I W boot idle = sym (ap (λ (j : Job). noting j (added_keys I.defaults.values W.held.live.values)) idle)
 
 module _ (I : Image) (good : IsGood I) (folder : Folder) (is : IsImageOfFolder I folder) (W : World) (old new : History) (begins : Begins I folder W old) where
   -- On a settled disk each image is the tree.
@@ -111,50 +116,72 @@ module _ (I : Image) (good : IsGood I) (folder : Folder) (is : IsImageOfFolder I
   runs_after : (boot : Bool) (es : List Event) (r r' : Option (List Run)) → RunsBy I (opened I W boot) es r r' → RunsBy I W (Opened boot Succeeded ∷ es) r r'
   runs_after boot es r r' moves = subst (λ (rs : List Run). Moves r r' (λ a b. a ≡ rs → b ≡ (after I (opened I W boot) es).runs)) (opened_runs boot) moves
 
+  -- The store was opened as the machine opens it,
+  pub opening_run : (boot : Bool) (store : answer.Opened) (between : History) → Opens boot (Ok store) old between
+      → OpensTo I folder W W boot store.place store.held old between × HoldsImage I store.image
+  opening_run boot store between opens = openings_run I good folder is W W boot (Ok store) old between disk_at (ap is_running begins.idle) opens
+
+  -- and the core over it is where the disk is.
+  pub open_kept : (boot : Bool) (store : answer.Opened) (between : History) → OpensTo I folder W W boot store.place store.held old between
+      → Kept I folder (opened I W boot) (opened I W boot) between (core_over store)
+  open_kept boot store between run =
+      opens_kept I folder W W boot store.place store.held old between (core_over store) run refl refl (opened_job I W boot begins.idle) refl
+
   -- ---- requests
 
   module _ (qs : List Request) (Tells : World → List ℕ → Type 0) (outcome : Outcome) (r r' : Option (List Run)) where
-    goes : (store : answer.Opened) → GoesOn I folder W W qs Tells store outcome r r' old new → IsRun I W (RequestEvents I W qs Tells outcome) r r' old new
-    goes store on =
-        let f = on.follows in
+    goes : (store : answer.Opened) (between : History) → Opens false (Ok store) old between → GoesOn qs Tells store outcome r r' between new
+        → IsRun I W (RequestEvents I W qs Tells outcome) r r' old new
+    goes store between opens on =
+        let run = opening_run false store between opens in
+        let f : Follows I folder (opened I W false) (opened I W false) qs Tells outcome (core_over store) r r' between new =
+        on.each I good run.1 folder (opened I W false) (opened I W false) (open_kept false store between run.0) in
         record {
           events = Opened false Succeeded ∷ (f.asked ++ f.turned);
           form_is = inl (f.asked, f.turned, refl, f.comes);
-          runs_to = runs_to I good folder W false (f.asked ++ f.turned) old on.between new store.place store.held (core_over store) f.now begins.starts on.opens
+          runs_to = runs_to I good folder W false (f.asked ++ f.turned) old between new store.place store.held (core_over store) f.now begins.starts run.0
               (comes_served I (opened I W false) qs Tells outcome f.asked f.turned f.comes) f.made;
           ran = runs_after false (f.asked ++ f.turned) r r' f.runs;
           calm = λ e. calm_images I folder (after I (opened I W false) (f.asked ++ f.turned)) f.made.other new f.now (f.made.flag ∙ e) f.made.kept;
         }
 
-    pub by_opening : (result : Result answer.Opened OpenError) → IfErr result (λ e. outcome ≡ Err (not_opened e)) → OnErr result (r' ≡ r) → Makes qs Tells result outcome r r' old new
-        → IsRun I W (RequestEvents I W qs Tells outcome) r r' old new
-    by_opening (Ok store) told same makes = goes store (makes.each I good folder is W W disk_at begins.idle)
-    by_opening (Err e) told same makes = unopened_run (RequestEvents I W qs Tells outcome) r r' false outcome (λ events un. inr un) same e told makes.unopened
+    pub by_opening : (result : Result answer.Opened OpenError) (between : Option History) → Moves (Some old) between (Opens false result)
+        → FollowsOpening qs Tells result outcome r r' between (Some new) → IsRun I W (RequestEvents I W qs Tells outcome) r r' old new
+    by_opening (Ok store) None opens follows = absurd opens.told
+    by_opening (Ok store) (Some mid) opens follows = goes store mid opens.told follows.told
+    by_opening (Err e) between opens follows =
+        let here : Moves (Some old) (Some new) (Opens false (Err e)) = subst (λ (d : Option History). Moves (Some old) d (Opens false (Err e))) (sym follows.1) opens in
+        unopened_run (RequestEvents I W qs Tells outcome) r r' false outcome (λ events un. inr un) follows.2 e follows.0 here.told
 
   -- ---- serve
 
   module _ (boot : Bool) (slice : Option ℕ) (x x' : Option (List Exchange)) (outcome : Outcome) (r r' : Option (List Run)) (fine : Bool) where
-    serves_on : (store : answer.Opened) → outcome ≡ served fine → OpensAndServes I folder W W boot slice fine store x x' r r' old new
+    serves_on : (store : answer.Opened) (between : History) → outcome ≡ served fine → Opens boot (Ok store) old between → Serves boot slice fine store x x' r r' between new
         → IsRun I W (ServeEvents I W boot slice x x' outcome) r r' old new
-    serves_on store told on =
-        let s = on.serves in
+    serves_on store between told opens serves =
+        let run = opening_run boot store between opens in
+        let s : ServesOn I folder (opened I W boot) (opened I W boot) boot slice fine (core_over store) x x' r r' between new =
+        serves.each I good run.1 folder is (opened I W boot) (opened I W boot) (open_kept boot store between run.0) in
         record {
           events = Opened boot Succeeded ∷ s.events;
           form_is = inl (fine, s.rounds, s.events, refl, s.are, s.exchanged, told);
-          runs_to = runs_to I good folder W boot s.events old on.between new store.place store.held (core_over store) s.now begins.starts on.opens
+          runs_to = runs_to I good folder W boot s.events old between new store.place store.held (core_over store) s.now begins.starts run.0
               (all_served I slice boot fine false (opened I W boot) s.rounds s.events s.are) s.made;
           ran = runs_after boot s.events r r' s.runs;
           calm = λ e. calm_images I folder (after I (opened I W boot) s.events) s.made.other new s.now (s.made.flag ∙ e) s.made.kept;
         }
 
-    pub by_serving : (result : Result answer.Opened OpenError) → OnOk result (outcome ≡ served fine) → IfErr result (λ e. outcome ≡ Err (not_opened e))
-        → OnErr result ((x' ≡ x) × (r' ≡ r)) → Serves boot slice fine result x x' r r' old new → IsRun I W (ServeEvents I W boot slice x x' outcome) r r' old new
-    by_serving (Ok store) ok told same serves = serves_on store ok (serves.each I good folder is W W disk_at begins.idle)
-    by_serving (Err e) ok told same serves = unopened_run (ServeEvents I W boot slice x x' outcome) r r' boot outcome (λ events un. inr (un, same.0)) same.1 e told serves.unopened
+    pub by_serving : (result : Result answer.Opened OpenError) (between : Option History) → Moves (Some old) between (Opens boot result)
+        → FollowsServing boot slice fine result outcome x x' r r' between (Some new) → IsRun I W (ServeEvents I W boot slice x x' outcome) r r' old new
+    by_serving (Ok store) None opens follows = absurd opens.told
+    by_serving (Ok store) (Some mid) opens follows = serves_on store mid follows.0 opens.told follows.1.told
+    by_serving (Err e) between opens follows =
+        let here : Moves (Some old) (Some new) (Opens boot (Err e)) = subst (λ (d : Option History). Moves (Some old) d (Opens boot (Err e))) (sym follows.1) opens in
+        unopened_run (ServeEvents I W boot slice x x' outcome) r r' boot outcome (λ events un. inr (un, follows.2)) follows.3 e follows.0 here.told
 
 pub requests_run : (qs : List Request) (Tells : World → List ℕ → Type 0) → RequestsRun qs Tells
 requests_run qs Tells I good folder is W outcome r r' old new begins carries =
-    by_opening I good folder is W old new begins qs Tells outcome r r' carries.opening carries.hands carries.unspawned carries.makes.told
+    by_opening I good folder is W old new begins qs Tells outcome r r' carries.opening carries.between carries.opens carries.follows
 
 pub sets_run : SetsRun
 sets_run pairs = requests_run (set_requests pairs) IsSettingsLine
@@ -164,7 +191,7 @@ applies_run = requests_run apply_requests IsJobLine
 
 pub serves_run : ServesRun
 serves_run I good folder is W boot slice x x' outcome r r' old new begins serves =
-    by_serving I good folder is W old new begins boot slice x x' outcome r r' serves.fine serves.opening serves.answers serves.hands serves.unserved serves.makes.told
+    by_serving I good folder is W old new begins boot slice x x' outcome r r' serves.fine serves.opening serves.between serves.opens serves.follows
 
 -- ---- get
 
@@ -172,10 +199,9 @@ module _ (I : Image) (good : IsGood I) (folder : Folder) (is : IsImageOfFolder I
     (keys : List (List (List ℕ))) (outcome : Outcome) (r : Option (List Run)) where
   gets : (result : Result answer.Opened OpenError) → Opens false result old new → AnswersOpening keys result outcome → IsRun I W (GetEvents I W keys outcome) r r old new
   gets (Ok store) opens answers =
-      let run : OpensTo I folder W W false store.place store.held old new × HoldsImage I store.image =
-      openings_run I good folder is W W false (Ok store) old new (disk_at I good folder is W old new begins) (ap is_running begins.idle) opens in
+      let run = opening_run I good folder is W old new begins false store new opens in
       let kept : Kept I folder (opened I W false) (opened I W false) new (core_over store) =
-      opens_kept I folder W W false store.place store.held old new (core_over store) run.0 refl refl (opened_job I W begins.idle) refl in
+      open_kept I good folder is W old new begins false store new run.0 in
       record {
         events = Opened false Succeeded ∷ [];
         form_is = inl (refl, subst (λ (h : Held). Answers h.live.values keys outcome) (sym (core_holds I folder (opened I W false) (opened I W false) new (core_over store) kept refl)) answers);

@@ -1,10 +1,10 @@
 -- What each command came to is a run of the machine, where a store is there.
-use Rattle.std.proofs.Common.{◌≡◌, inl, inr, ℕ, Bool, List, [], Option, Some, None, Err, refl, sym, subst}
+use Rattle.std.proofs.Common.{◌≡◌, inl, inr, ℕ, Bool, false, List, [], Option, Some, None, Result, Ok, Err, refl, sym, subst}
 use Rattle.outside.specs.Exchange.{Exchange}
 use Rattle.outside.specs.History.{History}
 use Rattle.outside.specs.Spawner.{Run, Question}
 use Rattle.outside.specs.Told.{Moves}
-use Rattle.outside.proofs.Told.{moves_same, moves_map}
+use Rattle.outside.proofs.Told.{moves_same, moves_map, moves_then}
 use Rattle.json_trees.specs.declared.scalar.Scalar.{Scalar}
 use Rattle.settings_machine.specs.World.{Key, Image, World}
 use Rattle.settings_machine.specs.Requests.{Request}
@@ -12,14 +12,17 @@ use Rattle.settings_machine.specs.Events.{Event}
 use Rattle.machine_disk.specs.Kept.{Folder}
 use Rattle.version_links.specs.declared.version.Version.{Version}
 use Rattle.store_open.specs.Beginning.{Begins}
+use Rattle.store_open.specs.Opening.{Opens}
+use Rattle.store_open.specs.declared.opened.Opened.{Opened}
+use Rattle.store_open.specs.declared.open_error.OpenError.{OpenError}
 use Rattle.store_events.proofs.Stays.{prunings_stay}
 use Rattle.command_outcome.specs.Ends.{Outcome}
 use Rattle.command_outcome.specs.declared.refusal.Refusal.TheVariants as refused
 use Rattle.command_words.specs.Orders.{Order, init, serve, set, get, apply, check, prune, load}
-use Rattle.core_commands.specs.Carried.{set_requests, apply_requests, CarriesOut, Carried as Commanded}
+use Rattle.core_commands.specs.Carried.{set_requests, apply_requests, FollowsOpening, CarriesOut, Carried as Commanded}
 use Rattle.core_commands.specs.Lines.{IsSettingsLine, IsJobLine}
 use Rattle.settings_cmd.specs.Carried.{Carried, IsBegun, IsGot, IsChecked, IsPruned, IsLoaded}
-use Rattle.settings_cmd.specs.Serving.{HasServed, IsServed}
+use Rattle.settings_cmd.specs.Serving.{FollowsOpening as FollowsServing, IsServed, HasServed}
 use Rattle.settings_run.specs.Laws as runs
 use Rattle.settings_run.specs.Laws.{RequestEvents, ServeEvents, GetEvents}
 use Rattle.settings_run.proofs.CommandRuns.{requests_run, serves_run, gets_run}
@@ -73,10 +76,14 @@ module _ (x x' : Option (List Exchange)) (a a' : Option (List Question)) (r r' :
         (λ said is. requests_calm I W qs Tells said run.events (subst (λ (o : Outcome). RequestEvents I W qs Tells o run.events) is run.form_is)) run.calm))
 
     carries_out : (d d' : Option History) → CarriesOut qs Tells outcome r r' d d' → Moves d d' (RunsOverAll order x x' a a' r r' outcome)
-    carries_out None None carries = record { told = tt }
-    carries_out (Some old) (Some new) carries = record { told = requested old new carries }
-    carries_out None (Some new) carries = absurd carries.makes.told
-    carries_out (Some old) None carries = absurd carries.makes.told
+    carries_out d d' carries = by carries.opening carries.between carries.opens carries.follows where
+      by : (opening : Result Opened OpenError) (between : Option History) → Moves d between (Opens false opening)
+          → FollowsOpening qs Tells opening outcome r r' between d' → Moves d d' (RunsOverAll order x x' a a' r r' outcome)
+      by (Ok store) between opens follows =
+          moves_then (λ old mid new o f. requested old new (record { opening = Ok store; between = Some mid; opens = record { told = o }; follows = record { told = f } })) opens follows
+      by (Err e) between opens follows =
+          moves_map (λ old new o. requested old new (record { opening = Err e; between = Some new; opens = record { told = o }; follows = (follows.0, refl, follows.2) }))
+          (subst (λ (t : Option History). Moves d t (Opens false (Err e))) (sym follows.1) opens)
 
     pub commanded : (d d' : Option History) → Commanded qs Tells outcome r r' d d' → Moves d d' (RunsOverAll order x x' a a' r r' outcome)
     commanded d d' (inl carries) = carries_out d d' carries
@@ -119,10 +126,15 @@ module _ (x x' : Option (List Exchange)) (a a' : Option (List Question)) (r r' :
         inl (run_of (serve boot slice connections) I good folder W x x' a a' r r' outcome old new at run.events (inl run.form_is) run.runs_to run.ran (λ all. absurd (cc all)))
 
     served_by : (d d' : Option History) → IsServed boot slice x x' r r' outcome d d' → Moves d d' (RunsOverAll (serve boot slice connections) x x' a a' r r' outcome)
-    served_by None None is = record { told = tt }
-    served_by (Some old) (Some new) is = record { told = served old new is }
-    served_by None (Some new) is = absurd is.makes.told
-    served_by (Some old) None is = absurd is.makes.told
+    served_by d d' is = by is.opening is.between is.opens is.follows where
+      by : (opening : Result Opened OpenError) (between : Option History) → Moves d between (Opens boot opening)
+          → FollowsServing boot slice is.fine opening outcome x x' r r' between d' → Moves d d' (RunsOverAll (serve boot slice connections) x x' a a' r r' outcome)
+      by (Ok store) between opens follows =
+          moves_then (λ old mid new o f. served old new (record { opening = Ok store; fine = is.fine; between = Some mid; opens = record { told = o }; follows = (follows.0, record { told = f }) }))
+          opens follows.1
+      by (Err e) between opens follows =
+          moves_map (λ old new o. served old new (record { opening = Err e; fine = is.fine; between = Some new; opens = record { told = o }; follows = (follows.0, refl, follows.2, follows.3) }))
+          (subst (λ (t : Option History). Moves d t (Opens boot (Err e))) (sym follows.1) opens)
 
     pub serves : (d d' : Option History) → HasServed boot slice x x' r r' outcome d d' → Moves d d' (RunsOverAll (serve boot slice connections) x x' a a' r r' outcome)
     serves d d' (inl is) = served_by d d' is

@@ -1,19 +1,19 @@
 -- `generate` and `user-data` are runs of the machine.
-use Rattle.std.proofs.Common.{◌≡◌, inl, inr, true, false, codes, ℕ, List, [], ◌∷◌, Option, Some, None, Result, Ok, Err, refl, sym, ◌∙◌, ap, subst}
+use Rattle.std.proofs.Common.{◌≡◌, inl, inr, true, false, codes, ℕ, List, [], ◌∷◌, Option, Some, None, Result, Ok, Err, refl, sym, ◌∙◌, subst}
 use Rattle.outside.specs.History.{History, tree_of, EachImage}
 use Rattle.outside.specs.Names.{Names}
 use Rattle.outside.specs.Spawner.{Run, Question}
 use Rattle.outside.specs.Told.{Moves}
 use Rattle.outside.proofs.Told.{moves_same}
 use Rattle.settings_tree.specs.declared.held.Held.{Held}
-use Rattle.settings_machine.specs.World.{Image, World, is_running}
+use Rattle.settings_machine.specs.World.{Image, World}
 use Rattle.settings_machine.specs.Step.{opened}
 use Rattle.settings_machine.specs.Events.{Event, Opened, Succeeded, after, faulted_after}
 use Rattle.settings_machine.specs.Paid.{IsGood}
 use Rattle.machine_disk.specs.Store.{Recovers}
 use Rattle.machine_disk.specs.Kept.{Folder, Kept}
 use Rattle.machine_disk.specs.Ran.{RunsTo, OpensTo}
-use Rattle.machine_disk.proofs.Runs.{runs_to, ran_none, opens_kept}
+use Rattle.machine_disk.proofs.Runs.{runs_to, ran_none}
 use Rattle.machine_disk.proofs.Meanings.{core_holds}
 use Rattle.machine_disk.proofs.Quiet.{calm_images}
 use Rattle.store_image.specs.Paths.{sources_in}
@@ -22,7 +22,6 @@ use Rattle.store_open.specs.Laws.{IsImageOfFolder, HoldsImage}
 use Rattle.store_open.specs.Opening.{Opens}
 use Rattle.store_open.specs.declared.opened.Opened as answer
 use Rattle.store_open.specs.declared.open_error.OpenError.{OpenError}
-use Rattle.store_open.proofs.MachineRuns.{openings_run}
 use Rattle.command_outcome.specs.Ends.{Outcome}
 use Rattle.command_outcome.specs.declared.refusal.Refusal.{Refusal}
 use Rattle.core_commands.specs.Carried.{core_over}
@@ -34,23 +33,21 @@ use Rattle.settings_cmd.specs.Committing.{Made, CommitsMade}
 use Rattle.settings_cmd.specs.Generators.{generate_tx, generators_path, AreGeneratorsIn, TellsOfGenerators, IsGenerated, Answers as AnsweredBy}
 use Rattle.settings_cmd.specs.UserData.{data_tx}
 use Rattle.settings_run.specs.Laws.{Begins, IsRun, MadeEvents, GivenBy, GenerateEvents, GeneratesRun, ProvisionEvents, ProvisionsRun}
-use Rattle.settings_run.proofs.CommandRuns.{disk_at, opened_runs, unopened_run}
+use Rattle.settings_run.proofs.CommandRuns.{opening_run, open_kept, opened_runs, unopened_run}
 use Rattle.settings_run.proofs.Keeping.{keeps_live}
 use Rattle.settings_run.proofs.Served.{ArePlain, commits_plain}
-use Rattle.core_commands.proofs.Carryings.{opened_job}
 
 module _ (I : Image) (good : IsGood I) (folder : Folder) (is : IsImageOfFolder I folder) (W : World) (old between : History) (begins : Begins I folder W old)
     (store : answer.Opened) (opens : Opens false (Ok store) old between) where
-  -- The store was opened as the machine opens it,
-  pub opening_run : OpensTo I folder W W false store.place store.held old between × HoldsImage I store.image
-  opening_run = openings_run I good folder is W W false (Ok store) old between (disk_at I good folder is W old between begins) (ap is_running begins.idle) opens
+  run : OpensTo I folder W W false store.place store.held old between × HoldsImage I store.image
+  run = opening_run I good folder is W old between begins false store between opens
 
-  pub opened_kept : Kept I folder (opened I W false) (opened I W false) between (core_over store)
-  opened_kept = opens_kept I folder W W false store.place store.held old between (core_over store) opening_run.0 refl refl (opened_job I W begins.idle) refl
+  kept : Kept I folder (opened I W false) (opened I W false) between (core_over store)
+  kept = open_kept I good folder is W old between begins false store between run.0
 
-  -- and what it holds is what the opened world holds.
+  -- What the store holds is what the opened world holds.
   pub opened_held : (opened I W false).held ≡ store.held
-  opened_held = core_holds I folder (opened I W false) (opened I W false) between (core_over store) opened_kept refl
+  opened_held = core_holds I folder (opened I W false) (opened I W false) between (core_over store) kept refl
 
   -- What the pairs that were made come to.
   pub record Ended (tx : List ℕ) (made : Made) (outcome : Outcome) (new : History) : Type 0 where
@@ -64,19 +61,19 @@ module _ (I : Image) (good : IsGood I) (folder : Folder) (is : IsImageOfFolder I
   opened_same = opened_runs I good folder is W old between begins false
 
   opening_alone : RunsTo I W (Opened false Succeeded ∷ []) old between
-  opening_alone = runs_to I good folder W false [] old between between store.place store.held (core_over store) (core_over store) begins.starts opening_run.0 refl
-      (ran_none I folder (opened I W false) (opened I W false) between (core_over store) opened_kept)
+  opening_alone = runs_to I good folder W false [] old between between store.place store.held (core_over store) (core_over store) begins.starts run.0 refl
+      (ran_none I folder (opened I W false) (opened I W false) between (core_over store) kept)
 
   pub made_ends : (tx : List ℕ) (made : Made) (outcome : Outcome) (new : History) → CommitsMade tx store made outcome (Some between) (Some new) → Ended tx made outcome new
   made_ends tx (Ok pairs) outcome new commits =
       let told : Commits tx pairs store outcome between new = commits.told in
       let c : IsCommitted I folder (opened I W false) (opened I W false) tx pairs outcome (core_over store) between new =
-      told.each I good opening_run.1 folder (opened I W false) (opened I W false) opened_kept in
+      told.each I good run.1 folder (opened I W false) (opened I W false) kept in
       let plain : ArePlain I (opened I W false) c.events = commits_plain I (opened I W false) tx pairs outcome c.events c.comes in
       record {
         events = Opened false Succeeded ∷ c.events;
         form_is = (c.events, refl, c.comes);
-        runs_to = runs_to I good folder W false c.events old between new store.place store.held (core_over store) c.now begins.starts opening_run.0 plain.served c.made;
+        runs_to = runs_to I good folder W false c.events old between new store.place store.held (core_over store) c.now begins.starts run.0 plain.served c.made;
         runs = plain.runs ∙ opened_same;
         calm = λ e. calm_images I folder (after I (opened I W false) c.events) c.made.other new c.now (c.made.flag ∙ e) c.made.kept;
       }
@@ -87,16 +84,16 @@ module _ (I : Image) (good : IsGood I) (folder : Folder) (is : IsImageOfFolder I
         form_is = (refl, ends.0);
         runs_to = subst (λ (h : History). RunsTo I W (Opened false Succeeded ∷ []) old h) same opening_alone;
         runs = opened_same;
-        calm = λ e. subst (EachImage (Recovers I (opened I W false))) same (calm_images I folder (opened I W false) (opened I W false) between (core_over store) refl opened_kept);
+        calm = λ e. subst (EachImage (Recovers I (opened I W false))) same (calm_images I folder (opened I W false) (opened I W false) between (core_over store) refl kept);
       }
 
   -- ---- what generators give
 
   file_is : sources_in (tree_of between) generators_path ≡ folder (codes "image" ∷ generators_path)
-  file_is = opened_kept.disk.image (codes "image" ∷ generators_path) refl
+  file_is = kept.disk.image (codes "image" ∷ generators_path) refl
 
   types_are : store.image.model.types ≡ I.types
-  types_are = opening_run.1.types_are
+  types_are = run.1.types_are
 
   read_by : (given : List Given) → AreGeneratorsIn store.image.model.types (sources_in (tree_of between) generators_path) given
       → AreGeneratorsIn I.types (folder (codes "image" ∷ generators_path)) given

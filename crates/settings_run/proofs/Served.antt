@@ -46,14 +46,13 @@ module _ (I : Image) (W : World) (qs : List Request) where
   -- What a command comes to.
   pub comes_served : {T : Type 0} (Tells : World → T → Type 0) (result : Result T Refusal) (asked turned : List Event) → Comes I W qs Tells result asked turned → are_served (asked ++ turned) ≡ true
   comes_served Tells (Ok said) asked turned comes = ended _ asked turned comes.0
-  comes_served Tells (Err (refused.Refused status body)) asked turned comes = stopped _ asked turned comes.stopped
+  comes_served Tells (Err (refused.Refused refusal)) asked turned comes = stopped _ asked turned comes
   comes_served Tells (Err (refused.Spawn name)) asked turned comes = ended _ asked turned comes
   comes_served Tells (Err (refused.Render file error)) asked turned comes = ended _ asked turned comes
   comes_served Tells (Err (refused.Status service number)) asked turned comes = ended _ asked turned comes
   comes_served Tells (Err refused.Disk) asked turned (inl is) = stopped _ asked turned is
   comes_served Tells (Err refused.Disk) asked turned (inr is) = ended _ asked turned is
-  comes_served Tells (Err refused.Memory) asked turned (inl (inl is)) = stopped _ asked turned is
-  comes_served Tells (Err refused.Memory) asked turned (inl (inr is)) = stopped _ asked turned is.1
+  comes_served Tells (Err refused.Memory) asked turned (inl is) = stopped _ asked turned is
   comes_served Tells (Err refused.Memory) asked turned (inr is) = ended _ asked turned is.1
   comes_served Tells (Err refused.Usage) asked turned comes = absurd comes
   comes_served Tells (Err refused.Door) asked turned comes = absurd comes
@@ -91,12 +90,10 @@ module _ (I : Image) (W : World) (tx : List ℕ) (pairs : List (Key × Scalar)) 
   -- What a commit of pairs comes to.
   pub commits_plain : (outcome : Outcome) (events : List Event) → ComesTo I W tx pairs outcome events → ArePlain I W events
   commits_plain (Ok line) events comes = succeeds_plain _ events comes.0
-  commits_plain (Err (refused.Refused status body)) events comes = stops_plain _ _ events comes.stops
+  commits_plain (Err (refused.Refused refusal)) events comes = stops_plain _ _ events comes
   commits_plain (Err refused.Disk) events comes = stops_plain _ _ events comes
   commits_plain (Err refused.Memory) events (inl none) = record { served = ap are_served none; runs = ap (λ (es : List Event). (after I W es).runs) none }
-  commits_plain (Err refused.Memory) events (inr (inl is)) = stops_plain _ _ events is
-  commits_plain (Err refused.Memory) events (inr (inr (inl is))) = stops_plain _ _ events is.1
-  commits_plain (Err refused.Memory) events (inr (inr (inr is))) = succeeds_plain _ events is
+  commits_plain (Err refused.Memory) events (inr is) = stops_plain _ _ events is
   commits_plain (Err refused.Usage) events comes = absurd comes
   commits_plain (Err refused.Door) events comes = absurd comes
   commits_plain (Err (refused.Spawn name)) events comes = absurd comes

@@ -1,7 +1,7 @@
 -- The headline: what every run of the program is, said of the map machine.
 use Rattle.std.specs.Prelude.{◌≡◌, ◌⊎◌, ◌++◌, ℕ, Bool, true, false, List, Option, Err, OnOk}
 use Rattle.outside.specs.Exchange.{Exchange}
-use Rattle.outside.specs.Faults.{Rose}
+use Rattle.outside.specs.Faults.{HasCauseOf, Rose}
 use Rattle.outside.specs.History.{History, tree_of, EachImage}
 use Rattle.outside.specs.Since.{EachSince}
 use Rattle.outside.specs.Spawner.{Run, Question}
@@ -19,11 +19,14 @@ use Rattle.store_events.specs.Laws.{IsBare, IsBeginning, HasBegun}
 use Rattle.version_links.specs.declared.version.Version.{Version}
 use Rattle.command_outcome.specs.Ends.{Outcome, Ends}
 use Rattle.command_outcome.specs.declared.refusal.Refusal.TheVariants as refused
-use Rattle.command_words.specs.Orders.{Order, Spells, init, serve, migrate}
+use Rattle.command_words.specs.Orders.{Order, Spells, SpellsNone, init, serve, migrate}
+use Rattle.core_commands.specs.Handing.{HasSpawnCause}
+use Rattle.settings_cmd.specs.Carried.{Carried, IsMisused, ServesNot}
+use Rattle.settings_cmd.specs.Does.{Devices, Does}
 use Rattle.settings_run.specs.Laws.{Begins}
 use Rattle.settings_run.specs.Events.{Makes, MovesBy}
 
--- ---- what the devices tell
+-- ---- what the devices count
 
 -- How often disk, door and spawner have failed.
 pub record Faults : Type 0 where
@@ -34,20 +37,6 @@ pub record Faults : Type 0 where
 -- These three.
 abbrev pub faults : ℕ → ℕ → ℕ → Faults
 faults disk door spawner = record { disk = disk; door = door; spawner = spawner }
-
--- The disk's history, the connections that were accepted, the programs that were asked and that were run, and what was written to the output, where
--- each is told; and how often they have failed.
-pub record Devices : Type 0 where
-  pub disk : Option History
-  pub connections : Option (List Exchange)
-  pub asked : Option (List Question)
-  pub runs : Option (List Run)
-  pub output : Option (List ℕ)
-  pub failed : Faults
-
--- These six.
-abbrev pub devices : Option History → Option (List Exchange) → Option (List Question) → Option (List Run) → Option (List ℕ) → Faults → Devices
-devices disk connections asked runs output failed = record { disk = disk; connections = connections; asked = asked; runs = runs; output = output; failed = failed }
 
 -- ---- the five points
 
@@ -126,22 +115,24 @@ pub record BeginsStore (version : Version) (outcome : Outcome) (old new : Histor
 
 -- ---- the headline
 
--- Want of memory is told by status 1 and no other; and that a device failed is what a command came to only where its count of faults rose, whatever the
--- status is.
-pub record HasCauses (outcome : Outcome) (status : ℕ) (before now : Faults) : Type 0 where
+-- Want of memory is told by status 1 and no other. That a device failed is what a command came to only where its count of faults rose,
+-- whatever the status is; and, but by `serve`, which tells its clients alone, no fault of disk or spawner is passed over.
+pub record HasCauses (words : List (List ℕ)) (outcome : Outcome) (status : ℕ) (before now : Faults) : Type 0 where
   pub memory : outcome ≡ Err refused.Memory → status ≡ 1
   pub disk : outcome ≡ Err refused.Disk → Rose before.disk now.disk
   pub door : outcome ≡ Err refused.Door → Rose before.door now.door
   pub spawner : (name : List ℕ) → outcome ≡ Err (refused.Spawn name) → Rose before.spawner now.spawner
+  pub disk_told : ServesNot words → HasCauseOf refused.Disk before.disk now.disk outcome
+  pub spawner_told : ServesNot words → HasSpawnCause before.spawner now.spawner outcome
 
--- A command came to something, whose status and text the run ended with; and it is a run of the machine, crash included.
-pub record IsRunOfMachine (order : Order) (status : ℕ) (before now : Devices) : Type 0 where
+-- There is one thing that the run came to. The status and the text are of it, or the text could not be written, or memory was wanting; it
+-- has its cause; it is what the words order, done as they order it; and that is a run of the machine, crash included.
+pub record Headline (words : List (List ℕ)) (status : ℕ) (before now : Devices) (output_before output_now : Option (List ℕ)) (failed_before failed_now : Faults) : Type 0 where
   pub outcome : Outcome
-  pub ends : Ends outcome status before.output now.output
-  pub causes : HasCauses outcome status before.failed now.failed
-  pub runs : Moves before.disk now.disk (RunsOverAll order before.connections now.connections before.asked now.asked before.runs now.runs outcome)
-  pub begins : (version : Version) → order ≡ init version → Moves before.disk now.disk (BeginsStore version outcome)
-
--- So it is of every list of words that orders something.
-abbrev pub Headline : List (List ℕ) → ℕ → Devices → Devices → Type 0
-Headline words status before now = (order : Order) → Spells words order → IsRunOfMachine order status before now
+  pub ends : Ends outcome status output_before output_now
+  pub causes : HasCauses words outcome status failed_before failed_now
+  pub misused : SpellsNone words → Carried IsMisused outcome before.disk now.disk
+  pub does : (order : Order) → Spells words order → Does order outcome before now
+  pub runs : (order : Order) → Spells words order
+      → Moves before.disk now.disk (RunsOverAll order before.connections now.connections before.asked now.asked before.runs now.runs outcome)
+  pub begins : (version : Version) → Spells words (init version) → Moves before.disk now.disk (BeginsStore version outcome)

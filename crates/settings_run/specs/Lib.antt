@@ -1,4 +1,3 @@
-pub mod Runs
 pub mod Events
 pub mod Headline
 pub mod Laws

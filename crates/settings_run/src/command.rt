@@ -3,20 +3,13 @@ ghost use Rattle.std.specs.Prelude.{◌≡◌, ◌≢◌, ◌⊎◌, ℕ, List, 
 ghost use Rattle.outside.specs.Told.{Moves};
 ghost use Rattle.outside.specs.Faults.{Rose};
 ghost use Rattle.outside.specs.Spawner.{texts};
-ghost use Rattle.json_trees.specs.declared.scalar.Scalar.{Scalar as Value};
 ghost use Rattle.outside.specs.Said.{IsSaid};
-ghost use Rattle.command_words.specs.Orders.{Spells, SpellsNone};
-ghost use Rattle.command_words.specs.Orders.{init as InitOrder, serve as ServeOrder, set as SetOrder, get as GetOrder, apply as ApplyOrder, check as CheckOrder};
-ghost use Rattle.command_words.specs.Orders.{migrate as MigrateOrder, prune as PruneOrder, generate as GenerateOrder, user_data as UserDataOrder, load as LoadOrder};
-ghost use Rattle.core_commands.specs.Carried.{Carried as Commanded, set_requests, apply_requests};
-ghost use Rattle.core_commands.specs.Lines.{IsSettingsLine, IsJobLine};
+ghost use Rattle.command_words.specs.Orders.{Spells};
+ghost use Rattle.command_words.specs.Orders.{serve as ServeOrder};
 ghost use Rattle.api_server.specs.Serving.{wanted};
-ghost use Rattle.settings_cmd.specs.Serving.{HasServed};
-ghost use Rattle.version_links.specs.declared.version.Version.{Version};
-ghost use Rattle.settings_cmd.specs.Carried.{IsMisused, IsBegun, IsGot, IsChecked, IsMigrated, IsPruned, GeneratesOrNot, IsProvided, IsLoaded};
 ghost use Rattle.settings_cmd.specs.Carried.{ServesNot, RunsNothing, AsksNothing};
-ghost use Rattle.settings_run.specs.Headline.{Headline, devices, faults};
-ghost use Rattle.settings_run.specs.Runs.{Runs, RunsAs};
+ghost use Rattle.settings_cmd.specs.Does.{devices};
+ghost use Rattle.settings_run.specs.Headline.{Headline, faults};
 
 use command_outcome::tell;
 use outside::{Asker, Disk, Door, Sink};
@@ -25,8 +18,8 @@ use std::alloc::Global;
 
 /// Runs one command, from its words to the devices and the output, and answers the exit status.
 ///
-/// Each command has a clause: it was carried out, and the run printed what it came to and ended with the status of that; or the
-/// output failed, and the status is 12 and the text was written in part; or memory was wanting, and the status is 1.
+/// The command was carried out, and the run printed what it came to and ended with the status of that; or the output failed, and the
+/// status is 12 and the text was written in part; or memory was wanting, and the status is 1.
 ///
 /// The door is not busy, and has accepted no connection yet; it is not busy afterwards.
 pub fn run<D: Disk, S: Asker, N: Door, O: Sink>(
@@ -39,42 +32,18 @@ pub fn run<D: Disk, S: Asker, N: Door, O: Sink>(
 ) -> u8
     requires idle { (N.state door.old).busy ≡ false }
     requires unused { (N.state door.old).accepted ≡ 0 }
-    // Each list of words that orders something is a run of the map machine, where the disk tells, was settled at the start and had a paid store, or none.
-    ensures headline { Headline (texts words.now) result
-        (devices (D.told disk.old) (N.told door.old) (S.asked spawner.old) (S.runs spawner.old) (O.told out.old)
-        (faults (D.faults disk.old) (N.faults door.old) (S.faults spawner.old)))
-        (devices (D.told disk.new) (N.told door.new) (S.asked spawner.new) (S.runs spawner.new) (O.told out.new)
-        (faults (D.faults disk.new) (N.faults door.new) (S.faults spawner.new))) }
 
-    // What each command does, on any disk.
-    ensures usage { SpellsNone (texts words.now) → Runs IsMisused result (D.told disk.old) (D.told disk.new) (O.told out.old) (O.told out.new) }
-    ensures init { (version : Version) → Spells (texts words.now) (InitOrder version)
-        → Runs (IsBegun version) result (D.told disk.old) (D.told disk.new) (O.told out.old) (O.told out.new) }
-    ensures serve { (boot : Bool) (slice connections : Option ℕ) → Spells (texts words.now) (ServeOrder boot slice connections)
-        → RunsAs (λ outcome. HasServed boot slice (N.told door.old) (N.told door.new) (S.runs spawner.old) (S.runs spawner.new) outcome (D.told disk.old) (D.told disk.new))
-        result (O.told out.old) (O.told out.new) }
+    // The run came to what the words order, done as they order it on any disk; and where the disk tells, was settled at the start and had a
+    // paid store, or none, that is a run of the map machine.
+    ensures headline { Headline (texts words.now) result
+        (devices (D.told disk.old) (N.state door.old) (N.told door.old) (S.asked spawner.old) (S.runs spawner.old))
+        (devices (D.told disk.new) (N.state door.new) (N.told door.new) (S.asked spawner.new) (S.runs spawner.new))
+        (O.told out.old) (O.told out.new)
+        (faults (D.faults disk.old) (N.faults door.old) (S.faults spawner.old))
+        (faults (D.faults disk.new) (N.faults door.new) (S.faults spawner.new)) }
+
     ensures served { (boot : Bool) (slice connections : Option ℕ) → Spells (texts words.now) (ServeOrder boot slice connections)
         → result ≡ 0 → ((N.state door.new).accepted ≡ wanted connections) ⊎ ((N.state door.new).ended ≡ true) }
-    ensures set { (pairs : List (List (List ℕ) × Value)) → Spells (texts words.now) (SetOrder pairs)
-        → RunsAs (λ outcome. Commanded (set_requests pairs) IsSettingsLine outcome (S.runs spawner.old) (S.runs spawner.new) (D.told disk.old) (D.told disk.new))
-        result (O.told out.old) (O.told out.new) }
-    ensures get { (keys : List (List (List ℕ))) → Spells (texts words.now) (GetOrder keys)
-        → Runs (IsGot keys) result (D.told disk.old) (D.told disk.new) (O.told out.old) (O.told out.new) }
-    ensures apply { Spells (texts words.now) ApplyOrder
-        → RunsAs (λ outcome. Commanded apply_requests IsJobLine outcome (S.runs spawner.old) (S.runs spawner.new) (D.told disk.old) (D.told disk.new))
-        result (O.told out.old) (O.told out.new) }
-    ensures check { Spells (texts words.now) CheckOrder → Runs IsChecked result (D.told disk.old) (D.told disk.new) (O.told out.old) (O.told out.new) }
-    ensures migrate { (version : Version) → Spells (texts words.now) (MigrateOrder version)
-        → RunsAs (λ outcome. IsMigrated version (S.asked spawner.old) (S.asked spawner.new) outcome (D.told disk.old) (D.told disk.new))
-        result (O.told out.old) (O.told out.new) }
-    ensures prune { Spells (texts words.now) PruneOrder → Runs IsPruned result (D.told disk.old) (D.told disk.new) (O.told out.old) (O.told out.new) }
-    ensures generate { Spells (texts words.now) GenerateOrder
-        → RunsAs (λ outcome. GeneratesOrNot (S.asked spawner.old) (S.asked spawner.new) outcome (D.told disk.old) (D.told disk.new))
-        result (O.told out.old) (O.told out.new) }
-    ensures user_data { (path : List (List ℕ)) → Spells (texts words.now) (UserDataOrder path)
-        → Runs (IsProvided path) result (D.told disk.old) (D.told disk.new) (O.told out.old) (O.told out.new) }
-    ensures load { (count : ℕ) → Spells (texts words.now) (LoadOrder count)
-        → Runs (IsLoaded count) result (D.told disk.old) (D.told disk.new) (O.told out.old) (O.told out.new) }
 
     // Programs are asked by `migrate` and `generate` alone, and run by `serve`, `set` and `apply` alone; connections are served by `serve` alone.
     ensures unasked { AsksNothing (texts words.now) → S.asked spawner.new ≡ S.asked spawner.old }

@@ -1,18 +1,13 @@
 //! The host that storms go over.
-ghost use Rattle.std.specs.Prelude.{IfOk};
-ghost use Rattle.model_file.specs.Model.{AreTyped};
-ghost use Rattle.opening_step.specs.Step.{AreSettings};
-ghost use Rattle.typed_settings.specs.Order.{IsTable};
-
 use crate::running::run_step;
 use disk_memory::MemoryDisk;
-use machine_replies::read_plain;
+use machine_replies::Host;
 use outside::{Disk, Path};
-use plain_machine::PlainImage;
 use release_file::Release;
 use std::alloc::Global;
-use storm_machine::{Host, Trouble, differs};
+use storm_machine::{Replay, Trouble, differs};
 use storm_steps::Step;
+use version_links::Version;
 
 // The files of the image.
 const FILES: &[(&str, &str)] = &[
@@ -79,14 +74,20 @@ prefixes = ["settings.kernel.sysctl"]
 kind = "remove-weak"
 "#;
 
+// The version of a new store.
+const FIRST: Version = Version {
+    major: 1,
+    minor: 5,
+    patch: 2,
+};
+
 fn put(alloc: Global, disk: &mut MemoryDisk, path: &str, bytes: &str) -> Result<(), Trouble> {
-    let Ok(path) = Path::read(alloc, path.as_bytes()) else {
-        return Err(Trouble::Memory);
-    };
-    match disk.replace(&path, bytes.as_bytes()) {
-        Ok(()) => Ok(()),
-        Err(_) => Err(Trouble::Memory),
-    }
+    let path = Path::read(alloc, path.as_bytes())
+        .ok()
+        .ok_or(Trouble::Memory)?;
+    disk.replace(&path, bytes.as_bytes())
+        .ok()
+        .ok_or(Trouble::Memory)
 }
 
 // A disk with the files of the image, and no store.
@@ -98,52 +99,29 @@ fn empty_disk(alloc: Global) -> Result<MemoryDisk, Trouble> {
     Ok(disk.crash(&[])?)
 }
 
-fn image_of(alloc: Global, disk: &mut MemoryDisk) -> Result<PlainImage, Trouble>
-    ensures table { IfOk result (λ image. IsTable image.types) }
-    ensures typed { IfOk result (λ image. AreTyped image.types image.defaults.values) }
-    ensures settings { IfOk result (λ image. AreSettings image.defaults.values) }
-{
-    match read_plain(alloc, disk) {
-        Ok(image) => Ok(image),
+// The host of the disk, on which `init` begins a store.
+fn replay_on(alloc: Global, disk: &mut MemoryDisk) -> Result<Replay, Trouble> {
+    if run_step(alloc, disk, &Step::begin(alloc)?)?.status != 0 {
+        return Err(differs(alloc, "no store begins"));
+    }
+    let Ok(release) = Release::read(alloc, RELEASE.as_bytes()) else {
+        return Err(differs(alloc, "the release is none"));
+    };
+    match Host::read(alloc, disk, FIRST) {
+        Ok(host) => Ok(Replay::of(alloc, Box::new(alloc, host)?, release)),
         Err(_) => Err(differs(alloc, "the image is none")),
     }
 }
 
-fn release_of(alloc: Global) -> Result<Release, Trouble> {
-    match Release::read(alloc, RELEASE.as_bytes()) {
-        Ok(release) => Ok(release),
-        Err(_) => Err(differs(alloc, "the release is none")),
-    }
-}
-
-// The disk of the image, with a store that `init` begins.
-fn begin(alloc: Global, disk: &mut MemoryDisk) -> Result<(), Trouble> {
-    let seen = run_step(alloc, disk, &Step::begin(alloc)?)?;
-    if seen.status != 0 {
-        return Err(differs(alloc, "no store begins"));
-    }
-    Ok(())
-}
-
-// The host of the disk, on which a store begins.
-fn host_on(alloc: Global, disk: &mut MemoryDisk) -> Result<Host, Trouble>
-    ensures table { IfOk result (λ host. IsTable host.image.types) }
-    ensures typed { IfOk result (λ host. AreTyped host.image.types host.image.defaults.values) }
-    ensures settings { IfOk result (λ host. AreSettings host.image.defaults.values) }
-{
-    begin(alloc, disk)?;
-    let release = release_of(alloc)?;
-    let image = image_of(alloc, disk)?;
-    Ok(Host { image, release })
-}
-
 /// The host, and its disk with a store that has just begun.
-pub fn host(alloc: Global) -> Result<(Host, MemoryDisk), Trouble>
-    ensures table { IfOk result (λ made. IsTable made.0.image.types) }
-    ensures typed { IfOk result (λ made. AreTyped made.0.image.types made.0.image.defaults.values) }
-    ensures settings { IfOk result (λ made. AreSettings made.0.image.defaults.values) }
-{
+pub fn begun(alloc: Global) -> Result<(Replay, MemoryDisk), Trouble> {
     let mut disk = empty_disk(alloc)?;
-    let host = host_on(alloc, &mut disk)?;
-    Ok((host, disk))
+    let replay = replay_on(alloc, &mut disk)?;
+    Ok((replay, disk))
+}
+
+/// The store of the host begins again.
+pub fn begin_again(alloc: Global, host: &mut Host) -> Result<(), Trouble> {
+    host.begin(alloc, FIRST);
+    Ok(host.keep(alloc)?)
 }

@@ -4,23 +4,18 @@
 //! differ, the seed is printed with the first difference, and the run ends with status 1; else it says how much was done.
 #![tactic(auto)]
 
-ghost use Rattle.model_file.specs.Model.{AreTyped};
-ghost use Rattle.opening_step.specs.Step.{AreSettings};
-ghost use Rattle.typed_settings.specs.Order.{IsTable};
-
 mod host;
 mod running;
 mod storming;
 mod tally;
 
-use crate::host::host;
+use crate::host::begun;
 use crate::storming::storm;
 use crate::tally::Tally;
-use disk_memory::MemoryDisk;
 use std::alloc::Global;
 use std::process::ExitCode;
 use std::{env, io};
-use storm_machine::{Host, Trouble};
+use storm_machine::Trouble;
 
 // The two numbers of the words.
 fn numbers(rt: &HostRuntime) -> io::Result<Option<(u64, u64)>> {
@@ -35,34 +30,14 @@ fn numbers(rt: &HostRuntime) -> io::Result<Option<(u64, u64)>> {
     }
 }
 
-// Goes through the seeds on this host. Where one fails it answers which, and why.
-fn storms_on(
-    alloc: Global,
-    host: &Host,
-    disk: &MemoryDisk,
-    first: u64,
-    count: u64,
-    tally: &mut Tally,
-) -> Result<(), (u64, Trouble)>
-    requires table { IsTable host.now.image.types }
-    requires defaults { AreTyped host.now.image.types host.now.image.defaults.values }
-    requires settings { AreSettings host.now.image.defaults.values }
-{
+// Goes through the seeds. Where one fails it answers which, and why.
+fn storms(alloc: Global, first: u64, count: u64, tally: &mut Tally) -> Result<(), (u64, Trouble)> {
+    let (mut replay, disk) = begun(alloc).map_err(|trouble| (first, trouble))?;
     for number in 0..count {
         let seed = first.saturating_add(number);
-        if let Err(trouble) = storm(alloc, host, disk, seed, tally) {
-            return Err((seed, trouble));
-        }
+        storm(alloc, &mut replay, &disk, seed, tally).map_err(|trouble| (seed, trouble))?;
     }
     Ok(())
-}
-
-// The same on a host that is made for it.
-fn storms(alloc: Global, first: u64, count: u64, tally: &mut Tally) -> Result<(), (u64, Trouble)> {
-    match host(alloc) {
-        Ok((host, disk)) => storms_on(alloc, &host, &disk, first, count, tally),
-        Err(trouble) => Err((first, trouble)),
-    }
 }
 
 fn main(rt: HostRuntime) -> io::Result<ExitCode> {

@@ -1,19 +1,11 @@
 //! The steps of a seed.
-ghost use Rattle.std.specs.Prelude.{IfOk};
-ghost use Rattle.model_file.specs.Model.{AreTyped};
-ghost use Rattle.opening_step.specs.Step.{AreSettings};
-ghost use Rattle.storm_machine.specs.Stands.{Stands};
-ghost use Rattle.typed_settings.specs.Order.{IsTable};
-
+use crate::host::begin_again;
 use crate::running::run_step;
 use crate::tally::Tally;
 use disk_memory::{Bytes, MemoryDisk, Pick};
-use plain_machine::PlainMachine;
 use std::alloc::{AllocError, Global};
-use std::mem;
-use storm_machine::{Host, Replay, Run, Seen, Trouble, follow, go_on};
-use storm_steps::{Dice, Step, step_of};
-use version_links::Version;
+use storm_machine::{Replay, Run, Trouble, follow, go_on};
+use storm_steps::{Dice, step_of};
 
 fn pick(alloc: Global, dice: &mut Dice) -> Result<Pick, AllocError> {
     Ok(match dice.below(4) {
@@ -46,131 +38,43 @@ fn crash(alloc: Global, disk: &mut MemoryDisk, dice: &mut Dice) -> Result<(), Al
     Ok(())
 }
 
-// What is seen of the step, behind which the power fails or not.
-fn seen_of(
+// One step: it is run, the power fails behind it or not, the machine follows, and becomes the one with which the next step goes on.
+fn go_step(
     alloc: Global,
+    replay: &mut Replay,
     disk: &mut MemoryDisk,
     dice: &mut Dice,
-    step: &Step,
-) -> Result<Seen, AllocError> {
-    let seen = run_step(alloc, disk, step)?;
+    tally: &mut Tally,
+) -> Result<(), Trouble> {
+    let step = step_of(alloc, dice)?;
+    let seen = run_step(alloc, disk, &step)?;
     if step.crash {
         crash(alloc, disk, dice)?;
     }
-    Ok(seen)
-}
-
-// The machine behind the run, which is counted.
-fn followed(
-    alloc: Global,
-    host: &Host,
-    machine: &PlainMachine,
-    run: &Run,
-    tally: &mut Tally,
-) -> Result<Replay, Trouble>
-    requires { Stands host.now.image machine.now.held }
-    ensures { IfOk result (λ replay. Stands host.now.image replay.machine.held) }
-{
-    let replay = follow(alloc, host, machine, run)?;
-    tally.add(run, &replay);
-    Ok(replay)
-}
-
-// One step: it is run, the power fails behind it or not, and the machine follows.
-fn make_step(
-    alloc: Global,
-    host: &Host,
-    machine: &PlainMachine,
-    disk: &mut MemoryDisk,
-    dice: &mut Dice,
-    tally: &mut Tally,
-) -> Result<Replay, Trouble>
-    requires { Stands host.now.image machine.now.held }
-    ensures { IfOk result (λ replay. Stands host.now.image replay.machine.held) }
-{
-    let step = step_of(alloc, dice)?;
-    let seen = seen_of(alloc, disk, dice, &step)?;
     let run = Run {
         step: &step,
         seen: &seen,
         disk,
     };
-    followed(alloc, host, machine, &run, tally)
+    follow(alloc, replay, &run)?;
+    tally.add(&run, replay);
+    go_on(alloc, replay, disk, dice.chance(30))
 }
-
-// The machine becomes the one with which the next step goes on.
-fn take_over(
-    alloc: Global,
-    host: &Host,
-    machine: &mut PlainMachine,
-    replay: &mut Replay,
-    disk: &mut MemoryDisk,
-    opens: bool,
-) -> Result<(), Trouble>
-    requires stands { Stands host.now.image machine.old.held }
-    requires follows { Stands host.now.image replay.old.machine.held }
-    ensures { Stands host.now.image machine.new.held }
-{
-    go_on(alloc, host, replay, disk, opens)?;
-    mem::swap(machine, &mut replay.machine);
-    Ok(())
-}
-
-// One step, behind which the machine goes on.
-fn go_step(
-    alloc: Global,
-    host: &Host,
-    machine: &mut PlainMachine,
-    disk: &mut MemoryDisk,
-    dice: &mut Dice,
-    tally: &mut Tally,
-) -> Result<(), Trouble>
-    requires { Stands host.now.image machine.old.held }
-    ensures { Stands host.now.image machine.new.held }
-{
-    let mut replay = make_step(alloc, host, machine, disk, dice, tally)?;
-    take_over(alloc, host, machine, &mut replay, disk, dice.chance(30))
-}
-
-// All steps of a seed, from this machine and this disk on.
-fn make_steps(
-    alloc: Global,
-    host: &Host,
-    machine: &mut PlainMachine,
-    disk: &mut MemoryDisk,
-    dice: &mut Dice,
-    tally: &mut Tally,
-) -> Result<(), Trouble>
-    requires { Stands host.now.image machine.old.held }
-{
-    for _ in 0..dice.below(12).saturating_add(4) {
-        go_step(alloc, host, machine, disk, dice, tally)?;
-    }
-    tally.seeds = tally.seeds.saturating_add(1);
-    Ok(())
-}
-
-// The version of a new store.
-const FIRST: Version = Version {
-    major: 1,
-    minor: 5,
-    patch: 2,
-};
 
 /// All steps of a seed, over a copy of the disk. They are counted.
 pub fn storm(
     alloc: Global,
-    host: &Host,
+    replay: &mut Replay,
     disk: &MemoryDisk,
     seed: u64,
     tally: &mut Tally,
-) -> Result<(), Trouble>
-    requires table { IsTable host.now.image.types }
-    requires defaults { AreTyped host.now.image.types host.now.image.defaults.values }
-    requires settings { AreSettings host.now.image.defaults.values }
-{
+) -> Result<(), Trouble> {
     let mut dice = Dice::of(seed);
     let mut disk = disk.crash(&[])?;
-    let mut machine = PlainMachine::new(alloc, FIRST);
-    make_steps(alloc, host, &mut machine, &mut disk, &mut dice, tally)
+    begin_again(alloc, &mut replay.host)?;
+    for _ in 0..dice.below(12).saturating_add(4) {
+        go_step(alloc, replay, &mut disk, &mut dice, tally)?;
+    }
+    tally.seeds = tally.seeds.saturating_add(1);
+    Ok(())
 }

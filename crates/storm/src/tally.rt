@@ -37,7 +37,8 @@ impl Tally {
     pub fn add(&mut self, run: &Run, replay: &Replay) {
         let stops = run.step.crash;
         let faults = run.seen.struck && !stops;
-        let programs = replay.machine.runs.len() as u64;
+        let host = &replay.host;
+        let programs = host.machine.runs.len() as u64;
         self.steps = self.steps.saturating_add(1);
         self.requests = self.requests.saturating_add(run.seen.replies.len() as u64);
         self.programs = self.programs.saturating_add(programs);

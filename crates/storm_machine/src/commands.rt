@@ -1,137 +1,85 @@
 //! The events of the commands other than `serve`.
-ghost use Rattle.std.specs.Prelude.{◌≡◌};
-ghost use Rattle.api_http.specs.Questions.{question, IsProper};
-ghost use Rattle.storm_machine.specs.Stands.{Stands};
-
 use crate::moves::moved;
 use crate::outcomes::{Outcome, bytes, line, refusal_of};
 use crate::replay::Replay;
 use crate::trouble::{Trouble, differs};
-use api_http::{Ask, Reading, Reply, read_request};
+use api_http::{Reading, read_request};
 use command_outcome::Refusal;
-use key_names::Bytes;
-use machine_answers::{JobShown, job_text};
-use machine_replies::settings_text;
-use plain_machine::PlainImage;
-use release_file::Release;
-use settings_machine::Job;
+use machine_answers::job_text;
+use machine_replies::{Host, Told, settings_text};
+use settings_machine::{Job, JobStatus};
 use std::alloc::{AllocError, Global};
 use std::mem;
-use storm_steps::Sent;
+use storm_steps::{Order, Sent, Step};
 use version_links::Version;
 
-// Why a command ends at this reply, if it does.
-fn refused(alloc: Global, reply: &Reply) -> Result<Option<Refusal>, AllocError> {
-    let status = reply.status();
-    if status < 300 {
-        return Ok(None);
+// Why a command ends at what is told, if it does; None stands for a disk that failed.
+fn refused(told: Option<Told>) -> Option<Refusal> {
+    match told {
+        Some(Told::Refused(refusal)) => Some(Refusal::Refused(refusal)),
+        Some(_) => None,
+        None => Some(Refusal::Disk),
     }
-    if status == 500 {
-        return Ok(Some(Refusal::Disk));
-    }
-    let body = bytes(alloc, reply.body())?;
-    Ok(Some(Refusal::Refused { status, body }))
-}
-
-// What a command asks for. It answers why the command ends there, if it does.
-fn ask_for(
-    alloc: Global,
-    image: &PlainImage,
-    replay: &mut Replay,
-    ask: &Ask,
-) -> Result<Option<Refusal>, Trouble>
-    requires stands { Stands image.now replay.old.machine.held }
-    requires proper { IsProper (question ask.now) }
-    ensures { Stands image.now replay.new.machine.held }
-{
-    let reply = replay.ask(alloc, image, ask)?;
-    Ok(refused(alloc, &reply)?)
 }
 
 // One request of a command. It answers why the command ends there, if it does.
-fn ask(
-    alloc: Global,
-    image: &PlainImage,
-    replay: &mut Replay,
-    sent: &Sent,
-) -> Result<Option<Refusal>, Trouble>
-    requires stands { Stands image.now replay.old.machine.held }
-    ensures { Stands image.now replay.new.machine.held }
-{
+fn ask(alloc: Global, replay: &mut Replay, sent: &Sent) -> Result<Option<Refusal>, Trouble> {
     match read_request(alloc, &sent.bytes)? {
-        Reading::Whole { ask, .. } => ask_for(alloc, image, replay, &ask),
-        Reading::NotYet | Reading::Refused { .. } => Err(differs(
-            alloc,
-            "a command asks for nothing",
-        )),
+        Reading::Whole { request, .. } => Ok(refused(replay.ask(alloc, &request)?)),
+        _ => Err(differs(alloc, "a command asks for nothing")),
     }
 }
 
 // The requests of a command, up to the first at which it ends.
-fn ask_each(
-    alloc: Global,
-    image: &PlainImage,
-    replay: &mut Replay,
-    sent: &[Sent],
-) -> Result<Option<Refusal>, Trouble>
-    requires stands { Stands image.now replay.old.machine.held }
-    ensures { Stands image.now replay.new.machine.held }
-{
+fn ask_each(alloc: Global, replay: &mut Replay, sent: &[Sent]) -> Result<Option<Refusal>, Trouble> {
     for one in sent {
-        if let Some(refusal) = ask(alloc, image, replay, one)? {
+        if let Some(refusal) = ask(alloc, replay, one)? {
             return Ok(Some(refusal));
         }
     }
     Ok(None)
 }
 
-// Why a command ends behind its job, if it does. The job is at rest then.
-fn end_of(replay: &mut Replay) -> Option<Refusal>
-    ensures { replay.new.machine.held ≡ replay.old.machine.held }
-{
-    if replay.faults.is_faulted() {
-        return Some(Refusal::Disk);
-    }
-    refusal_of(mem::replace(&mut replay.machine.job, Job::Idle))
+// Takes the job, which is at rest.
+fn take_job(host: &mut Host) -> Job {
+    mem::replace(&mut host.machine.job, Job::Idle)
 }
 
-/// The machine carries out `set`, `apply` or `get`: the opening, the requests of the command, and turns until no job runs. It answers
-/// why the command is refused, if it is.
-pub fn carry(
-    alloc: Global,
-    image: &PlainImage,
-    replay: &mut Replay,
-    asks: &[Sent],
-) -> Result<Option<Refusal>, Trouble>
-    requires stands { Stands image.now replay.old.machine.held }
-    ensures { Stands image.now replay.new.machine.held }
-{
-    if !replay.open(alloc, image, false)? {
+// The machine makes the opening, the requests of the command, and turns until no job runs. It answers why the command is refused, if it is.
+fn carry(alloc: Global, replay: &mut Replay, asks: &[Sent]) -> Result<Option<Refusal>, Trouble> {
+    if !replay.open(alloc, false)? {
         return Ok(Some(Refusal::Disk));
     }
-    if let Some(refusal) = ask_each(alloc, image, replay, asks)? {
+    if let Some(refusal) = ask_each(alloc, replay, asks)? {
         return Ok(Some(refusal));
     }
-    replay.turns(alloc, image, None)?;
-    Ok(end_of(replay))
+    replay.turns(alloc, None)?;
+    if replay.faults.is_faulted() {
+        return Ok(Some(Refusal::Disk));
+    }
+    Ok(refusal_of(take_job(&mut replay.host)))
 }
 
-/// What `set` and `get` print.
-pub fn settings_line(alloc: Global, replay: &Replay) -> Result<Bytes, AllocError> {
-    let tree = settings_text(alloc, &replay.machine)?;
-    line(alloc, tree.as_str())
+// The line that the command prints.
+fn told(alloc: Global, host: &Host, order: &Order) -> Result<Outcome, AllocError> {
+    let machine = &host.machine;
+    let text = match order {
+        Order::Apply => job_text(alloc, &JobStatus::Idle, &machine.held.owed)?,
+        _ => settings_text(alloc, machine)?,
+    };
+    Ok(Ok(line(alloc, text.as_str())?))
 }
 
-/// What `apply` prints.
-pub fn job_line(alloc: Global, replay: &Replay) -> Result<Bytes, AllocError> {
-    let text = job_text(alloc, JobShown::Idle, &replay.machine.held.owed)?;
-    line(alloc, text.as_str())
+/// What `set`, `apply` or `get` comes to.
+pub fn carried(alloc: Global, replay: &mut Replay, step: &Step) -> Result<Outcome, Trouble> {
+    match carry(alloc, replay, &step.sent)? {
+        Some(refusal) => Ok(Err(refusal)),
+        None => Ok(told(alloc, &replay.host, &step.order)?),
+    }
 }
 
 /// What a command comes to that changes nothing and prints this, unless the disk fails it.
-pub fn prints(alloc: Global, replay: &mut Replay, printed: &[u8]) -> Result<Outcome, AllocError>
-    ensures { replay.new.machine ≡ replay.old.machine }
-{
+pub fn prints(alloc: Global, replay: &mut Replay, printed: &[u8]) -> Result<Outcome, AllocError> {
     if replay.faults.strikes() {
         return Ok(Err(Refusal::Disk));
     }
@@ -139,46 +87,33 @@ pub fn prints(alloc: Global, replay: &mut Replay, printed: &[u8]) -> Result<Outc
 }
 
 /// What `init` comes to over a store.
-pub fn begins(replay: &mut Replay) -> Outcome
-    ensures { replay.new.machine ≡ replay.old.machine }
-{
+pub fn begins(replay: &mut Replay) -> Outcome {
     if replay.faults.strikes() {
         return Err(Refusal::Disk);
     }
-    let version = replay.machine.version;
+    let host = &replay.host;
+    let version = host.machine.version;
     Err(Refusal::AlreadyThere { version })
 }
 
-// It notes what the move to this version makes of the store.
-fn note_move(
-    alloc: Global,
-    release: &Release,
-    replay: &mut Replay,
-    version: Version,
-) -> Result<(), Trouble>
-    ensures { replay.new.machine ≡ replay.old.machine }
-{
-    let held = moved(alloc, release, &replay.machine, &version)?;
-    replay.moved = Some((version, held));
+// It notes what the move to this version makes of the store, where there is one.
+fn note_move(alloc: Global, replay: &mut Replay, version: Version) -> Result<(), Trouble> {
+    let host = &replay.host;
+    if version != host.machine.version {
+        let held = moved(alloc, &replay.release, &host.machine, &version)?;
+        replay.moved = Some((version, held));
+    }
     Ok(())
 }
 
-/// What `migrate` comes to, by this release. It notes what the move makes of the store; the machine stays.
-pub fn migrates(
-    alloc: Global,
-    release: &Release,
-    replay: &mut Replay,
-    to: &str,
-) -> Result<Outcome, Trouble>
-    ensures { replay.new.machine ≡ replay.old.machine }
-{
+/// What `migrate` comes to. It notes what the move makes of the store; the machine stays.
+pub fn migrates(alloc: Global, replay: &mut Replay, to: &str) -> Result<Outcome, Trouble> {
     let Some(version) = Version::read(alloc, to)? else {
         return Err(differs(alloc, "no version"));
     };
     let fails = replay.faults.strikes();
-    let moves = !fails || replay.faults.is_taken();
-    if moves && version != replay.machine.version {
-        note_move(alloc, release, replay, version)?;
+    if !fails || replay.faults.is_taken() {
+        note_move(alloc, replay, version)?;
     }
     if fails {
         return Ok(Err(Refusal::Disk));

@@ -1,4 +1,4 @@
-//! The machine in memory beside a run of the program `settings` over devices in memory: it goes through the events of the run, and
+//! The machine in memory beside runs of the program `settings` over devices in memory: it goes through the events of a run, and
 //! what was seen, what the store holds and each configuration file have to be its own.
 //!
 //! Where the disk failed it goes through the run once for each event that may have failed, until one agrees.
@@ -8,7 +8,6 @@ mod commands;
 mod faults;
 mod following;
 mod found;
-mod host;
 mod moves;
 mod outcomes;
 mod programs;
@@ -20,7 +19,6 @@ mod settling;
 mod trouble;
 
 pub use following::follow;
-pub use host::Host;
 pub use programs::spawned_lines;
 pub use replay::Replay;
 pub use run::{Run, Seen};

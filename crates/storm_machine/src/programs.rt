@@ -4,18 +4,9 @@ use key_names::Text;
 use plain_machine::PlainMachine;
 use std::alloc::{AllocError, Global};
 
-fn add_word(lines: &mut String, word: &str) -> Result<(), AllocError> {
-    lines.push_str(word)?;
-    lines.push(' ')
-}
-
-fn add_status(alloc: Global, lines: &mut String, status: u16) -> Result<(), AllocError> {
-    lines.push_str(format!(in alloc; "{status}\n")?.as_str())
-}
-
 fn add_words(lines: &mut String, words: &[String]) -> Result<(), AllocError> {
     for word in words {
-        add_word(lines, word.as_str())?;
+        write!(lines, "{} ", word.as_str())?;
     }
     Ok(())
 }
@@ -25,14 +16,14 @@ pub fn spawned_lines(alloc: Global, spawner: &MemorySpawner) -> Result<String, A
     let mut lines = String::new(alloc);
     for run in spawner.runs() {
         add_words(&mut lines, &run.words)?;
-        add_status(alloc, &mut lines, run.status)?;
+        writeln!(lines, "{}", run.status)?;
     }
     Ok(lines)
 }
 
 fn add_texts(lines: &mut String, words: &[Text]) -> Result<(), AllocError> {
     for word in words {
-        add_word(lines, word.as_str())?;
+        write!(lines, "{} ", word.as_str())?;
     }
     Ok(())
 }
@@ -42,7 +33,7 @@ pub fn machine_lines(alloc: Global, machine: &PlainMachine) -> Result<String, Al
     let mut lines = String::new(alloc);
     for ran in &machine.runs {
         add_texts(&mut lines, &ran.words)?;
-        add_status(alloc, &mut lines, ran.status)?;
+        writeln!(lines, "{}", ran.status)?;
     }
     Ok(lines)
 }

@@ -18,7 +18,7 @@ pub struct Seen {
 }
 
 /// A run of the program.
-#[derive(Drop)]
+#[derive(Clone, Copy)]
 pub struct Run<'a> {
     /// What was run.
     pub step: &'a Step,

@@ -1,54 +1,35 @@
 //! The events of `serve`.
-ghost use Rattle.api_http.specs.Questions.{question, IsProper};
-ghost use Rattle.storm_machine.specs.Stands.{Stands};
-
 use crate::outcomes::{Outcome, bytes};
 use crate::replay::Replay;
-use crate::run::Seen;
+use crate::run::Run;
 use crate::trouble::{Trouble, differs, same};
-use api_http::{Answer, Ask, Reading, Reply, print_reply, read_request};
+use api_http::{Reading, Reply, print_refusal, read_request};
 use command_outcome::Refusal;
-use plain_machine::PlainImage;
-use std::alloc::Global;
+use machine_replies::Told;
+use settings_machine::Request;
+use std::alloc::{AllocError, Global};
 use storm_steps::{Sent, Serving, Step};
 
-// The reply to bytes that are refused.
-fn refused(alloc: Global, refusal: api_http::Refusal) -> Result<Option<Reply>, Trouble> {
-    let answer = Answer::Refused { refusal };
-    Ok(Some(print_reply(alloc, &answer)?))
-}
-
-// The reply to what is asked for.
-fn asked(
-    alloc: Global,
-    image: &PlainImage,
-    replay: &mut Replay,
-    ask: &Ask,
-) -> Result<Option<Reply>, Trouble>
-    requires stands { Stands image.now replay.old.machine.held }
-    requires proper { IsProper (question ask.now) }
-    ensures { Stands image.now replay.new.machine.held }
-{
-    Ok(Some(replay.ask(alloc, image, ask)?))
+// The reply to what is told; None stands for a disk that failed.
+fn printed(alloc: Global, told: Option<Told>) -> Result<Reply, AllocError> {
+    match told {
+        Some(told) => told.reply(alloc),
+        None => Ok(Reply::disk()),
+    }
 }
 
 // The reply to what a client sends; None where no request comes.
-fn reply_to(
-    alloc: Global,
-    image: &PlainImage,
-    replay: &mut Replay,
-    sent: &Sent,
-) -> Result<Option<Reply>, Trouble>
-    requires stands { Stands image.now replay.old.machine.held }
-    ensures { Stands image.now replay.new.machine.held }
-{
+fn reply_to(alloc: Global, replay: &mut Replay, sent: &Sent) -> Result<Option<Reply>, AllocError> {
     if sent.read_fails {
         return Ok(None);
     }
     match read_request(alloc, &sent.bytes)? {
         Reading::NotYet => Ok(None),
-        Reading::Refused { refusal } => refused(alloc, refusal),
-        Reading::Whole { ask, .. } => asked(alloc, image, replay, &ask),
+        Reading::Refused { refusal } => Ok(Some(print_refusal(alloc, &refusal)?)),
+        Reading::Whole { request, .. } => {
+            let told = replay.ask(alloc, &request)?;
+            Ok(Some(printed(alloc, told)?))
+        }
     }
 }
 
@@ -63,36 +44,28 @@ fn written<'a>(reply: &'a Option<Reply>, sent: &Sent) -> &'a [u8] {
 // One connection, to which this was written, and a slice of turns.
 fn connection(
     alloc: Global,
-    image: &PlainImage,
     replay: &mut Replay,
     sent: &Sent,
     seen: &[u8],
     slice: Option<u32>,
-) -> Result<(), Trouble>
-    requires stands { Stands image.now replay.old.machine.held }
-    ensures { Stands image.now replay.new.machine.held }
-{
-    let reply = reply_to(alloc, image, replay, sent)?;
+) -> Result<(), Trouble> {
+    let reply = reply_to(alloc, replay, sent)?;
     same(alloc, seen, written(&reply, sent), "a reply")?;
-    replay.turns(alloc, image, slice)
+    Ok(replay.turns(alloc, slice)?)
 }
 
 fn connections(
     alloc: Global,
-    image: &PlainImage,
     replay: &mut Replay,
     sent: &[Sent],
     replies: &[Vec<u8>],
     slice: Option<u32>,
-) -> Result<(), Trouble>
-    requires stands { Stands image.now replay.old.machine.held }
-    ensures { Stands image.now replay.new.machine.held }
-{
+) -> Result<(), Trouble> {
     if sent.len() != replies.len() {
         return Err(differs(alloc, "other connections were accepted"));
     }
     for (one, seen) in sent.iter().zip(replies) {
-        connection(alloc, image, replay, one, seen, slice)?;
+        connection(alloc, replay, one, seen, slice)?;
     }
     Ok(())
 }
@@ -114,43 +87,25 @@ fn door_fails(step: &Step, serving: &Serving, count: usize) -> bool {
     is_asked && step.accept_fails == Some(number)
 }
 
-// The beginning of a server that applies all first: the request, and a slice of turns.
-fn boot_up(
-    alloc: Global,
-    image: &PlainImage,
-    replay: &mut Replay,
-    slice: Option<u32>,
-) -> Result<(), Trouble>
-    requires stands { Stands image.now replay.old.machine.held }
-    ensures { Stands image.now replay.new.machine.held }
-{
-    replay.ask(alloc, image, &Ask::Apply)?;
-    replay.turns(alloc, image, slice)
-}
-
 /// The machine serves as the run did, and each reply is the same. It answers what the run comes to.
 pub fn serve(
     alloc: Global,
-    image: &PlainImage,
     replay: &mut Replay,
-    step: &Step,
-    seen: &Seen,
+    run: &Run,
     serving: &Serving,
-) -> Result<Outcome, Trouble>
-    requires stands { Stands image.now replay.old.machine.held }
-    ensures { Stands image.now replay.new.machine.held }
-{
-    if !replay.open(alloc, image, serving.boot)? {
+) -> Result<Outcome, Trouble> {
+    if !replay.open(alloc, serving.boot)? {
         return Ok(Err(Refusal::Disk));
     }
     if serving.boot {
-        boot_up(alloc, image, replay, serving.slice)?;
+        replay.ask(alloc, &Request::Apply)?;
+        replay.turns(alloc, serving.slice)?;
     }
-    let sent = accepted(step, serving);
-    connections(alloc, image, replay, sent, &seen.replies, serving.slice)?;
-    if door_fails(step, serving, sent.len()) {
+    let sent = accepted(run.step, serving);
+    connections(alloc, replay, sent, &run.seen.replies, serving.slice)?;
+    if door_fails(run.step, serving, sent.len()) {
         return Ok(Err(Refusal::Door));
     }
-    replay.turns(alloc, image, None)?;
+    replay.turns(alloc, None)?;
     Ok(Ok(bytes(alloc, b"")?))
 }

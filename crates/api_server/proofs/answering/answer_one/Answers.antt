@@ -1,4 +1,6 @@
+use Rattle.std.proofs.Common.{◌∙◌, ap}
 use Rattle.outside.proofs.Told.{moves_stay, moves_map}
+use Rattle.api_http.specs.Replies.{Sent}
 use Rattle.api_server.proofs.Replied.{handles_told}
 use Rattle.api_server.proofs.Answerings.{answered_nothing, answered_memory, answered_refusal, answered_ask}
 use Rattle.api_server.proofs.answering.answer_one.Goals as goal
@@ -19,5 +21,6 @@ pub returns-in-Asked-clause-answers : goal.returns-in-Asked-clause-answers
 returns-in-Asked-clause-answers g c =
     moves_map
     (λ old new handles.
-    answered_ask c.args.core.now c.handle-reply.new.self _ _ c.in-Asked.ask c.handle-reply.result _ _ _ _ old new c.bytes-in-Asked.ensures c.handle-reply.ensures.disk
-    c.in-Asked.ensures.heard c.say-in-Asked.ensures.said handles) (handles_told _ _ _ _ _ _ c.handle-reply.ensures.handles c.handle-reply.ensures.other)
+    answered_ask c.args.core.now c.handle.new.core _ _ c.in-Asked.request c.handle.result _ _ _ _ old new
+    (c.bytes-in-Asked.ensures ∙ ap (λ (s : Sent). s.bytes) c.reply-reply.ensures) c.handle.ensures.cause.failed
+    c.in-Asked.ensures.heard c.say-in-Asked.ensures.said handles) (handles_told _ _ _ _ _ _ c.handle.ensures.handles c.handle.ensures.other)

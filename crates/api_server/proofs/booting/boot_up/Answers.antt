@@ -7,7 +7,7 @@ pub returns-then-boot-clause-boots : goal.returns-then-boot-clause-boots
 returns-then-boot-clause-boots g c =
     moves_then
     (λ old between new handles turns.
-    begun c.args.boot c.if-boot.true c.args.slice c.handle.result c.args.core.now c.handle.new.self c.turns.new.self _ _ old between new handles turns)
+    begun c.args.boot c.if-boot.true c.args.slice c.handle.result c.args.core.now c.handle.new.core c.turns.new.self _ _ old between new handles turns)
     (handles_told _ _ _ _ _ _ c.handle.ensures.handles c.handle.ensures.other) c.turns.ensures.turns
 
 pub returns-else-boot-clause-boots : goal.returns-else-boot-clause-boots

@@ -26,7 +26,7 @@ next_of-requires-clause-until g c =
 
 pub returns-in-Asked-clause-heard : goal.returns-in-Asked-clause-heard
 returns-in-Asked-clause-heard g c =
-    heard_asked c.in-Asked.ask _ _ _ _ c.in-Bytes.ensures.grows (subst (Comes (next.Asked c.in-Asked.ask)) c.deref.ensures.value c.in-Asked.ensures.comes)
+    heard_asked c.in-Asked.request _ _ _ _ c.in-Bytes.ensures.grows (subst (Comes (next.Asked c.in-Asked.request)) c.deref.ensures.value c.in-Asked.ensures.comes)
     (added_more _ _ _ _ _ c.loop-bytes.invariant.so_far c.in-Bytes.ensures.read)
 
 pub returns-in-Refused-clause-heard : goal.returns-in-Refused-clause-heard

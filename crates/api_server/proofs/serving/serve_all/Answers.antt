@@ -10,6 +10,7 @@ loop-number-init g c = record {
   sound = c.requires.sound;
   idle = c.requires.idle;
   accepted = c.requires.unused;
+  kept = refl;
   disk_later = omega arith;
   spawner_later = omega arith;
   door_later = omega arith;
@@ -20,6 +21,7 @@ pub loop-number-preserved : goal.loop-number-preserved
 loop-number-preserved g c =
     let was = c.loop-number.invariant in
     let one = c.serve_one.ensures in
+    let came = one_accepted c.in-Ok-true.field-0 c.in-Ok-true.field-0-test _ _ c.in-Ok-true.ensures.accepted in
     record {
       serves = moves_then
           (λ old between new all next.
@@ -27,8 +29,8 @@ loop-number-preserved g c =
           c.in-Ok-true.ensures.opened all next) was.serves one.serves;
       sound = one.sound;
       idle = ap (λ (d : DoorState). d.busy) one.done;
-      accepted = ap (λ (d : DoorState). d.accepted) one.done
-          ∙ one_accepted c.in-Ok-true.field-0 c.in-Ok-true.field-0-test _ _ c.in-Ok-true.ensures.accepted ∙ ap (λ n. n + 1) was.accepted;
+      accepted = ap (λ (d : DoorState). d.accepted) one.done ∙ ap (λ (d : DoorState). d.accepted) came ∙ ap (λ n. n + 1) was.accepted;
+      kept = ap (λ (d : DoorState). d.broken) one.done ∙ ap (λ (d : DoorState). d.broken) came ∙ was.kept;
       disk_later = omega (arith, was.disk_later, one.disk_faults);
       spawner_later = omega (arith, was.spawner_later, one.spawner_faults);
       door_later = omega (arith, was.door_later, c.in-Ok-true.ensures.cause.later, one.door_faults);

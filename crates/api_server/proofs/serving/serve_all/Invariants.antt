@@ -11,6 +11,7 @@ invariant-loop-number g l = record {
   sound : IsSound l.core;
   idle : (g.N.Door.state l.door).busy ≡ false;
   accepted : (g.N.Door.state l.door).accepted ≡ l._number;
+  kept : (g.N.Door.state l.door).broken ≡ (g.N.Door.state l.initial.door).broken;
   disk_later : g.D.Disk.faults l.initial.disk ≤ g.D.Disk.faults l.disk;
   spawner_later : g.S.Spawner.faults l.initial.spawner ≤ g.S.Spawner.faults l.spawner;
   door_later : g.N.Door.faults l.initial.door ≤ g.N.Door.faults l.door;

@@ -1,8 +1,5 @@
 use Rattle.machine_answers.proofs.Printing.{printed_value}
-use Rattle.machine_answers.proofs.ShownJobs.{shown_entries-is}
 use Rattle.machine_answers.proofs.job_body.job_text.Goals as goal
 
 pub returns : goal.returns
-returns c = λ job shows.
-    rw (← shown_entries-is job c.args.shown c.args.owed.now shows)
-    (printed_value _ _ _ _ c.text_of.ensures.text c.new-writer.ensures.tokens c.in_ok-write_job.ensures)
+returns c = printed_value _ _ _ _ c.text_of.ensures.text c.new-writer.ensures.tokens c.in_ok-write_job.ensures

@@ -30,4 +30,4 @@ returns-clause-generates g c =
     c.generated.ensures.same c.deref.ensures.value c.commit_pairs.ensures.commits
 
 pub returns-clause-spawn : goal.returns-clause-spawn
-returns-clause-spawn g c = spawn_committed c.in_ok-pairs.pairs c.commit_pairs.result _ _ c.in_ok-pairs.ensures.spawn c.commit_pairs.ensures.of_commit
+returns-clause-spawn g c = spawn_committed c.in_ok-pairs.pairs c.commit_pairs.result _ _ c.in_ok-pairs.ensures.spawn c.commit_pairs.ensures.of_request

@@ -3,7 +3,7 @@ use Rattle.key_names.specs.Key.{is_prefix}
 use Rattle.json_trees.specs.declared.scalar.Scalar.{Scalar}
 use Rattle.settings_tree.specs.Content.{settings_key}
 use Rattle.command_outcome.specs.declared.refusal.Refusal.TheVariants as refused
-use Rattle.core_commands.specs.Committing.{IsOfCommit}
+use Rattle.core_commands.specs.Handing.{IsOfRequest}
 use Rattle.settings_cmd.specs.UserData.{IsOfData}
 use Rattle.settings_cmd.proofs.Making.{provides_none, provides_pairs, is_none_of, refused_of}
 use Rattle.settings_cmd.proofs.provisioning.provide.Goals as goal
@@ -34,7 +34,7 @@ returns-clause-provides g c =
     c.data_at.ensures.same c.deref.ensures.value c.commit_pairs.ensures.commits
 
 pub returns-clause-unspawned : goal.returns-clause-unspawned
-returns-clause-unspawned g c = λ name. is_none_of IsOfCommit c.commit_pairs.result (refused.Spawn name) (λ none. none) c.commit_pairs.ensures.of_commit
+returns-clause-unspawned g c = λ name. is_none_of IsOfRequest c.commit_pairs.result (refused.Spawn name) (λ none. none) c.commit_pairs.ensures.of_request
 
 pub returns-clause-no_door : goal.returns-clause-no_door
-returns-clause-no_door g c = is_none_of IsOfCommit c.commit_pairs.result refused.Door (λ none. none) c.commit_pairs.ensures.of_commit
+returns-clause-no_door g c = is_none_of IsOfRequest c.commit_pairs.result refused.Door (λ none. none) c.commit_pairs.ensures.of_request

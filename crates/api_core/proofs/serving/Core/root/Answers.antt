@@ -2,4 +2,5 @@ use Rattle.api_core.proofs.Nesting.{nest_all}
 use Rattle.api_core.proofs.serving.Core.root.Goals as goal
 
 pub returns-clause-prints : goal.returns-clause-prints
-returns-clause-prints c = nest_all c.args.self.now.held.live.values c.requires.sound.rule.live c.in_ok-pairs.pairs.items c.in_ok-pairs.ensures
+returns-clause-prints c =
+    rw c.tree.ensures (nest_all c.args.self.now.held.live.values c.requires.sound.rule.live c.in_ok-pairs.pairs.items c.in_ok-pairs.ensures)

@@ -1,0 +1,96 @@
+//! What a request comes to.
+ghost use Rattle.std.specs.Prelude.{◌≡◌, [], true, IfOk};
+ghost use Rattle.settings_machine.specs.Asked.{request_of};
+ghost use Rattle.settings_machine.specs.Requests.{IsProper, is_reading};
+ghost use Rattle.settings_tree.specs.Laid.{KeepsPrefixRule};
+ghost use Rattle.typed_settings.specs.Row.{IsPrefixFree};
+ghost use Rattle.machine_answers.specs.Replies.{MayPrint};
+ghost use Rattle.api_core.specs.Cores.{IsSound};
+ghost use Rattle.api_core.specs.Plans.{MayMake, KnowsFiles, Makes, IsQuietIfRefused, MayCommit, Plans, Replies};
+ghost use Rattle.api_core.specs.Prints.{CanPrint};
+
+use crate::Core;
+use crate::planned::Planned;
+use crate::printable::may_print;
+use settings_machine::Request;
+use settings_tree::Held;
+use std::alloc::{AllocError, Global};
+use typed_settings::Types;
+
+// What is held keeps the prefix rule, and no known key begins with another. It does nothing.
+fn keep_rules(types: &Types, held: &Held)
+    ensures held { KeepsPrefixRule held.now }
+    ensures types { IsPrefixFree types.now }
+{
+    types.len();
+    held.live.weak();
+    held.pending.next_tx(None);
+}
+
+impl Core {
+    // The same as `plan`, but for a value at the root of a tree.
+    fn make(&self, alloc: Global, request: &Request) -> Result<Planned, AllocError>
+        requires sound { IsSound self.now }
+        requires proper { IsProper (request_of request.now) }
+        ensures may { IfOk result (MayMake self.now) }
+        ensures planned { IfOk result (Makes self.now (request_of request.now)) }
+        ensures files { IfOk result (KnowsFiles self.now) }
+        ensures prints { IfOk result (λ planned. CanPrint planned.answer) }
+        ensures quiet { IfOk result IsQuietIfRefused }
+        ensures reading { is_reading (request_of request.now) ≡ true → IfOk result (λ planned. planned.effect.change ≡ []) }
+    {
+        keep_rules(&self.image.model.types, &self.held);
+        match request {
+            Request::Root => Ok(self.plan_reading(alloc, self.root(alloc)?)),
+            Request::OsNames => Ok(self.plan_reading(alloc, self.os_names(alloc)?)),
+            Request::Settings => Ok(self.plan_reading(alloc, self.settings(alloc)?)),
+            Request::SettingsAt { keys } => {
+                Ok(self.plan_reading(alloc, self.settings_at(alloc, keys)?))
+            }
+            Request::SettingsBelow { key } => {
+                Ok(self.plan_reading(alloc, self.settings_below(alloc, key)?))
+            }
+            Request::Patch { tx, pairs } => self.plan_patch(alloc, tx, pairs.as_slice()),
+            Request::Services { names } => {
+                Ok(self.plan_reading(alloc, self.services(alloc, names)?))
+            }
+            Request::ConfigurationFiles { names } => {
+                Ok(self.plan_reading(alloc, self.files(alloc, names)?))
+            }
+            Request::Affected { keys } => {
+                Ok(self.plan_reading(alloc, self.affected(alloc, keys)?))
+            }
+            Request::Pends { tx } => Ok(self.plan_reading(alloc, self.pending(alloc, tx)?)),
+            Request::DropTx { tx } => self.plan_drop(alloc, tx),
+            Request::TxList => Ok(self.plan_reading(alloc, self.tx_list(alloc)?)),
+            Request::Commit { tx } => self.plan_commit(alloc, tx),
+            Request::Apply => self.plan_apply(alloc),
+            Request::CommitAndApply { tx } => self.plan_commit_and_apply(alloc, tx),
+            Request::JobNow => Ok(self.plan_reading(alloc, self.job_now(alloc)?)),
+        }
+    }
+
+    /// What the machine makes of a request: what it answers, and what the request does to the core once it is committed. Nothing
+    /// changes. No call of the disk has failed since the last opening, and each key of a `Patch` begins with `settings`.
+    ///
+    /// The only error is out of memory. It takes a logarithmic step or two for each value, key and name that is answered or changed.
+    pub fn plan(&self, alloc: Global, request: &Request) -> Result<Planned, AllocError>
+        requires sound { IsSound self.now }
+        requires proper { IsProper (request_of request.now) }
+        ensures planned { IfOk result (λ planned. Plans self.now (request_of request.now) planned.answer planned.effect) }
+        ensures replies { IfOk result (λ planned. Replies self.now (request_of request.now) planned.answer) }
+        ensures may { IfOk result (λ planned. MayCommit self.now planned.effect) }
+        ensures prints { IfOk result (λ planned. MayPrint planned.answer) }
+
+        // A refused request and a reading change nothing that is held, so nothing is written for them.
+        ensures quiet { IfOk result IsQuietIfRefused }
+        ensures reading { is_reading (request_of request.now) ≡ true → IfOk result (λ planned. planned.effect.change ≡ []) }
+    {
+        let planned = self.make(alloc, request)?;
+        if !may_print(&planned.answer) {
+            // No store has a value at the root of such a tree.
+            return Err(AllocError);
+        }
+        Ok(planned)
+    }
+}

@@ -1,0 +1,308 @@
+-- A request that comes after a failed call of the disk.
+use Rattle.std.proofs.Common.{arith, ◌≡◌, ℕ, inl, inr, Bool, true, false, List, [], ◌∷◌, Ok, Err, refl, sym, ◌∙◌, ap, subst}
+use Rattle.outside.specs.History.{History}
+use Rattle.outside.proofs.Since.{since_map}
+use Rattle.settings_machine.specs.declared.cause.Cause.{Cause}
+use Rattle.settings_machine.specs.declared.cause.Cause.TheVariants as cause
+use Rattle.settings_machine.specs.World as machine
+use Rattle.settings_machine.specs.World.{Key, Image, World, Job, is_running}
+use Rattle.settings_machine.specs.Opening.{added_keys}
+use Rattle.settings_machine.specs.Requests.{Request, DiskFault, NoMemory, NotOpened}
+use Rattle.settings_machine.specs.Step.{Outcome, Answered, WithoutMemory, Unopened, Faulted, failing, noting, request_next, opened}
+use Rattle.settings_machine.specs.Events.{Succeeded, Failing, Opened, Asked, next, after}
+use Rattle.settings_machine.specs.Laws.{IsKept}
+use Rattle.settings_machine.specs.Paid.{IsGood}
+use Rattle.settings_machine.specs.Typed.{IsTypedHeld}
+use Rattle.settings_machine.proofs.PaidLaws.{files_stay_paid}
+use Rattle.machine_disk.specs.Kept.{Folder, CoreState, Kept}
+use Rattle.machine_disk.specs.Ran.{Ran, Reopens, OpensNot, OnTheWay, Within}
+use Rattle.machine_disk.proofs.Runs.{ran_more, opens_ran, unopened_ran, refused_ran, way_of_more}
+use Rattle.machine_disk.proofs.Quiet.{ran_unsaid}
+use Rattle.store_open.specs.Laws.{HoldsImage, IsImageOfFolder, IsKeptAt, IsRefusal}
+use Rattle.store_open.specs.Opening.{Opens}
+use Rattle.store_open.specs.Typed as stored
+use Rattle.store_open.specs.Typed.{IsIllTyped, IsBadLive, IsBadPending}
+use Rattle.store_open.specs.declared.open_error.OpenError.{OpenError}
+use Rattle.store_open.specs.declared.open_error.OpenError.TheVariants as error
+use Rattle.store_open.specs.declared.opened.Opened as store
+use Rattle.store_open.proofs.MachineRuns.{openings_run, refusals_keep}
+use Rattle.api_http.specs.Replies.{refused}
+use Rattle.api_http.specs.declared.refusal.Refusal.TheVariants as refusal
+use Rattle.api_core.specs.Cores.{core_state}
+use Rattle.api_core.specs.Reopened.{HoldsOpened, HoldsStill}
+use Rattle.api_server.specs.Handled.{fault_of, TellsFault, GivesUp, IsNotOpened, IsHandled, Handles, IsOtherStore, IsEvent, Answers}
+use Rattle.api_server.specs.declared.handled.Handled.{Handled}
+use Rattle.api_server.specs.declared.handled.Handled.TheVariants as came
+use Rattle.api_core.specs.declared.serving.Core.{Core}
+
+-- A job that doesn't run notes nothing, and doesn't fail.
+noting_still : (j : Job) (keys : List Key) → is_running j ≡ false → noting j keys ≡ j
+noting_still machine.Idle keys still = refl
+noting_still (machine.Failed c) keys still = refl
+noting_still (machine.Running w) keys still = absurd (cc still)
+
+failing_still : (j : Job) (c : Cause) → is_running j ≡ false → failing j c ≡ j
+failing_still machine.Idle c still = refl
+failing_still (machine.Failed d) c still = refl
+failing_still (machine.Running w) c still = absurd (cc still)
+
+-- What comes with no opening comes with one that succeeded.
+reopens_succeeded : (o : Outcome) → Reopens false o [] → Reopens true o (Opened false Succeeded ∷ [])
+reopens_succeeded Answered r = refl
+reopens_succeeded WithoutMemory r = (Succeeded, refl)
+reopens_succeeded (Unopened at) r = absurd r
+reopens_succeeded (Faulted taken) r = (Succeeded, refl, inl refl)
+
+-- Where no call of the disk has failed.
+pub calm_handles : (c now : Core) (q : Request) (sent : Handled) (old new : History) → c.faulted ≡ false → now.image ≡ c.image → Answers c q sent now old new
+    → Handles c q sent now old new
+calm_handles c now q sent old new calm image answers = record {
+  each = λ I good holds folder still W V kept.
+      let e : IsEvent I folder W V q sent old new (core_state c) (core_state now) = answers.event I good holds folder W V kept in record {
+        events = Asked q e.outcome ∷ [];
+        replied = (request_next I W q e.outcome).reply;
+        says = e.says;
+        fits = e.fits;
+        handled_by = record { outcome = e.outcome; first = []; reopens = subst (λ (b : Bool). Reopens b e.outcome []) (sym calm) e.reopens; made = refl; replied = refl };
+        made = e.ran;
+        image = subst (HoldsImage I) (sym image) holds;
+      };
+}
+
+module _ (I : Image) (W : World) (idle : is_running W.job ≡ false) where
+  opened_job : (opened I W false).job ≡ W.job
+  unfolding opened
+  opened_job = noting_still W.job (added_keys I.defaults.values W.held.live.values) idle
+
+  failed_job : (taken : Bool) → (after I W (Opened false (Failing taken) ∷ [])).job ≡ W.job
+  failed_job true = opened_job
+  failed_job false = refl
+
+module _ (c : Core) (q : Request) (faulted : c.faulted ≡ true) where
+  idle_at : (I : Image) (folder : Folder) (W V : World) (old : History) → Kept I folder W V old (core_state c) → is_running W.job ≡ false
+  idle_at I folder W V old kept = ap is_running (sym kept.core.job) ∙ kept.core.still faulted
+
+  -- The store was opened again, and then the request was answered.
+  pub opened_handles : (mid_core now : Core) (sent : Handled) (old mid new : History) → HoldsOpened c mid_core old mid → now.image ≡ mid_core.image
+      → (IsNotOpened sent → ⊥) → Answers mid_core q sent now mid new → Handles c q sent now old new
+  opened_handles mid_core now sent old mid new again same not_store answers = record {
+    each = λ I good held_image folder still W V kept.
+        let s : store.Opened = again.store in
+        let state : core_state mid_core ≡ record (core_state c) { place = s.place; held = s.held; faulted = false } = again.state in
+        let idle = idle_at I folder W V old kept in
+        let o = openings_run I good folder (still faulted not_store) W V false (Ok s) old mid kept.disk idle again.opens in
+        let one : Ran I folder W V (Opened false Succeeded ∷ []) old mid (core_state c) (core_state mid_core) =
+        opens_ran I folder W V false s.place s.held old mid (core_state c) (core_state mid_core) o.0
+        (ap (λ (x : CoreState). x.place) state) (ap (λ (x : CoreState). x.held) state)
+        (ap (λ (x : CoreState). x.job) state ∙ kept.core.job ∙ sym (opened_job I W idle)) (ap (λ (x : CoreState). x.faulted) state) in
+        let holds : HoldsImage I mid_core.image = subst (HoldsImage I) (sym again.image) o.1 in
+        let e : IsEvent I folder (after I W (Opened false Succeeded ∷ [])) one.other q sent mid new (core_state mid_core) (core_state now) =
+        answers.event I good holds folder (after I W (Opened false Succeeded ∷ [])) one.other one.kept in record {
+          events = Opened false Succeeded ∷ Asked q e.outcome ∷ [];
+          replied = (request_next I (after I W (Opened false Succeeded ∷ [])) q e.outcome).reply;
+          says = e.says;
+          fits = e.fits;
+          handled_by = record {
+            outcome = e.outcome;
+            first = Opened false Succeeded ∷ [];
+            reopens = subst (λ (b : Bool). Reopens b e.outcome (Opened false Succeeded ∷ [])) (sym faulted) (reopens_succeeded e.outcome e.reopens);
+            made = refl;
+            replied = refl;
+          };
+          made = ran_more I folder W V (Opened false Succeeded ∷ []) (Asked q e.outcome ∷ []) old mid new (core_state c) (core_state mid_core) (core_state now) one e.ran;
+          image = subst (HoldsImage I) (sym same) holds;
+        };
+  }
+
+  -- ---- an opening that failed
+
+  module _ (old new : History) (I : Image) (good : IsGood I) (holds : HoldsImage I c.image) (folder : Folder) (W V : World) (kept : Kept I folder W V old (core_state c))
+      (n : OpensNot I folder W V false old new) where
+    idle : is_running W.job ≡ false
+    idle = idle_at I folder W V old kept
+
+    abbrev X : World
+    X = after I W (Opened false (Failing n.taken) ∷ [])
+
+    kept_one : IsKept I X
+    kept_one = files_stay_paid I good W (record { fit = kept.fit; paid = kept.disk.paid }) (Opened false (Failing n.taken) ∷ []) refl
+
+    idle_one : is_running X.job ≡ false
+    idle_one = ap is_running (failed_job I W idle n.taken) ∙ idle
+
+    job_one : (core_state c).job ≡ X.job
+    job_one = kept.core.job ∙ sym (failed_job I W idle n.taken)
+
+    not_opened : Ran I folder W V (Opened false (Failing n.taken) ∷ []) old new (core_state c) (core_state c)
+    not_opened =
+        let k : IsKept I X = kept_one in
+        unopened_ran I folder W V false old new (core_state c) (core_state c) n kept.format k.fit job_one faulted faulted (kept.core.still faulted)
+
+    faulted_after_it : Ran I folder X not_opened.other (Asked q (Faulted false) ∷ []) new new (core_state c) (core_state c)
+    unfolding request_next
+    faulted_after_it =
+        let one : Ran I folder W V (Opened false (Failing n.taken) ∷ []) old new (core_state c) (core_state c) = not_opened in
+        let k : IsKept I X = kept_one in
+        let more : IsKept I (next I X (Asked q (Faulted false))) = files_stay_paid I good X k (Asked q (Faulted false) ∷ []) refl in
+        ran_unsaid I folder X not_opened.other new (core_state c) not_opened.kept (Asked q (Faulted false)) (core_state c)
+        (record { version = refl; format = refl; held = refl; etc = refl }) more.fit more.paid
+        (job_one ∙ sym (failing_still X.job cause.Disk idle_one)) refl refl refl (sym faulted) refl (λ f. kept.core.still f)
+
+    memory_after_it : Ran I folder X not_opened.other (Asked q WithoutMemory ∷ []) new new (core_state c) (core_state c)
+    unfolding request_next
+    memory_after_it =
+        let k : IsKept I X = kept_one in
+        ran_unsaid I folder X not_opened.other new (core_state c) not_opened.kept (Asked q WithoutMemory) (core_state c)
+        (record { version = refl; format = refl; held = refl; etc = refl }) k.fit k.paid job_one refl refl refl refl refl (λ f. kept.core.still f)
+
+    failed_handled : IsHandled I folder W V q came.DiskFault c c old new
+    unfolding request_next
+    failed_handled = record {
+      events = Opened false (Failing n.taken) ∷ Asked q (Faulted false) ∷ [];
+      replied = DiskFault;
+      says = refl;
+      fits = refl;
+      handled_by = record {
+        outcome = Faulted false;
+        first = Opened false (Failing n.taken) ∷ [];
+        reopens = subst (λ (b : Bool). Reopens b (Faulted false) (Opened false (Failing n.taken) ∷ [])) (sym faulted) (Failing n.taken, refl, inr refl);
+        made = refl;
+        replied = refl;
+      };
+      made = ran_more I folder W V (Opened false (Failing n.taken) ∷ []) (Asked q (Faulted false) ∷ []) old new new (core_state c) (core_state c) (core_state c)
+          not_opened faulted_after_it;
+      image = holds;
+    }
+
+    memory_handled : IsHandled I folder W V q came.Memory c c old new
+    unfolding request_next
+    memory_handled = record {
+      events = Opened false (Failing n.taken) ∷ Asked q WithoutMemory ∷ [];
+      replied = NoMemory;
+      says = refl;
+      fits = tt;
+      handled_by = record {
+        outcome = WithoutMemory;
+        first = Opened false (Failing n.taken) ∷ [];
+        reopens = subst (λ (b : Bool). Reopens b WithoutMemory (Opened false (Failing n.taken) ∷ [])) (sym faulted) (Failing n.taken, refl);
+        made = refl;
+        replied = refl;
+      };
+      made = ran_more I folder W V (Opened false (Failing n.taken) ∷ []) (Asked q WithoutMemory ∷ []) old new new (core_state c) (core_state c) (core_state c)
+          not_opened memory_after_it;
+      image = holds;
+    }
+
+  -- The disk or memory failed it.
+  failed_handles : (old new : History) → Opens false (Err error.Failed) old new → Handles c q came.DiskFault c old new
+  failed_handles old new opens = record {
+    each = λ I good holds folder still W V kept.
+        failed_handled old new I good holds folder W V kept
+        (openings_run I good folder (still faulted (λ is. is)) W V false (Err error.Failed) old new kept.disk (idle_at I folder W V old kept) opens);
+  }
+
+  memory_handles : (old new : History) → Opens false (Err error.Memory) old new → Handles c q came.Memory c old new
+  memory_handles old new opens = record {
+    each = λ I good holds folder still W V kept.
+        memory_handled old new I good holds folder W V kept
+        (openings_run I good folder (still faulted (λ is. is)) W V false (Err error.Memory) old new kept.disk (idle_at I folder W V old kept) opens);
+  }
+
+  -- ---- one that was refused
+
+  module _ (e : OpenError) (is : IsRefusal e) (old new : History) (opens : Opens false (Err e) old new) where
+    kept_at : (I : Image) (folder : Folder) (W V : World) → Kept I folder W V old (core_state c) → IsKeptAt I folder W V old new
+    kept_at I folder W V kept = refusals_keep I folder W V false e old new kept.disk is opens
+
+    -- The reply tells what is at fault,
+    told_handles : (at : List ℕ) → Handles c q (came.NotOpened (refused (refusal.Store at))) c old new
+    unfolding request_next
+    told_handles at = record {
+      each = λ I good holds folder still W V kept.
+          let k : IsKeptAt I folder W V old new = kept_at I folder W V kept in record {
+            events = Asked q (Unopened at) ∷ [];
+            replied = NotOpened at;
+            says = refl;
+            fits = tt;
+            handled_by = record {
+              outcome = Unopened at;
+              first = [];
+              reopens = subst (λ (b : Bool). Reopens b (Unopened at) []) (sym faulted) refl;
+              made = refl;
+              replied = refl;
+            };
+            made = refused_ran I folder W V q at old new (core_state c) faulted kept k.disk k.moments;
+            image = holds;
+          };
+    }
+
+    -- or memory was wanting for it: then it counts as an opening that failed for want of memory, and was not taken.
+    untold_handles : Handles c q came.Memory c old new
+    untold_handles = record {
+      each = λ I good holds folder still W V kept.
+          let k : IsKeptAt I folder W V old new = kept_at I folder W V kept in memory_handled old new I good holds folder W V kept (record {
+            taken = false;
+            other = W;
+            late = Within [] (Opened false (Failing false) ∷ []) refl refl refl;
+            disk = k.disk;
+            moments = since_map (OnTheWay I W V []) (OnTheWay I W V (Opened false (Failing false) ∷ [])) old new
+                (λ t way. way_of_more I W V [] (Opened false (Failing false) ∷ []) t way) k.moments;
+          });
+    }
+
+    refusal_handles : (sent : Handled) → TellsFault e sent → Handles c q sent c old new
+    refusal_handles sent (inl tells) = subst (λ (s : Handled). Handles c q s c old new) (sym tells) (told_handles (fault_of e))
+    refusal_handles sent (inr memory) = subst (λ (s : Handled). Handles c q s c old new) (sym memory) untold_handles
+
+  given_up_handles : (e : OpenError) (sent : Handled) → GivesUp e sent → (old new : History) → Opens false (Err e) old new → Handles c q sent c old new
+  given_up_handles error.Failed sent gives old new opens = subst (λ (s : Handled). Handles c q s c old new) (sym gives) (failed_handles old new opens)
+  given_up_handles error.Memory sent gives old new opens = subst (λ (s : Handled). Handles c q s c old new) (sym gives) (memory_handles old new opens)
+  given_up_handles error.NoStore sent gives old new opens = refusal_handles error.NoStore tt old new opens sent gives
+  given_up_handles (error.BadLink path) sent gives old new opens = refusal_handles (error.BadLink path) tt old new opens sent gives
+  given_up_handles (error.BadJournal path) sent gives old new opens = refusal_handles (error.BadJournal path) tt old new opens sent gives
+  given_up_handles (error.Damaged path) sent gives old new opens = refusal_handles (error.Damaged path) tt old new opens sent gives
+  given_up_handles (error.OldFormat directory) sent gives old new opens = refusal_handles (error.OldFormat directory) tt old new opens sent gives
+  given_up_handles (error.BadImage file kind at) sent gives old new opens = refusal_handles (error.BadImage file kind at) tt old new opens sent gives
+  given_up_handles (error.IllTyped key) sent gives old new opens = refusal_handles (error.IllTyped key) tt old new opens sent gives
+
+  -- The request is given up, and the core is as before.
+  pub unopened_handles : (e : OpenError) (sent : Handled) (now : Core) → GivesUp e sent → (old new : History) → HoldsStill c e now old new
+      → Handles c q sent now old new
+  unopened_handles e sent now gives old new still =
+      subst (λ (x : Core). Handles c q sent x old new) (sym still.same) (given_up_handles e sent gives old new still.opens)
+
+  -- ---- where the image is as before
+
+  -- No value is refused where all are typed.
+  no_ill : (I : Image) (W : World) (key : Key) → IsTypedHeld I.types W.held → IsIllTyped I.types W.held key → ⊥
+  no_ill I W key typed (stored.live first) = by first.bad where
+    by : IsBadLive I.types W.held key → ⊥
+    by bad = bad.untyped (typed.settings.typed key bad.value bad.there bad.setting)
+  no_ill I W key typed (stored.pending settings first) = by first.of.bad where
+    by : IsBadPending I.types W.held first.tx key → ⊥
+    by bad = bad.unfit (typed.pending first.tx key bad.value bad.there)
+
+  never : (e : OpenError) → IsRefusal e → (old new : History) → Opens false (Err e) old new → (I : Image) → IsGood I → (folder : Folder) → IsImageOfFolder I folder
+      → (W V : World) → Kept I folder W V old (core_state c) → ⊥
+  never error.Failed is old new opens I good folder of W V kept = is
+  never error.Memory is old new opens I good folder of W V kept = is
+  never (error.OldFormat directory) is old new opens I good folder of W V kept =
+      let run = openings_run I good folder of W V false (Err (error.OldFormat directory)) old new kept.disk (idle_at I folder W V old kept) opens in
+      let format : W.format ≡ 2 = kept.format in let old_format : W.format ≡ 1 = run.0 in omega (arith, format, old_format)
+  never (error.IllTyped key) is old new opens I good folder of W V kept =
+      let run = openings_run I good folder of W V false (Err (error.IllTyped key)) old new kept.disk (idle_at I folder W V old kept) opens in
+      no_ill I W key kept.fit.typed run.0
+  never error.NoStore is old new opens I good folder of W V kept =
+      openings_run I good folder of W V false (Err error.NoStore) old new kept.disk (idle_at I folder W V old kept) opens
+  never (error.BadLink path) is old new opens I good folder of W V kept =
+      openings_run I good folder of W V false (Err (error.BadLink path)) old new kept.disk (idle_at I folder W V old kept) opens
+  never (error.BadJournal path) is old new opens I good folder of W V kept =
+      openings_run I good folder of W V false (Err (error.BadJournal path)) old new kept.disk (idle_at I folder W V old kept) opens
+  never (error.Damaged path) is old new opens I good folder of W V kept =
+      openings_run I good folder of W V false (Err (error.Damaged path)) old new kept.disk (idle_at I folder W V old kept) opens
+  never (error.BadImage file kind at) is old new opens I good folder of W V kept =
+      openings_run I good folder of W V false (Err (error.BadImage file kind at)) old new kept.disk (idle_at I folder W V old kept) opens
+
+  -- Nothing is refused there.
+  pub refuses_other : (e : OpenError) → IsRefusal e → (old new : History) → Opens false (Err e) old new → IsOtherStore c old new
+  refuses_other e is old new opens = record { other = λ I good holds folder of W V kept. never e is old new opens I good folder of W V kept }

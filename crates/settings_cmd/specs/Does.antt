@@ -1,0 +1,39 @@
+-- What each order does, by what the devices tell before and after.
+use Rattle.std.specs.Prelude.{Option, List}
+use Rattle.outside.specs.Door.{DoorState}
+use Rattle.outside.specs.Exchange.{Exchange}
+use Rattle.outside.specs.History.{History}
+use Rattle.outside.specs.Spawner.{Run, Question}
+use Rattle.command_outcome.specs.Ends.{Outcome}
+use Rattle.command_words.specs.Orders.{Order, init, serve, set, get, apply, check, migrate, prune, load, generate, user_data}
+use Rattle.core_commands.specs.Carried.{Carried as Commanded, set_requests, apply_requests}
+use Rattle.core_commands.specs.Lines.{IsSettingsLine, IsJobLine}
+use Rattle.settings_cmd.specs.Carried.{Carried, IsBegun, IsGot, IsChecked, IsMigrated, IsPruned, GeneratesOrNot, IsProvided, IsLoaded}
+use Rattle.settings_cmd.specs.Serving.{HasServed, HasAccepted}
+
+-- The disk's history, what the door has accepted and its connections, the programs that were asked, and those that were run, where each is told.
+pub record Devices : Type 0 where
+  pub disk : Option History
+  pub door : DoorState
+  pub connections : Option (List Exchange)
+  pub asked : Option (List Question)
+  pub runs : Option (List Run)
+
+-- These five.
+abbrev pub devices : Option History → DoorState → Option (List Exchange) → Option (List Question) → Option (List Run) → Devices
+devices disk door connections asked runs = record { disk = disk; door = door; connections = connections; asked = asked; runs = runs }
+
+-- The order is carried out, and comes to this.
+abbrev pub Does : Order → Outcome → Devices → Devices → Type 0
+Does (init version) outcome old new = Carried (IsBegun version) outcome old.disk new.disk
+Does (serve boot slice connections) outcome old new =
+    HasServed boot slice old.connections new.connections old.runs new.runs outcome old.disk new.disk × HasAccepted connections outcome old.door new.door
+Does (set pairs) outcome old new = Commanded (set_requests pairs) IsSettingsLine outcome old.runs new.runs old.disk new.disk
+Does (get keys) outcome old new = Carried (IsGot keys) outcome old.disk new.disk
+Does apply outcome old new = Commanded apply_requests IsJobLine outcome old.runs new.runs old.disk new.disk
+Does check outcome old new = Carried IsChecked outcome old.disk new.disk
+Does (migrate to) outcome old new = IsMigrated to old.asked new.asked outcome old.disk new.disk
+Does prune outcome old new = Carried IsPruned outcome old.disk new.disk
+Does generate outcome old new = GeneratesOrNot old.asked new.asked outcome old.disk new.disk
+Does (user_data path) outcome old new = Carried (IsProvided path) outcome old.disk new.disk
+Does (load count) outcome old new = Carried (IsLoaded count) outcome old.disk new.disk
