@@ -8,6 +8,8 @@ LIBDIR = $(PREFIX)/lib
 BASH_COMPLETION = $(PREFIX)/share/bash-completion/completions
 ZSH_COMPLETION = $(PREFIX)/share/zsh/site-functions
 FISH_COMPLETION = $(PREFIX)/share/fish/vendor_completions.d
+# The version, of the one file that has it: both programs are built with it, the manual pages get it here, and CHANGELOG.md has to have a heading of it.
+VERSION := $(shell sed -n 's/^pub const VERSION: &str = "\(.*\)";$$/\1/p' crates/program_version/src/lib.rt)
 # The built programs, which `rt ci` and `make programs` leave here.
 SETTINGS ?= crates/settings/out/settings
 SETTINGSCTL ?= crates/settingsctl/out/settingsctl
@@ -37,13 +39,14 @@ test:
 # Lays what is built and proves nothing. With PREFIX=/usr the system finds the unit and the two lists beside it by itself.
 install:
 	@test -x "$(SETTINGS)" -a -x "$(SETTINGSCTL)" || { echo 'the programs are not built: make programs' >&2; exit 1; }
+	@grep -qxF '## $(VERSION)' CHANGELOG.md || { echo 'CHANGELOG.md has nothing of version $(VERSION)' >&2; exit 1; }
 	install -d "$(DESTDIR)$(BINDIR)" "$(DESTDIR)$(MANDIR)/man1" "$(DESTDIR)$(MANDIR)/man5" "$(DESTDIR)$(MANDIR)/man8"
 	install -d "$(DESTDIR)$(LIBDIR)/systemd/system" "$(DESTDIR)$(LIBDIR)/sysusers.d" "$(DESTDIR)$(LIBDIR)/tmpfiles.d"
 	install -m 755 "$(SETTINGS)" "$(DESTDIR)$(BINDIR)/settings"
 	install -m 755 "$(SETTINGSCTL)" "$(DESTDIR)$(BINDIR)/settingsctl"
-	install -m 644 man/settingsctl.1 "$(DESTDIR)$(MANDIR)/man1"
-	install -m 644 man/settings-image.5 "$(DESTDIR)$(MANDIR)/man5"
-	install -m 644 man/settings.8 "$(DESTDIR)$(MANDIR)/man8"
+	for page in 1/settingsctl.1 5/settings-image.5 8/settings.8; do \
+		sed 's|@VERSION@|$(VERSION)|' "man/$${page#*/}" > "$(DESTDIR)$(MANDIR)/man$$page" && chmod 644 "$(DESTDIR)$(MANDIR)/man$$page" || exit 1; \
+	done
 	sed 's|@BINDIR@|$(BINDIR)|' packaging/settings.service > "$(DESTDIR)$(LIBDIR)/systemd/system/settings.service"
 	chmod 644 "$(DESTDIR)$(LIBDIR)/systemd/system/settings.service"
 	install -m 644 packaging/settings.sysusers "$(DESTDIR)$(LIBDIR)/sysusers.d/settings.conf"
