@@ -15,7 +15,8 @@ use std::rt::Files;
 /// and `.links` a folder goes with the last file in it.
 ///
 /// The first call takes the lock on the folder, which is held as long as the disk lives. Where another program holds it,
-/// each call is a fault and nothing is read or changed.
+/// each call is a fault and nothing is read or changed; `wait_for_lock` lets the first one wait for it. On a file system that is
+/// read-only the lock is taken without being made.
 ///
 /// `sync` puts down each file that was written in place and each folder whose entries changed since the last sync that
 /// answered Ok, each once. The first one also puts down all files and folders of `store`, `etc` and `.links`, as an
@@ -41,6 +42,16 @@ where
         let faults = Faults::new(rt.alloc());
         let folder = Folder::new(rt, root)?;
         Ok(RealDisk { folder, faults })
+    }
+
+    /// The first call waits for a command that holds the lock on the folder, ten seconds at most. A server is not waited for.
+    pub fn wait_for_lock(&mut self) {
+        self.folder.wait_for_lock();
+    }
+
+    /// No call takes the lock on the folder: for who reads alone what no program writes.
+    pub fn take_no_lock(&mut self) {
+        self.folder.take_no_lock();
     }
 
     /// Whether another program held the lock on the folder at the last call.

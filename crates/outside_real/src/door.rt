@@ -3,20 +3,24 @@ ghost use Rattle.std.specs.Prelude.{◌≡◌, None, IfOk};
 ghost use Rattle.outside.specs.Faults.{HasCause};
 
 use crate::connections::Connections;
+use crate::explaining::why_refused;
 use crate::failure::On;
 use crate::faults::{Faults, written_of};
 use crate::places::{SOCKET, remove_file};
 use crate::serving::Serving;
-use crate::work::{Lock, take_lock, work_place};
+use crate::work::{Lock, take_lock_within, work_place};
 use client_framing::Framing;
 use mio::net::UnixListener;
 use outside::{Door, Failed};
 use std::alloc::AllocError;
 use std::fs::{self, Permissions};
-use std::io;
+use std::io::{self, ErrorKind};
 use std::os::unix::fs::PermissionsExt;
 use std::rt::{Files, Net};
 use std::time::Clock;
+
+// How many tenths of a second the lock on the socket is waited for.
+const LOOKS: u32 = 5;
 
 /// A door over the Unix socket `api.sock` in a folder, to which its owner and its group may connect. It is never at its
 /// end.
@@ -80,7 +84,8 @@ where
     R::File: Lock,
 {
     if lock.is_none() {
-        *lock = Some(take_lock(rt, root, "socket-lock")?);
+        // (a command that looks whether a server is there holds it for a moment)
+        *lock = Some(take_lock_within(rt, root, "socket-lock", LOOKS)?);
     }
     Connections::new(rt, rt.alloc(), bind(rt, root)?)
 }
@@ -128,7 +133,19 @@ where
 
     /// What the last failure was, in a line for a person without a line feed; none where no call has failed. Or out of memory.
     pub fn last_failure(&self) -> Result<Option<String>, AllocError> {
-        self.faults.print_last()
+        let Some(failure) = self.faults.last() else {
+            return Ok(None);
+        };
+        match (failure.error().raw_os_error(), failure.error().kind()) {
+            (None, ErrorKind::PermissionDenied) => {
+                Ok(Some(why_refused(&self.rt, self.root.as_str())?))
+            }
+            (None, ErrorKind::WouldBlock) => {
+                let text = String::from_str(self.rt.alloc(), "another server has the socket")?;
+                Ok(Some(text))
+            }
+            _ => self.faults.print_last(),
+        }
     }
 
     /// Waits until each client has taken its answer or has used up its time: for the end of a program.

@@ -44,6 +44,28 @@ pub fn first_odd(
     Ok(None)
 }
 
+/// The first of the folders of a path below the root where a file stands, in words. Or out of memory.
+pub fn first_file(
+    files: &(impl Files + AllocGlobal),
+    root: &str,
+    path: &str,
+) -> Result<Option<String>, AllocError> {
+    let alloc = files.alloc();
+    let mut below = String::new(alloc);
+    for name in path.split('/') {
+        if !below.is_empty() {
+            let place = below.as_str();
+            let whole = format!(in alloc; "{root}/{place}")?;
+            if matches!(fs::symlink_metadata(files, whole.as_str()), Ok(data) if data.is_file()) {
+                return Ok(Some(format!(in alloc; "{place} is a file")?));
+            }
+            below.push('/')?;
+        }
+        below.push_str(name)?;
+    }
+    Ok(None)
+}
+
 // Whether a folder stands at the place, its mode, and its owner.
 fn facts_of(files: &impl Files, place: &str) -> Option<(bool, u32, u32)> {
     let data = fs::symlink_metadata(files, place).ok()?;

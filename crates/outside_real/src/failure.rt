@@ -75,7 +75,12 @@ impl Failure {
 
     /// The call, what it was made on, and the words of the error, as `read image/model.toml: permission denied (13)`. Or out of memory.
     pub fn print(&self, alloc: Global) -> Result<String, AllocError> {
-        let (call, on, words) = (self.call, self.on(), words_of(alloc, &self.error)?);
+        self.print_at(alloc, self.call, self.on())
+    }
+
+    /// The same of another call, at another place: that by which it failed. Or out of memory.
+    pub fn print_at(&self, alloc: Global, call: &str, on: &str) -> Result<String, AllocError> {
+        let words = words_of(alloc, &self.error)?;
         let words = words.as_str();
         format!(in alloc; "{call} {on}: {words}")
     }

@@ -1,17 +1,28 @@
 //! The files below a real folder.
-use crate::explaining::{first_odd, why_refused};
+use crate::explaining::{first_file, first_odd, why_refused};
 use crate::failure::Failure;
 use crate::folders::Folders;
+use crate::limits::check_size;
 use crate::nodes::Nodes;
 use crate::places::{Kind, Standing, is_own, place_of, remove_file, what_stands};
 use crate::unsynced::Unsynced;
 use crate::walk::Walk;
-use crate::work::{Lock, create_anew, place_in_work, take_lock};
+use crate::work::{Lock, create_anew, is_held, pause, place_in_work, take_lock};
 use outside::Path;
 use std::alloc::AllocError;
 use std::fs::{self, OpenFile};
 use std::io::{self, ErrorKind, Write};
 use std::rt::Files;
+
+// How many tenths of a second a patient first call waits for a command that holds the lock.
+const PATIENCE: u32 = 100;
+
+// By what a call failed, where it isn't at its own path.
+#[derive(Drop)]
+struct Strayed {
+    call: &'static str,
+    place: String,
+}
 
 /// The files below a folder, and the places that changed since the last sync that answered Ok. Each error is the
 /// system's, or `OutOfMemory`.
@@ -21,8 +32,15 @@ pub struct Folder<R: Files + AllocGlobal + Clone + Drop> {
     root: String,
     // The lock on the folder, once it is taken.
     lock: Option<R::File>,
-    // Whether another program held the lock.
+    // Whether another program held the lock, and whether it was a server.
     locked_out: bool,
+    served: bool,
+    // How many tenths of a second the lock is waited for; none once they were.
+    waits: u32,
+    // Whether no lock is taken.
+    free: bool,
+    // By what the last call failed, where it isn't at its own path.
+    strayed: Option<Strayed>,
     folders: Folders,
     unsynced: Unsynced,
     // Whether what earlier programs may have left is among what is to be synced, or on the disk.
@@ -40,6 +58,10 @@ where
             root: String::from_str(alloc, root)?,
             lock: None,
             locked_out: false,
+            served: false,
+            waits: 0,
+            free: false,
+            strayed: None,
             folders: Folders::new(alloc),
             unsynced: Unsynced::new(alloc),
             settled: false,
@@ -52,17 +74,95 @@ where
         self.locked_out
     }
 
+    /// The first call waits for a command that holds the lock, ten seconds at most, and for no server.
+    pub fn wait_for_lock(&mut self) {
+        self.waits = PATIENCE;
+    }
+
+    /// No call takes the lock.
+    pub fn take_no_lock(&mut self) {
+        self.free = true;
+    }
+
+    // Who holds the lock, in words.
+    fn explain_lock(&self) -> Result<String, AllocError> {
+        let words = if self.served {
+            "a server is at work in this folder: use settingsctl"
+        } else {
+            "another program is at work in this folder"
+        };
+        String::from_str(self.rt.alloc(), words)
+    }
+
+    // Why a call failed by what is not at its own path, in words.
+    fn explain_strayed(&self, failure: &Failure, strayed: &Strayed) -> Result<String, AllocError> {
+        let alloc = self.rt.alloc();
+        let place = strayed.place.as_str();
+        let below = place.strip_prefix(self.root.as_str()).unwrap_or(place);
+        let below = match below.strip_prefix('/').unwrap_or(below) {
+            "" => ".",
+            below => below,
+        };
+        if failure.error().kind() == ErrorKind::InvalidFilename {
+            return format!(in alloc; "{below}: a name outside the rules of the store");
+        }
+        failure.print_at(alloc, strayed.call, below)
+    }
+
+    // Why a call failed at its own path, in words.
+    fn explain_path(&self, failure: &Failure) -> Result<String, AllocError> {
+        let root = self.root.as_str();
+        let odd = match (failure.error().raw_os_error(), failure.error().kind()) {
+            (None, ErrorKind::InvalidData) => first_odd(&self.rt, root, failure.on())?,
+            (Some(_), ErrorKind::AlreadyExists | ErrorKind::NotADirectory) => {
+                first_file(&self.rt, root, failure.on())?
+            }
+            _ => None,
+        };
+        match odd {
+            Some(words) => Ok(words),
+            None => failure.print(self.rt.alloc()),
+        }
+    }
+
     /// Why a call failed, in words: what stands in the way, where the error is of these adapters, and else the system's words. Or out of memory.
     pub fn explain(&self, failure: &Failure) -> Result<String, AllocError> {
         if self.locked_out {
-            return String::from_str(self.rt.alloc(), "another program is at work in this folder");
+            return self.explain_lock();
         }
-        let odd = first_odd(&self.rt, self.root.as_str(), failure.on())?;
-        match (failure.error().raw_os_error(), failure.error().kind(), odd) {
-            (None, ErrorKind::InvalidData, Some(place)) => Ok(place),
-            (None, ErrorKind::PermissionDenied, _) => why_refused(&self.rt, self.root.as_str()),
-            _ => failure.print(self.rt.alloc()),
+        if failure.error().raw_os_error().is_none()
+            && failure.error().kind() == ErrorKind::PermissionDenied
+        {
+            return why_refused(&self.rt, self.root.as_str());
         }
+        match &self.strayed {
+            Some(strayed) => self.explain_strayed(failure, strayed),
+            None => self.explain_path(failure),
+        }
+    }
+
+    // The call failed by this one, at this place.
+    fn stray(&mut self, call: &'static str, place: Option<String>) {
+        if let Some(place) = place {
+            self.strayed = Some(Strayed { call, place });
+        }
+    }
+
+    // Takes the lock. One that a command holds is waited for where that is wanted, and one that a server holds is not.
+    fn take_lock(&mut self) -> io::Result<R::File> {
+        for _ in 0..self.waits {
+            let answer = take_lock(&self.rt, self.root.as_str(), "lock");
+            if !matches!(&answer, Err(e) if e.kind() == ErrorKind::WouldBlock) {
+                return answer;
+            }
+            self.served = is_held(&self.rt, self.root.as_str(), "socket-lock")?;
+            if self.served {
+                return answer;
+            }
+            pause();
+        }
+        self.waits = 0;
+        take_lock(&self.rt, self.root.as_str(), "lock")
     }
 
     // Begins a call: takes the lock, if it isn't taken. An error after a failed sync of what can't be written anew.
@@ -70,9 +170,14 @@ where
         if self.unsynced.is_broken() {
             return Err(io::Error::from(ErrorKind::Other));
         }
-        if self.lock.is_none() {
-            let answer = take_lock(&self.rt, self.root.as_str(), "lock");
+        self.strayed = None;
+        if self.lock.is_none() && !self.free {
+            let answer = self.take_lock();
             self.locked_out = matches!(&answer, Err(e) if e.kind() == ErrorKind::WouldBlock);
+            if answer.is_err() {
+                let place = place_in_work(self.rt.alloc(), self.root.as_str(), "lock").ok();
+                self.stray("lock", place);
+            }
             self.lock = Some(answer?);
         }
         Ok(())
@@ -232,6 +337,7 @@ where
     // A new file with these bytes, on the disk.
     fn make_new(&self, bytes: &[u8]) -> io::Result<String> {
         let place = place_in_work(self.rt.alloc(), self.root.as_str(), "new")?;
+        check_size(bytes.len())?;
         let mut file = create_anew(&self.rt, place.as_str())?;
         file.write_all(bytes)?;
         file.sync_all()?;
@@ -280,6 +386,7 @@ where
 
     // Writes the file at the place. Its bytes aren't known from then on.
     fn write_file(&mut self, place: &String, bytes: &[u8]) -> io::Result<()> {
+        check_size(bytes.len())?;
         let copy = String::from_str(self.rt.alloc(), place.as_str())?;
         self.unsynced.begin(copy)?;
         let mut file = fs::create(&self.rt, place.as_str())?;
@@ -308,7 +415,10 @@ where
     // Notes all that earlier programs may have left: the files, and the folders that they lie in.
     fn note_all(&mut self) -> io::Result<()> {
         let mut walk = Walk::new(self.rt.alloc());
-        walk.go_kept(&self.rt, self.root.as_str())?;
+        if let Err(e) = walk.go_kept(&self.rt, self.root.as_str()) {
+            self.stray("list", walk.failed.take());
+            return Err(e);
+        }
         self.unsynced.note_each(walk.folders)?;
         self.unsynced.note_each(walk.files)?;
         Ok(())
@@ -319,7 +429,15 @@ where
             self.note_all()?;
             self.settled = true;
         }
-        self.unsynced.sync(&self.rt)
+        let answer = self.unsynced.sync(&self.rt);
+        if answer.is_err() {
+            let place = match self.unsynced.failed() {
+                Some(place) => place.clone().ok(),
+                None => None,
+            };
+            self.stray("fsync", place);
+        }
+        answer
     }
 
     /// Puts each place down that changed since the last sync that answered Ok, each once; at first also what earlier
@@ -362,12 +480,20 @@ where
         Ok(())
     }
 
+    // Adds the nodes of both kinds below the path.
+    fn list_kinds(&mut self, path: &Path, nodes: &mut Nodes) -> io::Result<()> {
+        self.list_kind(Kind::File, path, nodes)?;
+        self.list_kind(Kind::Link, path, nodes)
+    }
+
     /// The paths of all nodes strictly below the path, rising. A name that is none of a path is an error.
     pub fn list(&mut self, path: &Path) -> io::Result<Vec<Path>> {
         self.begin()?;
         let mut nodes = Nodes::new(self.rt.alloc());
-        self.list_kind(Kind::File, path, &mut nodes)?;
-        self.list_kind(Kind::Link, path, &mut nodes)?;
+        if let Err(e) = self.list_kinds(path, &mut nodes) {
+            self.stray("list", nodes.failed.take());
+            return Err(e);
+        }
         Ok(nodes.rising(self.rt.alloc())?)
     }
 }

@@ -13,6 +13,8 @@ pub struct Nodes {
     paths: BTreeSet<Path>,
     // The folders that are still to be listed.
     folders: Vec<Path>,
+    /// The place of the first name that is none of a path, or of the folder that it is in where it is no text.
+    pub failed: Option<String>,
 }
 
 // The path of this name in the folder. A name that is none of a path is an error.
@@ -30,6 +32,7 @@ impl Nodes {
         Nodes {
             paths: BTreeSet::new(alloc),
             folders: Vec::new(alloc),
+            failed: None,
         }
     }
 
@@ -64,9 +67,16 @@ impl Nodes {
         if folder.names().is_empty() && is_own(name) {
             return Ok(());
         }
-        let path = child(folder, name)?;
-        let standing = what_stands(files, place)?;
-        Ok(self.add(path, standing)?)
+        match child(folder, name) {
+            Ok(path) => {
+                let standing = what_stands(files, place)?;
+                Ok(self.add(path, standing)?)
+            }
+            Err(e) => {
+                self.failed = String::from_str(*self.folders.allocator(), place).ok();
+                Err(e)
+            }
+        }
     }
 
     /// Adds what lies directly in the folder, which is at the place.
@@ -77,9 +87,16 @@ impl Nodes {
         place: &str,
     ) -> io::Result<()> {
         for entry in fs::read_dir(rt, place)? {
-            let entry = entry?;
-            let name = entry.file_name().as_bytes();
-            self.add_entry(rt, folder, name, entry.path().as_str())?;
+            match entry {
+                Ok(entry) => {
+                    let name = entry.file_name().as_bytes();
+                    self.add_entry(rt, folder, name, entry.path().as_str())?;
+                }
+                Err(e) => {
+                    self.failed = String::from_str(rt.alloc(), place).ok();
+                    return Err(e);
+                }
+            }
         }
         Ok(())
     }

@@ -29,13 +29,37 @@ const EBADF: i32 = 9;
 pub struct RealSink<W: Write + Drop> {
     writer: W,
     faults: Faults,
+    // The first bytes that were written.
+    kept: Vec<u8>,
 }
+
+// How many of the first bytes are kept.
+const MOST_KEPT: usize = 4096;
 
 impl<W: Write + Drop> RealSink<W> {
     /// A sink over this writer, as `io::writer(&rt)`.
     pub fn new(alloc: Global, writer: W) -> RealSink<W> {
-        let faults = Faults::new(alloc);
-        RealSink { writer, faults }
+        RealSink {
+            writer,
+            faults: Faults::new(alloc),
+            kept: Vec::new(alloc),
+        }
+    }
+
+    /// The first bytes that were written, 4,096 at least or all; fewer where memory was wanting.
+    pub fn first_bytes(&self) -> &[u8] {
+        &self.kept
+    }
+
+    // Keeps what was written of the piece, where it is among the first bytes.
+    fn keep(&mut self, piece: &[u8], count: usize)
+        ensures { self.new.faults ≡ self.old.faults }
+    {
+        if self.kept.len() < MOST_KEPT {
+            if let Some(written) = piece.get(..count) {
+                let _ = self.kept.extend_from_slice(written);
+            }
+        }
     }
 
     /// What the last failure was, in a line for a person without a line feed; none where no call has failed. Or out of memory.
@@ -62,6 +86,9 @@ impl<W: Write + Drop> Sink for RealSink<W> {
 
     fn write(&mut self, piece: &[u8]) -> Result<usize, Failed> {
         let answer = written_of(piece, write_once(&mut self.writer, piece));
+        if let Ok(count) = &answer {
+            self.keep(piece, *count);
+        }
         self.faults
             .counted("write", On::Name("standard output"), answer)
     }

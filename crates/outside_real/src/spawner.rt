@@ -4,6 +4,7 @@ ghost use Rattle.outside.specs.Faults.{HasCauseOf};
 
 use crate::failure::On;
 use crate::faults::Faults;
+use crate::limits::check_size;
 use crate::places::remove_file;
 use crate::work::work_place;
 use outside::{Answer, AskErr, Asker, Failed, Spawner};
@@ -94,6 +95,7 @@ impl<R: Files + Processes + AllocGlobal + Drop> RealSpawner<R> {
         if input.is_empty() {
             return Ok(None);
         }
+        check_size(input.len())?;
         let place = work_place(&self.rt, self.root.as_str(), "input")?;
         remove_file(&self.rt, place.as_str())?;
         fs::write(&self.rt, place.as_str(), input)?;

@@ -1,4 +1,5 @@
 //! What is still to be put on the disk.
+use crate::limits::check_size;
 use crate::places::open_place;
 use std::alloc::{AllocError, Global};
 use std::collections::BTreeMap;
@@ -22,17 +23,20 @@ enum Entry {
 pub struct Unsynced {
     entries: BTreeMap<String, Entry>,
     broken: bool,
+    // The place that the last failing sync couldn't put down, where memory was there for it.
+    failed: Option<String>,
 }
 
-// Puts down what stands at the place, and answers whether the system took it. An error where it couldn't be opened, and
-// nothing was asked of it then.
-fn put_down(files: &impl Files, place: &str, entry: &Entry) -> io::Result<bool> {
+// Puts down what stands at the place, and answers what the system said. An error where it couldn't be opened, and nothing
+// was asked of it then.
+fn put_down(files: &impl Files, place: &str, entry: &Entry) -> io::Result<io::Result<()>> {
     if let Entry::Lost(bytes) = entry {
+        check_size(bytes.len())?;
         fs::create(files, place)?.write_all(bytes)?;
     }
     match open_place(files, place)? {
-        Some(file) => Ok(file.sync_all().is_ok()),
-        None => Ok(true),
+        Some(file) => Ok(file.sync_all()),
+        None => Ok(Ok(())),
     }
 }
 
@@ -42,12 +46,18 @@ impl Unsynced {
         Unsynced {
             entries: BTreeMap::new(alloc),
             broken: false,
+            failed: None,
         }
     }
 
     /// Whether the system has let go what can't be written anew. Nothing is known of the disk then.
     pub fn is_broken(&self) -> bool {
         self.broken
+    }
+
+    /// The place that the last failing sync couldn't put down, where memory was there for it.
+    pub fn failed(&self) -> Option<&String> {
+        self.failed.as_ref()
     }
 
     /// The place is to be synced. Answers whether it wasn't yet.
@@ -110,12 +120,14 @@ impl Unsynced {
     // Puts the place down. At an error it is still to be synced, or it is broken.
     fn sync_place(&mut self, files: &impl Files, place: String, entry: Entry) -> io::Result<()> {
         match put_down(files, place.as_str(), &entry) {
-            Ok(true) => Ok(()),
-            Ok(false) => {
+            Ok(Ok(())) => Ok(()),
+            Ok(Err(e)) => {
+                self.failed = place.clone().ok();
                 self.lose(place, entry);
-                Err(io::Error::from(io::ErrorKind::Other))
+                Err(e)
             }
             Err(e) => {
+                self.failed = place.clone().ok();
                 self.put_back(place, entry);
                 Err(e)
             }

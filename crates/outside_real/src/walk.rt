@@ -14,6 +14,8 @@ pub struct Walk {
     pub files: Vec<String>,
     /// Whether there is anything else in them.
     pub has_others: bool,
+    /// The folder that couldn't be listed.
+    pub failed: Option<String>,
 }
 
 impl Walk {
@@ -23,6 +25,7 @@ impl Walk {
             folders: Vec::new(alloc),
             files: Vec::new(alloc),
             has_others: false,
+            failed: None,
         }
     }
 
@@ -64,7 +67,10 @@ impl Walk {
                 break;
             };
             let folder = String::from_str(rt.alloc(), folder.as_str())?;
-            self.add_entries(rt, folder.as_str())?;
+            if let Err(e) = self.add_entries(rt, folder.as_str()) {
+                self.failed = Some(folder);
+                return Err(e);
+            }
         }
         Ok(())
     }

@@ -61,12 +61,8 @@ pub fn create_anew<R: Files>(files: &R, place: &str) -> io::Result<R::File> {
         .open(files, place)
 }
 
-/// The lock of this name in `.work`, which is held until the file is closed. `WouldBlock` where another program holds
-/// it; `PermissionDenied`, with nothing made, where `.work` is not this user's alone or no file stands there; each other error is the system's.
-pub fn take_lock<R: Files + AllocGlobal>(rt: &R, root: &str, name: &str) -> io::Result<R::File>
-where
-    R::File: Lock,
-{
+// The file of the lock of this name in `.work`, which is made where it is missing.
+fn open_lock<R: Files + AllocGlobal>(rt: &R, root: &str, name: &str) -> io::Result<R::File> {
     let place = work_place(rt, root, name)?;
     if !matches!(
         look(rt, place.as_str())?,
@@ -74,10 +70,82 @@ where
     ) {
         return Err(refused());
     }
-    let file = OpenOptions::new()
+    OpenOptions::new()
         .write(true)
         .create(true)
-        .open(rt, place.as_str())?;
+        .open(rt, place.as_str())
+}
+
+// The same on a file system that is read-only: a lock that is missing is held by nobody, and the folder below which it would be stands for it.
+fn open_unwritten<R: Files + AllocGlobal>(rt: &R, root: &str, name: &str) -> io::Result<R::File> {
+    let place = place_in_work(rt.alloc(), root, name)?;
+    match look(rt, place.as_str())? {
+        Standing::File => fs::open(rt, place.as_str()),
+        _ => fs::open(rt, root),
+    }
+}
+
+/// The lock of this name in `.work`, which is held until the file is closed. `WouldBlock` where another program holds
+/// it; `PermissionDenied`, with nothing made, where `.work` is not this user's alone or no file stands there; each other error is the system's.
+pub fn take_lock<R: Files + AllocGlobal>(rt: &R, root: &str, name: &str) -> io::Result<R::File>
+where
+    R::File: Lock,
+{
+    let file = match open_lock(rt, root, name) {
+        Err(e) if e.kind() == ErrorKind::ReadOnlyFilesystem => open_unwritten(rt, root, name)?,
+        answer => answer?,
+    };
     file.lock_now()?;
     Ok(file)
+}
+
+// A tenth of a second.
+const PAUSE: i64 = 100_000_000;
+
+/// Waits for a tenth of a second, or until a signal comes.
+pub fn pause() {
+    let asked = libc::types::timespec {
+        tv_sec: 0,
+        tv_nsec: PAUSE,
+    };
+    let mut left = libc::types::timespec {
+        tv_sec: 0,
+        tv_nsec: 0,
+    };
+    libc::nanosleep(&asked, &mut left);
+}
+
+/// The lock, as by `take_lock`; one that another program holds is waited for, so many tenths of a second at most.
+pub fn take_lock_within<R: Files + AllocGlobal>(
+    rt: &R,
+    root: &str,
+    name: &str,
+    tenths: u32,
+) -> io::Result<R::File>
+where
+    R::File: Lock,
+{
+    for _ in 0..tenths {
+        match take_lock(rt, root, name) {
+            Err(e) if e.kind() == ErrorKind::WouldBlock => pause(),
+            answer => return answer,
+        }
+    }
+    take_lock(rt, root, name)
+}
+
+/// Whether another program holds the lock of this name in `.work`. It is taken for a moment where none does.
+pub fn is_held<R: Files + AllocGlobal>(rt: &R, root: &str, name: &str) -> io::Result<bool>
+where
+    R::File: Lock,
+{
+    let place = place_in_work(rt.alloc(), root, name)?;
+    if look(rt, place.as_str())? != Standing::File {
+        return Ok(false);
+    }
+    match fs::open(rt, place.as_str())?.lock_now() {
+        Ok(()) => Ok(false),
+        Err(e) if e.kind() == ErrorKind::WouldBlock => Ok(true),
+        Err(e) => Err(e),
+    }
 }

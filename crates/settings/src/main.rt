@@ -1,6 +1,8 @@
 //! The program `settings`: it makes the real devices in the working folder and runs the command of its words.
 #![tactic(auto)]
 
+mod faults;
+mod misuse;
 mod usage;
 
 use crate::usage::PAGE;
@@ -17,6 +19,11 @@ const OUT_OF_MEMORY: u8 = 1;
 
 /// The exit status of words that spell no command.
 const MISUSED: u8 = 2;
+
+/// The exit statuses of a command that found a fault in the image, or in user data.
+const BAD_IMAGE: u8 = 8;
+
+const USER_DATA: u8 = 17;
 
 /// The exit statuses of a command whose disk, door, spawner or output failed.
 const DISK: u8 = 3;
@@ -58,6 +65,19 @@ fn tell(rt: &HostRuntime, failure: Result<Option<String>, AllocError>) {
     }
 }
 
+// Whether the command reads the image alone, which no program writes: it needs no lock.
+fn reads_alone(words: &[String]) -> bool {
+    matches!(words, [word] if word.as_str() == "check")
+}
+
+// Tells on standard error which word is at fault.
+fn tell_misuse(rt: &HostRuntime, words: &[String]) {
+    if let Ok(Some(line)) = misuse::fault_of(rt.alloc(), words) {
+        let line = line.as_str();
+        let _ = eprintln!(rt; "settings: usage: {line}");
+    }
+}
+
 // The status of the command. Where standard output is closed none is run: the lock would take its place, and get what is printed.
 // Standard error says what failed, and where the words spell no command, how they are spelled.
 fn status_of(rt: &HostRuntime) -> io::Result<u8> {
@@ -71,6 +91,11 @@ fn status_of(rt: &HostRuntime) -> io::Result<u8> {
         return Ok(status);
     }
     let mut disk = RealDisk::new(rt.clone()?, ".")?;
+    if reads_alone(&words) {
+        disk.take_no_lock();
+    } else {
+        disk.wait_for_lock();
+    }
     let mut spawner = RealSpawner::new(rt.clone()?, ".")?;
     // the socket is bound by the first accept, which `serve` alone asks for
     let mut door = RealDoor::new(rt.clone()?, ".", WholeRequests::new(alloc))?;
@@ -78,7 +103,12 @@ fn status_of(rt: &HostRuntime) -> io::Result<u8> {
     door.drain();
     match status {
         MISUSED => {
+            tell_misuse(rt, &words);
             let _ = eprint!(rt; "{PAGE}");
+        }
+        BAD_IMAGE | USER_DATA => {
+            let fault = faults::fault_of(alloc, &mut disk, &words, out.first_bytes());
+            tell(rt, fault);
         }
         DISK => tell(rt, disk.last_failure()),
         DOOR => tell(rt, door.last_failure()),
