@@ -3,7 +3,7 @@
 # Usage: device_locks.sh PROGRAM. Wants flock. Fails where one of the steps ends otherwise.
 set -u
 program=$(realpath "$1")
-image=$(realpath "$(dirname "$0")/../examples/motd")
+image=$(realpath "$(dirname "$0")/../../examples/motd")
 folder=$(mktemp -d)
 cd "$folder" || exit 1
 wrong=0

@@ -7,7 +7,7 @@ power goes, or a second run ends first. The power goes by a copy of the file, as
 the store is absent or opens with its defaults, and it opens where a run has ended with 0. It fails where one is not so."""
 import os, shutil, signal, subprocess, sys, tempfile
 
-HERE = os.path.dirname(os.path.dirname(os.path.abspath(__file__)))
+HERE = os.path.dirname(os.path.dirname(os.path.dirname(os.path.abspath(__file__))))
 WORDS = ["init", "--version", "1.5.2"]
 CALLS = ["mkdir", "fsync", "rename", "write"]
 OPENS = (0, b'{"settings":{"motd":"Welcome"}}\n')

@@ -8,7 +8,7 @@ import os, re, shutil, subprocess, sys, tempfile
 
 CALLS = ["mkdir", "openat", "write", "fsync", "rename", "unlink", "statx", "flock"]
 ERRORS = ["EIO", "ENOSPC", "ENOMEM", "EINTR"]
-HERE = os.path.dirname(os.path.dirname(os.path.abspath(__file__)))
+HERE = os.path.dirname(os.path.dirname(os.path.dirname(os.path.abspath(__file__))))
 LINES = {0: "1.5.2\n", 1: "settings: memory\n", 3: "settings: disk\n"}
 WORDS = ["init", "--version", "1.5.2"]
 

@@ -11,7 +11,7 @@ import subprocess
 import sys
 import tempfile
 
-HERE = os.path.dirname(os.path.dirname(os.path.abspath(__file__)))
+HERE = os.path.dirname(os.path.dirname(os.path.dirname(os.path.abspath(__file__))))
 CALLS = ('openat', 'read', 'write', 'fsync', 'rename', 'unlink', 'statx', 'mkdir', 'flock', 'getdents64')
 ERRORS = ('EIO', 'ENOSPC')
 TEXTS = {'{"settings":{"motd":"%s"}}\n' % text: text for text in ('old', 'new')}

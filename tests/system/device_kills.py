@@ -5,7 +5,7 @@ Usage: device_kills.py PROGRAM [HOW MANY]. Each run is stopped by SIGKILL after 
 absent or whole, a status 0 must have come with it, and the next run must end as it should. It fails where one does not."""
 import os, random, shutil, signal, subprocess, sys, tempfile, time
 
-HERE = os.path.dirname(os.path.dirname(os.path.abspath(__file__)))
+HERE = os.path.dirname(os.path.dirname(os.path.dirname(os.path.abspath(__file__))))
 WORDS = ["init", "--version", "1.5.2"]
 
 

@@ -9,7 +9,7 @@ import stat
 import subprocess
 import time
 
-ROOT = os.path.dirname(os.path.dirname(os.path.abspath(__file__)))
+ROOT = os.path.dirname(os.path.dirname(os.path.dirname(os.path.abspath(__file__))))
 BARE = re.compile(r'[A-Za-z0-9_-]+\Z')
 # The configuration files of examples/host, each with its service and the keys that concern it.
 FILES = {'chrony.conf': ('chronyd', ('ntp',)), 'motd': ('motd', ('motd',)), 'sysctl': ('sysctl', ('kernel', 'sysctl'))}
