@@ -23,7 +23,7 @@ first-run:
 	cd out/first-run && ../../crates/settings/out/settings set 'settings.motd="hi"'
 	cat out/first-run/etc/motd
 
-# Builds the programs, once all that they stand on is proved, with every processor. Earlier builds go first, so what is there was proved now.
+# Builds the programs, once all that they depend on is proved, with every processor. Earlier builds go first, so what is there was proved now.
 programs:
 	rm -f crates/settings/out/settings crates/settingsctl/out/settingsctl
 	tools/build settings settingsctl
@@ -36,7 +36,7 @@ try:
 test:
 	rt ci
 
-# Lays what is built and proves nothing. With PREFIX=/usr the system finds the unit and the two lists beside it by itself.
+# Lays what is built and proves nothing. With PREFIX=/usr the system finds the unit and the two lists next to it by itself.
 install:
 	@test -x "$(SETTINGS)" -a -x "$(SETTINGSCTL)" || { echo 'the programs are not built: make programs' >&2; exit 1; }
 	@grep -qxF '## $(VERSION)' CHANGELOG.md || { echo 'CHANGELOG.md has nothing of version $(VERSION)' >&2; exit 1; }

@@ -5,7 +5,7 @@
  *
  * The settings are `settings.load.k0` and so on, and are taken in no order. For each kind it prints the median of the microseconds from the
  * connect to the last byte, of the one server and of the other, and those of the first and of the last tenth of the one's. ROUNDS is 10 or
- * more. It ends with status 1 at an answer of the first server that isn't of success; what the other answers is passed over. */
+ * more. It ends with exit status 1 at an answer of the first server that isn't of success; what the other answers is passed over. */
 #include <stdio.h>
 #include <stdlib.h>
 #include <string.h>

@@ -6,7 +6,7 @@ connection for each request: a PATCH of one setting, its commit, and a GET of it
 copy of the store. Then the program does it again, a small program in C makes the same calls, each over a fresh copy, and both are timed:
 request by request in turn, of which the median is taken, and runs in turn, three of each, of which the least is taken. GET is also measured
 against a bare loop of accept, read, write and close; the memory of a server that was asked for settings is measured where these are texts of
-10, 100 and 1,000 bytes; and SQLite is measured beside. Tables are printed. Wants strace and a C compiler, and
+10, 100 and 1,000 bytes; and SQLite is measured besides. Tables are printed. Wants strace and a C compiler, and
 works in a new folder below the system's folder for such files, or below BENCH_FOLDER."""
 import json
 import os

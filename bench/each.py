@@ -1,5 +1,5 @@
 #!/usr/bin/env python3
-"""each.py PROGRAM: what `{{#each}}` over a map costs, beside handlebars.js.
+"""each.py PROGRAM: what `{{#each}}` over a map costs, compared with handlebars.js.
 
 For 1,000 and 10,000 settings below `settings.load` it applies a file whose template goes over them 40 times, and one whose template does not, each over
 fresh copies of one store: the difference of the two in time of the processor is that of 40 renderings. handlebars.js renders the same template over

@@ -20,7 +20,7 @@ def traced(trace):
 
 
 def numbers_of(operands):
-    """The numbers that stand alone among the operands."""
+    """The numbers that are alone among the operands."""
     return [int(number) for number in re.findall(r'(?:^|, )(\d+)(?=,|$)', re.sub(r'"(?:[^"\\]|\\.)*"(?:\.\.\.)?', '""', operands))]
 
 

@@ -3,7 +3,7 @@
 
 PROGRAM is the program `settings`. After each kill the store has to be there whole, in the old version or in the new one: `init`
 tells its version, and `get` the text of the day, which is `Welcome` in 1.5.2 and `Hello` in 1.5.3. Where a command had ended with
-status 0 before the kill, the store has to be in its version."""
+exit status 0 before the kill, the store has to be in its version."""
 import os
 import random
 import shutil

@@ -1,7 +1,7 @@
 """What a power cut may leave of a folder: a model of its files and folders, which follows the system calls of a program.
 
 Of each file it holds the bytes that are on the disk and those that each later call made of them, of each folder the entries that are on
-the disk and each later change of them. `fsync` of a file puts its bytes down, that of a folder its own entries, and nothing else does. A
+the disk and each later change of them. `fsync` of a file flushes its bytes, that of a folder its own entries, and nothing else does. A
 cut leaves of each folder its entries on the disk with any of the later changes, and of each file with later bytes any of `KINDS`."""
 import hashlib
 import os
@@ -95,7 +95,7 @@ class Model:
         self.load(self.place, {})
 
     def load(self, place, known):
-        """The number of the node that stands at the place, with all below it. Two places of one file have one node."""
+        """The number of the node that is at the place, with all below it. Two places of one file have one node."""
         found = os.lstat(place)
         number = known.setdefault(found.st_ino, len(self.nodes))
         if number < len(self.nodes):
@@ -255,7 +255,7 @@ class Model:
     # ---- cuts
 
     def whole(self):
-        """What stands there without a cut."""
+        """What is there without a cut."""
         return self.tree(range(self.changes + 1), {})
 
     def nothing(self):

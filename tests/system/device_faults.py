@@ -1,8 +1,8 @@
 #!/usr/bin/env python3
-"""Fails each system call of the beginning of a store in turn, with strace, and looks at what the program says and leaves.
+"""Fault injection: fails each system call of the beginning of a store in turn, with strace, and looks at what the program says and leaves.
 
 Usage: device_faults.py PROGRAM. Wants strace. It works in a new folder below the system's folder for such files.
-Each fault must end with a status of docs/FORMATS.md and its line, and leave a store that is whole or not there, so that the
+Each fault must end with an exit status of docs/FORMATS.md and its line, and leave a store that is whole or not there, so that the
 next run ends as it should, and the store opens with its defaults. It fails where one does not."""
 import os, re, shutil, subprocess, sys, tempfile
 
@@ -20,7 +20,7 @@ def run(program, folder, *before):
 
 
 def calls_of(program, base):
-    """How often the run makes each call, behind the start of the program."""
+    """How often the run makes each call, after the start of the program."""
     folder = tempfile.mkdtemp(dir=base)
     trace = os.path.join(base, "trace")
     run(program, folder, "strace", "-f", "-o", trace, "-e", "trace=" + ",".join(CALLS))

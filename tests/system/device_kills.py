@@ -2,7 +2,7 @@
 """Kills the beginning of a store at random moments, and looks at what it leaves.
 
 Usage: device_kills.py PROGRAM [HOW MANY]. Each run is stopped by SIGKILL after some microseconds. The store must be
-absent or whole, a status 0 must have come with it, and the next run must end as it should. It fails where one does not."""
+absent or whole, an exit status 0 must have come with it, and the next run must end as it should. It fails where one does not."""
 import os, random, shutil, signal, subprocess, sys, tempfile, time
 
 HERE = os.path.dirname(os.path.dirname(os.path.dirname(os.path.abspath(__file__))))

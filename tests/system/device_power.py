@@ -2,7 +2,7 @@
 """Cuts the power of a small disk beneath the beginning of a store, and looks at what is on it.
 
 Usage: device_power.py PROGRAM, as root. Wants strace, mkfs.ext4, e2fsck and loop devices. The disk is a file with ext4
-without a journal. A run of `init` is killed at each of its calls that changes something or puts something down. Then the
+without a journal. A run of `init` is killed at each of its calls that changes something or flushes something. Then the
 power goes, or a second run ends first. The power goes by a copy of the file, as it is, which is checked and mounted: there
 the store is absent or opens with its defaults, and it opens where a run has ended with 0. It fails where one is not so."""
 import os, shutil, signal, subprocess, sys, tempfile

@@ -11,7 +11,7 @@ import time
 
 ROOT = os.path.dirname(os.path.dirname(os.path.dirname(os.path.abspath(__file__))))
 BARE = re.compile(r'[A-Za-z0-9_-]+\Z')
-# The configuration files of examples/host, each with its service and the keys that concern it.
+# The configuration files of examples/host, each with its service and the keys that affect it.
 FILES = {'chrony.conf': ('chronyd', ('ntp',)), 'motd': ('motd', ('motd',)), 'sysctl': ('sysctl', ('kernel', 'sysctl'))}
 DEFAULTS = {('motd',): 'Welcome', ('ntp', 'time-servers'): ['a.example', 'b.example']}
 
@@ -201,6 +201,6 @@ def stale(folder, live):
 
 
 def concerned(owed, name):
-    """Whether the owed keys, as `GET /job` has them, concern the file."""
+    """Whether the owed keys, as `GET /job` has them, affect the file."""
     begin = printed(FILES[name][1])
     return owed == 'all' or any(key == begin or key.startswith(begin + '.') for key in owed)

@@ -2,7 +2,7 @@
 """set_faults.py PROGRAM: fails each system call of `set` in turn, with strace, and looks at the setting and its file.
 
 PROGRAM is the program `settings`. After each fault `get` has to answer the text of before or the new one, and the new one where
-`set` had ended with status 0; then `apply` ends with 0 and `etc/motd` is the text, rendered. Wants strace."""
+`set` had ended with exit status 0; then `apply` ends with 0 and `etc/motd` is the text, rendered. Wants strace."""
 import collections
 import os
 import re
@@ -33,7 +33,7 @@ def counts_of(program, base, folder):
 
 
 def fault_of(program, folder, call, number, error):
-    """The status of `set` where that call fails, and what is wrong behind it, or None."""
+    """The exit status of `set` where that call fails, and what is wrong after it, or None."""
     inject = f'inject={call}:error={error}:when={number}'
     status, _ = run(program, folder, SET, ('strace', '-f', '-o', '/dev/null', '-e', f'trace={call}', '-e', inject))
     # Before main the loader opens libraries: a fault there is none of the program's.

@@ -2,7 +2,7 @@
 """set_kills.py PROGRAM [N]: kills `set` and then `apply` at random moments, N times, and looks at the setting and its file each time.
 
 PROGRAM is the program `settings`. After each kill of `set` `get` has to answer the text of before or the new one, and the new one where
-`set` had ended with status 0; then `apply` is killed, and the next one ends with 0 and `etc/motd` is the text, rendered."""
+`set` had ended with exit status 0; then `apply` is killed, and the next one ends with 0 and `etc/motd` is the text, rendered."""
 import os
 import random
 import shutil
@@ -38,7 +38,7 @@ def seconds_of(program, folder):
 
 
 def fault_of(program, folder, old, new, status, most):
-    """What is wrong after `set` of the new text, and after an `apply` that is killed, or None; and the text that stands."""
+    """What is wrong after `set` of the new text, and after an `apply` that is killed, or None; and the text that is there."""
     code, line = run(program, folder, 'get', 'settings.motd')
     texts = {'{"settings":{"motd":"%s"}}' % text: text for text in (old, new)}
     if code != 0 or line not in texts:

@@ -59,7 +59,7 @@ def run(tamper, words):
         libc.ptrace(TRACEME, 0, None, None)
         os.execvp(words[0], words)
     os.waitpid(child, 0)
-    # (the child goes with this program, and its stops at calls are told from signals)
+    # (the child goes with this program, and its stops at calls are distinguished from signals)
     libc.ptrace(SETOPTIONS, child, None, 0x100001)
     registers = ctypes.create_string_buffer(27 * 8)
     signal_number, entering = 0, False

@@ -1,4 +1,4 @@
-// Memory that is wanting: loaded in front of the C library, it lets the allocation WANT_AT fail, and with WANT_ALL each one behind it.
+// Out of memory: loaded in front of the C library, it lets the allocation WANT_AT fail, and with WANT_ALL each one after it.
 // WANT_COUNT is a file that gets how many allocations there were. The programs that this one runs are left alone. For `faults`.
 #include <fcntl.h>
 #include <stdio.h>
