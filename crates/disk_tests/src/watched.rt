@@ -196,6 +196,10 @@ impl Lock for WatchedFile {
     fn lock_now(&self) -> io::Result<()> {
         self.file.lock_now()
     }
+
+    fn share_now(&self) -> io::Result<()> {
+        self.file.share_now()
+    }
 }
 
 impl Read for WatchedFile {

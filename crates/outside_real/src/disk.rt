@@ -46,17 +46,17 @@ where
 
     /// The first call waits for a command that holds the lock on the folder, ten seconds at most. A server is not waited for.
     pub fn wait_for_lock(&mut self) {
-        self.folder.wait_for_lock();
+        self.folder.hold.wait();
     }
 
     /// No call takes the lock on the folder: for who reads alone what no program writes.
     pub fn take_no_lock(&mut self) {
-        self.folder.take_no_lock();
+        self.folder.hold.take_none();
     }
 
     /// Whether another program held the lock on the folder at the last call.
     pub fn is_locked_out(&self) -> bool {
-        self.folder.is_locked_out()
+        self.folder.hold.is_locked_out()
     }
 
     /// What the last failure was, in a line for a person without a line feed, as `read image/model.toml: permission denied (13)` or

@@ -84,7 +84,7 @@ where
     R::File: Lock,
 {
     if lock.is_none() {
-        // (a command that looks whether a server is there holds it for a moment)
+        // (a command that looks whether a server is there shares it for a moment)
         *lock = Some(take_lock_within(rt, root, "socket-lock", LOOKS)?);
     }
     Connections::new(rt, rt.alloc(), bind(rt, root)?)

@@ -1,6 +1,8 @@
 //! What stands in the way of a call, for a person.
+use crate::failure::Failure;
 use std::alloc::AllocError;
 use std::fs;
+use std::io::{self, ErrorKind};
 use std::os::unix::fs::MetadataExt;
 use std::rt::Files;
 
@@ -24,8 +26,8 @@ fn odd_at(
     Ok(Some(format!(in alloc; "{below} is neither a file nor a folder")?))
 }
 
-/// The first of the names of a path below the root at which neither a file nor a folder stands, in words. Or out of memory.
-pub fn first_odd(
+// The first of the names of a path below the root at which neither a file nor a folder stands, in words. Or out of memory.
+fn first_odd(
     files: &(impl Files + AllocGlobal),
     root: &str,
     path: &str,
@@ -44,8 +46,8 @@ pub fn first_odd(
     Ok(None)
 }
 
-/// The first of the folders of a path below the root where a file stands, in words. Or out of memory.
-pub fn first_file(
+// The first of the folders of a path below the root where a file stands, in words. Or out of memory.
+fn first_file(
     files: &(impl Files + AllocGlobal),
     root: &str,
     path: &str,
@@ -87,4 +89,75 @@ pub fn why_refused(files: &(impl Files + AllocGlobal), root: &str) -> Result<Str
         }
         _ => String::from_str(alloc, "a lock in .work is no file"),
     }
+}
+
+/// By what a call failed, where it isn't at its own path.
+#[derive(Drop)]
+pub struct Strayed {
+    /// Another call.
+    pub call: &'static str,
+    /// The place at which it failed.
+    pub place: String,
+}
+
+// The place as it is named below the root.
+fn below<'a>(root: &str, place: &'a str) -> &'a str {
+    let below = place.strip_prefix(root).unwrap_or(place);
+    match below.strip_prefix('/').unwrap_or(below) {
+        "" => ".",
+        below => below,
+    }
+}
+
+// What stands in the way of a call at this path below the root, in words, where it can be seen.
+fn obstacle(
+    files: &(impl Files + AllocGlobal),
+    root: &str,
+    error: &io::Error,
+    path: &str,
+) -> Result<Option<String>, AllocError> {
+    match (error.raw_os_error(), error.kind()) {
+        (None, ErrorKind::PermissionDenied) => Ok(Some(why_refused(files, root)?)),
+        (None, ErrorKind::InvalidData) => first_odd(files, root, path),
+        (Some(_), ErrorKind::AlreadyExists | ErrorKind::NotADirectory) => {
+            first_file(files, root, path)
+        }
+        _ => Ok(None),
+    }
+}
+
+// Why the call failed at this path below the root, in words.
+fn explain_at(
+    files: &(impl Files + AllocGlobal),
+    root: &str,
+    failure: &Failure,
+    call: &str,
+    path: &str,
+) -> Result<String, AllocError> {
+    match obstacle(files, root, failure.error(), path)? {
+        Some(words) => Ok(words),
+        None => failure.print_at(files.alloc(), call, path),
+    }
+}
+
+// Whether the error is that of a name that is none of a path.
+fn is_of_name(error: &io::Error) -> bool {
+    error.raw_os_error().is_none() && error.kind() == ErrorKind::InvalidFilename
+}
+
+/// Why a call failed below the root, in words: what stands in the way, where that can be seen, and else the words of the error. Or out of memory.
+pub fn explain(
+    files: &(impl Files + AllocGlobal),
+    root: &str,
+    failure: &Failure,
+    strayed: Option<&Strayed>,
+) -> Result<String, AllocError> {
+    let Some(strayed) = strayed else {
+        return explain_at(files, root, failure, failure.call(), failure.on());
+    };
+    let path = below(root, strayed.place.as_str());
+    if is_of_name(failure.error()) {
+        return format!(in files.alloc(); "{path}: a name outside the rules of the store");
+    }
+    explain_at(files, root, failure, strayed.call, path)
 }

@@ -63,6 +63,11 @@ impl Failure {
         Failure { call, on, error }
     }
 
+    /// The call.
+    pub fn call(&self) -> &'static str {
+        self.call
+    }
+
     /// The error.
     pub fn error(&self) -> &io::Error {
         &self.error

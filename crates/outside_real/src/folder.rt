@@ -1,28 +1,19 @@
 //! The files below a real folder.
-use crate::explaining::{first_file, first_odd, why_refused};
+use crate::explaining::{Strayed, explain};
 use crate::failure::Failure;
 use crate::folders::Folders;
+use crate::hold::Hold;
 use crate::limits::check_size;
 use crate::nodes::Nodes;
 use crate::places::{Kind, Standing, is_own, place_of, remove_file, what_stands};
 use crate::unsynced::Unsynced;
 use crate::walk::Walk;
-use crate::work::{Lock, create_anew, is_held, pause, place_in_work, take_lock};
+use crate::work::{Lock, make_new, place_in_work};
 use outside::Path;
 use std::alloc::AllocError;
 use std::fs::{self, OpenFile};
 use std::io::{self, ErrorKind, Write};
 use std::rt::Files;
-
-// How many tenths of a second a patient first call waits for a command that holds the lock.
-const PATIENCE: u32 = 100;
-
-// By what a call failed, where it isn't at its own path.
-#[derive(Drop)]
-struct Strayed {
-    call: &'static str,
-    place: String,
-}
 
 /// The files below a folder, and the places that changed since the last sync that answered Ok. Each error is the
 /// system's, or `OutOfMemory`.
@@ -30,15 +21,8 @@ struct Strayed {
 pub struct Folder<R: Files + AllocGlobal + Clone + Drop> {
     rt: R,
     root: String,
-    // The lock on the folder, once it is taken.
-    lock: Option<R::File>,
-    // Whether another program held the lock, and whether it was a server.
-    locked_out: bool,
-    served: bool,
-    // How many tenths of a second the lock is waited for; none once they were.
-    waits: u32,
-    // Whether no lock is taken.
-    free: bool,
+    /// The hold on the folder.
+    pub hold: Hold<R>,
     // By what the last call failed, where it isn't at its own path.
     strayed: Option<Strayed>,
     folders: Folders,
@@ -56,11 +40,7 @@ where
         let alloc = rt.alloc();
         Ok(Folder {
             root: String::from_str(alloc, root)?,
-            lock: None,
-            locked_out: false,
-            served: false,
-            waits: 0,
-            free: false,
+            hold: Hold::new(),
             strayed: None,
             folders: Folders::new(alloc),
             unsynced: Unsynced::new(alloc),
@@ -69,76 +49,12 @@ where
         })
     }
 
-    /// Whether another program held the folder's lock at the last call.
-    pub fn is_locked_out(&self) -> bool {
-        self.locked_out
-    }
-
-    /// The first call waits for a command that holds the lock, ten seconds at most, and for no server.
-    pub fn wait_for_lock(&mut self) {
-        self.waits = PATIENCE;
-    }
-
-    /// No call takes the lock.
-    pub fn take_no_lock(&mut self) {
-        self.free = true;
-    }
-
-    // Who holds the lock, in words.
-    fn explain_lock(&self) -> Result<String, AllocError> {
-        let words = if self.served {
-            "a server is at work in this folder: use settingsctl"
-        } else {
-            "another program is at work in this folder"
-        };
-        String::from_str(self.rt.alloc(), words)
-    }
-
-    // Why a call failed by what is not at its own path, in words.
-    fn explain_strayed(&self, failure: &Failure, strayed: &Strayed) -> Result<String, AllocError> {
-        let alloc = self.rt.alloc();
-        let place = strayed.place.as_str();
-        let below = place.strip_prefix(self.root.as_str()).unwrap_or(place);
-        let below = match below.strip_prefix('/').unwrap_or(below) {
-            "" => ".",
-            below => below,
-        };
-        if failure.error().kind() == ErrorKind::InvalidFilename {
-            return format!(in alloc; "{below}: a name outside the rules of the store");
-        }
-        failure.print_at(alloc, strayed.call, below)
-    }
-
-    // Why a call failed at its own path, in words.
-    fn explain_path(&self, failure: &Failure) -> Result<String, AllocError> {
-        let root = self.root.as_str();
-        let odd = match (failure.error().raw_os_error(), failure.error().kind()) {
-            (None, ErrorKind::InvalidData) => first_odd(&self.rt, root, failure.on())?,
-            (Some(_), ErrorKind::AlreadyExists | ErrorKind::NotADirectory) => {
-                first_file(&self.rt, root, failure.on())?
-            }
-            _ => None,
-        };
-        match odd {
-            Some(words) => Ok(words),
-            None => failure.print(self.rt.alloc()),
-        }
-    }
-
     /// Why a call failed, in words: what stands in the way, where the error is of these adapters, and else the system's words. Or out of memory.
     pub fn explain(&self, failure: &Failure) -> Result<String, AllocError> {
-        if self.locked_out {
-            return self.explain_lock();
+        if self.hold.is_locked_out() {
+            return self.hold.explain(self.rt.alloc());
         }
-        if failure.error().raw_os_error().is_none()
-            && failure.error().kind() == ErrorKind::PermissionDenied
-        {
-            return why_refused(&self.rt, self.root.as_str());
-        }
-        match &self.strayed {
-            Some(strayed) => self.explain_strayed(failure, strayed),
-            None => self.explain_path(failure),
-        }
+        explain(&self.rt, self.root.as_str(), failure, self.strayed.as_ref())
     }
 
     // The call failed by this one, at this place.
@@ -148,39 +64,18 @@ where
         }
     }
 
-    // Takes the lock. One that a command holds is waited for where that is wanted, and one that a server holds is not.
-    fn take_lock(&mut self) -> io::Result<R::File> {
-        for _ in 0..self.waits {
-            let answer = take_lock(&self.rt, self.root.as_str(), "lock");
-            if !matches!(&answer, Err(e) if e.kind() == ErrorKind::WouldBlock) {
-                return answer;
-            }
-            self.served = is_held(&self.rt, self.root.as_str(), "socket-lock")?;
-            if self.served {
-                return answer;
-            }
-            pause();
-        }
-        self.waits = 0;
-        take_lock(&self.rt, self.root.as_str(), "lock")
-    }
-
     // Begins a call: takes the lock, if it isn't taken. An error after a failed sync of what can't be written anew.
     fn begin(&mut self) -> io::Result<()> {
         if self.unsynced.is_broken() {
             return Err(io::Error::from(ErrorKind::Other));
         }
         self.strayed = None;
-        if self.lock.is_none() && !self.free {
-            let answer = self.take_lock();
-            self.locked_out = matches!(&answer, Err(e) if e.kind() == ErrorKind::WouldBlock);
-            if answer.is_err() {
-                let place = place_in_work(self.rt.alloc(), self.root.as_str(), "lock").ok();
-                self.stray("lock", place);
-            }
-            self.lock = Some(answer?);
+        let answer = self.hold.take(&self.rt, self.root.as_str());
+        if answer.is_err() {
+            let place = place_in_work(self.rt.alloc(), self.root.as_str(), "lock").ok();
+            self.stray("lock", place);
         }
-        Ok(())
+        answer
     }
 
     // The place of the first names of the path.
@@ -334,21 +229,11 @@ where
         Ok(())
     }
 
-    // A new file with these bytes, on the disk.
-    fn make_new(&self, bytes: &[u8]) -> io::Result<String> {
-        let place = place_in_work(self.rt.alloc(), self.root.as_str(), "new")?;
-        check_size(bytes.len())?;
-        let mut file = create_anew(&self.rt, place.as_str())?;
-        file.write_all(bytes)?;
-        file.sync_all()?;
-        Ok(place)
-    }
-
     /// Makes the path a node of this kind, by a rename of a new file that is on the disk.
     pub fn put(&mut self, kind: Kind, path: &Path, bytes: &[u8]) -> io::Result<()> {
         self.begin()?;
         let place = self.place(kind, path)?;
-        let new = self.make_new(bytes)?;
+        let new = make_new(&self.rt, self.root.as_str(), bytes)?;
         self.make_way(kind, path)?;
         // Noted first, so that a failure in between is synced too.
         self.note_folder(kind, path)?;
@@ -431,10 +316,7 @@ where
         }
         let answer = self.unsynced.sync(&self.rt);
         if answer.is_err() {
-            let place = match self.unsynced.failed() {
-                Some(place) => place.clone().ok(),
-                None => None,
-            };
+            let place = self.unsynced.failed.take();
             self.stray("fsync", place);
         }
         answer

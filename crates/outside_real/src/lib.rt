@@ -14,6 +14,7 @@ mod failure;
 mod faults;
 mod folder;
 mod folders;
+mod hold;
 mod limits;
 mod link;
 mod nodes;

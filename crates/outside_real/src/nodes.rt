@@ -13,7 +13,7 @@ pub struct Nodes {
     paths: BTreeSet<Path>,
     // The folders that are still to be listed.
     folders: Vec<Path>,
-    /// The place of the first name that is none of a path, or of the folder that it is in where it is no text.
+    /// The place at which a call failed: of a name, or of the folder where it couldn't be listed to its end.
     pub failed: Option<String>,
 }
 
@@ -57,9 +57,22 @@ impl Nodes {
     }
 
     // Adds what has this name in the folder, and stands at the place. A name that is none of a path is an error.
-    fn add_entry(
+    fn add_named(
         &mut self,
         files: &impl Files,
+        folder: &Path,
+        name: &[u8],
+        place: &str,
+    ) -> io::Result<()> {
+        let path = child(folder, name)?;
+        let standing = what_stands(files, place)?;
+        Ok(self.add(path, standing)?)
+    }
+
+    // The same, unless the name is the adapters' own.
+    fn add_entry<R: Files + AllocGlobal>(
+        &mut self,
+        rt: &R,
         folder: &Path,
         name: &[u8],
         place: &str,
@@ -67,16 +80,26 @@ impl Nodes {
         if folder.names().is_empty() && is_own(name) {
             return Ok(());
         }
-        match child(folder, name) {
-            Ok(path) => {
-                let standing = what_stands(files, place)?;
-                Ok(self.add(path, standing)?)
-            }
-            Err(e) => {
-                self.failed = String::from_str(*self.folders.allocator(), place).ok();
-                Err(e)
-            }
+        let answer = self.add_named(rt, folder, name, place);
+        if answer.is_err() {
+            self.failed = String::from_str(rt.alloc(), place).ok();
         }
+        answer
+    }
+
+    // Adds each of the folder, which is at the place.
+    fn add_each<R: Files + AllocGlobal + Clone + Drop>(
+        &mut self,
+        rt: &R,
+        folder: &Path,
+        place: &str,
+    ) -> io::Result<()> {
+        for entry in fs::read_dir(rt, place)? {
+            let entry = entry?;
+            let name = entry.file_name().as_bytes();
+            self.add_entry(rt, folder, name, entry.path().as_str())?;
+        }
+        Ok(())
     }
 
     /// Adds what lies directly in the folder, which is at the place.
@@ -86,19 +109,11 @@ impl Nodes {
         folder: &Path,
         place: &str,
     ) -> io::Result<()> {
-        for entry in fs::read_dir(rt, place)? {
-            match entry {
-                Ok(entry) => {
-                    let name = entry.file_name().as_bytes();
-                    self.add_entry(rt, folder, name, entry.path().as_str())?;
-                }
-                Err(e) => {
-                    self.failed = String::from_str(rt.alloc(), place).ok();
-                    return Err(e);
-                }
-            }
+        let answer = self.add_each(rt, folder, place);
+        if answer.is_err() && self.failed.is_none() {
+            self.failed = String::from_str(rt.alloc(), place).ok();
         }
-        Ok(())
+        answer
     }
 
     /// Their paths, rising.

@@ -52,11 +52,14 @@ impl<W: Write + Drop> RealSink<W> {
     }
 
     // Keeps what was written of the piece, where it is among the first bytes.
-    fn keep(&mut self, piece: &[u8], count: usize)
+    fn keep(&mut self, piece: &[u8], answer: &io::Result<usize>)
         ensures { self.new.faults ≡ self.old.faults }
     {
+        let Ok(count) = answer else {
+            return;
+        };
         if self.kept.len() < MOST_KEPT {
-            if let Some(written) = piece.get(..count) {
+            if let Some(written) = piece.get(..(*count).min(MOST_KEPT)) {
                 let _ = self.kept.extend_from_slice(written);
             }
         }
@@ -86,9 +89,7 @@ impl<W: Write + Drop> Sink for RealSink<W> {
 
     fn write(&mut self, piece: &[u8]) -> Result<usize, Failed> {
         let answer = written_of(piece, write_once(&mut self.writer, piece));
-        if let Ok(count) = &answer {
-            self.keep(piece, *count);
-        }
+        self.keep(piece, &answer);
         self.faults
             .counted("write", On::Name("standard output"), answer)
     }

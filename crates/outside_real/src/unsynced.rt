@@ -23,8 +23,8 @@ enum Entry {
 pub struct Unsynced {
     entries: BTreeMap<String, Entry>,
     broken: bool,
-    // The place that the last failing sync couldn't put down, where memory was there for it.
-    failed: Option<String>,
+    /// The place that the last failing sync couldn't put down.
+    pub failed: Option<String>,
 }
 
 // Puts down what stands at the place, and answers what the system said. An error where it couldn't be opened, and nothing
@@ -53,11 +53,6 @@ impl Unsynced {
     /// Whether the system has let go what can't be written anew. Nothing is known of the disk then.
     pub fn is_broken(&self) -> bool {
         self.broken
-    }
-
-    /// The place that the last failing sync couldn't put down, where memory was there for it.
-    pub fn failed(&self) -> Option<&String> {
-        self.failed.as_ref()
     }
 
     /// The place is to be synced. Answers whether it wasn't yet.

@@ -1,20 +1,31 @@
 //! The folder `.work`, and the locks in it.
+use crate::limits::check_size;
 use crate::places::{Standing, look, remove_file};
 use std::alloc::{AllocError, Global};
 use std::fs::{self, DirBuilder, File, OpenFile, OpenOptions};
-use std::io::{self, ErrorKind};
+use std::io::{self, ErrorKind, Write};
 use std::os::unix::fs::{DirBuilderExt, MetadataExt};
 use std::rt::Files;
 
 /// A file that can be locked against other programs.
 pub trait Lock {
-    /// Locks the file until it is closed. `WouldBlock` where another program has locked it.
+    /// Locks the file until it is closed. `WouldBlock` where another program has locked or shared it.
     fn lock_now(&self) -> io::Result<()>;
+
+    /// Shares the file until it is closed, so that none locks it. `WouldBlock` where another program has locked it.
+    fn share_now(&self) -> io::Result<()>;
 }
 
 impl Lock for File {
     fn lock_now(&self) -> io::Result<()> {
         match self.try_lock() {
+            Ok(()) => Ok(()),
+            Err(e) => Err(io::Error::from(e)),
+        }
+    }
+
+    fn share_now(&self) -> io::Result<()> {
+        match self.try_lock_shared() {
             Ok(()) => Ok(()),
             Err(e) => Err(io::Error::from(e)),
         }
@@ -30,12 +41,20 @@ pub fn place_in_work(alloc: Global, root: &str, name: &str) -> Result<String, Al
     format!(in alloc; "{root}/.work/{name}")
 }
 
+// Makes the folder, unless another program makes it meanwhile.
+fn make_work(files: &impl Files, folder: &str) -> io::Result<()> {
+    match DirBuilder::new().mode(0o700).create(files, folder) {
+        Err(e) if e.kind() == ErrorKind::AlreadyExists => Ok(()),
+        answer => answer,
+    }
+}
+
 // The folder `.work` below the root is there, and this program's user alone may enter it: it is made where it is missing, and one of another
 // user, or that others may enter, is refused.
 fn check_work<R: Files + AllocGlobal>(rt: &R, root: &str) -> io::Result<()> {
     let folder = format!(in rt.alloc(); "{root}/.work")?;
     if look(rt, folder.as_str())? == Standing::Nothing {
-        DirBuilder::new().mode(0o700).create(rt, folder.as_str())?;
+        make_work(rt, folder.as_str())?;
     }
     let data = fs::symlink_metadata(rt, folder.as_str())?;
     if data.is_dir() && data.mode() & 0o077 == 0 && data.uid() == libc::geteuid() {
@@ -52,13 +71,23 @@ pub fn work_place<R: Files + AllocGlobal>(rt: &R, root: &str, name: &str) -> io:
     Ok(place_in_work(rt.alloc(), root, name)?)
 }
 
-/// A new file at the place, where none is left.
-pub fn create_anew<R: Files>(files: &R, place: &str) -> io::Result<R::File> {
+// A new file at the place, where none is left.
+fn create_anew<R: Files>(files: &R, place: &str) -> io::Result<R::File> {
     remove_file(files, place)?;
     OpenOptions::new()
         .write(true)
         .create_new(true)
         .open(files, place)
+}
+
+/// A new file in `.work` with these bytes, on the disk. Answers its place.
+pub fn make_new<R: Files + AllocGlobal>(rt: &R, root: &str, bytes: &[u8]) -> io::Result<String> {
+    let place = place_in_work(rt.alloc(), root, "new")?;
+    check_size(bytes.len())?;
+    let mut file = create_anew(rt, place.as_str())?;
+    file.write_all(bytes)?;
+    file.sync_all()?;
+    Ok(place)
 }
 
 // The file of the lock of this name in `.work`, which is made where it is missing.
@@ -76,7 +105,18 @@ fn open_lock<R: Files + AllocGlobal>(rt: &R, root: &str, name: &str) -> io::Resu
         .open(rt, place.as_str())
 }
 
-// The same on a file system that is read-only: a lock that is missing is held by nobody, and the folder below which it would be stands for it.
+/// The lock of this name in `.work`, which is held until the file is closed. `WouldBlock` where another program holds
+/// it; `PermissionDenied`, with nothing made, where `.work` is not this user's alone or no file stands there; each other error is the system's.
+pub fn take_lock<R: Files + AllocGlobal>(rt: &R, root: &str, name: &str) -> io::Result<R::File>
+where
+    R::File: Lock,
+{
+    let file = open_lock(rt, root, name)?;
+    file.lock_now()?;
+    Ok(file)
+}
+
+// The file of the lock as it is; where it is missing, nobody holds it, and the root stands for it.
 fn open_unwritten<R: Files + AllocGlobal>(rt: &R, root: &str, name: &str) -> io::Result<R::File> {
     let place = place_in_work(rt.alloc(), root, name)?;
     match look(rt, place.as_str())? {
@@ -85,18 +125,23 @@ fn open_unwritten<R: Files + AllocGlobal>(rt: &R, root: &str, name: &str) -> io:
     }
 }
 
-/// The lock of this name in `.work`, which is held until the file is closed. `WouldBlock` where another program holds
-/// it; `PermissionDenied`, with nothing made, where `.work` is not this user's alone or no file stands there; each other error is the system's.
-pub fn take_lock<R: Files + AllocGlobal>(rt: &R, root: &str, name: &str) -> io::Result<R::File>
+/// The lock, as by `take_lock`; on a file system that is read-only it is not made.
+pub fn take_lock_unwritten<R: Files + AllocGlobal>(
+    rt: &R,
+    root: &str,
+    name: &str,
+) -> io::Result<R::File>
 where
     R::File: Lock,
 {
-    let file = match open_lock(rt, root, name) {
-        Err(e) if e.kind() == ErrorKind::ReadOnlyFilesystem => open_unwritten(rt, root, name)?,
-        answer => answer?,
-    };
-    file.lock_now()?;
-    Ok(file)
+    match take_lock(rt, root, name) {
+        Err(e) if e.kind() == ErrorKind::ReadOnlyFilesystem => {
+            let file = open_unwritten(rt, root, name)?;
+            file.lock_now()?;
+            Ok(file)
+        }
+        answer => answer,
+    }
 }
 
 // A tenth of a second.
@@ -134,18 +179,20 @@ where
     take_lock(rt, root, name)
 }
 
-/// Whether another program holds the lock of this name in `.work`. It is taken for a moment where none does.
-pub fn is_held<R: Files + AllocGlobal>(rt: &R, root: &str, name: &str) -> io::Result<bool>
+/// Whether another program holds the lock of this name in `.work`, as far as can be seen. It is shared for a moment, so that those who look see
+/// only who has locked it.
+pub fn is_held<R: Files + AllocGlobal>(rt: &R, root: &str, name: &str) -> bool
 where
     R::File: Lock,
 {
-    let place = place_in_work(rt.alloc(), root, name)?;
-    if look(rt, place.as_str())? != Standing::File {
-        return Ok(false);
+    let Ok(place) = place_in_work(rt.alloc(), root, name) else {
+        return false;
+    };
+    if !matches!(look(rt, place.as_str()), Ok(Standing::File)) {
+        return false;
     }
-    match fs::open(rt, place.as_str())?.lock_now() {
-        Ok(()) => Ok(false),
-        Err(e) if e.kind() == ErrorKind::WouldBlock => Ok(true),
-        Err(e) => Err(e),
+    match fs::open(rt, place.as_str()) {
+        Ok(file) => matches!(file.share_now(), Err(e) if e.kind() == ErrorKind::WouldBlock),
+        Err(_) => false,
     }
 }
