@@ -175,7 +175,8 @@ fn fault_in(
         ("not-toml", ..) => toml_fault(alloc, file, text),
         ("bad-front", ..) => toml_fault(alloc, file, front_of(text)),
         ("bad-row", ..) => row_fault(alloc, text, at),
-        ("ill-typed", ..) => model_wants(alloc, text, at),
+        ("ill-typed", ..) if file == "image/model.toml" => model_wants(alloc, text, at),
+        ("ill-typed", ..) => Ok(Some(format!(in alloc; "{at}: no type has this key")?)),
         (_, Some(words), Ok(place)) => Ok(Some(told_at(alloc, file, text, place, words)?)),
         _ => Ok(None),
     }
