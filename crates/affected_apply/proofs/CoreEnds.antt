@@ -19,7 +19,7 @@ use Rattle.metadata_links.specs.declared.manifest.Manifest.{Manifest}
 use Rattle.settings_machine.specs.World.{Image, World, Work, Job, Running}
 use Rattle.settings_machine.specs.World as machine
 use Rattle.settings_machine.specs.declared.cause.Cause.TheVariants as cause
-use Rattle.settings_machine.specs.Step.{Command, Answer, Fine, NoRoom, OwedFault, after_files_turn, work_turn, job_turn, last_turn, turn_next}
+use Rattle.settings_machine.specs.Step.{Command, Answer, Fine, NoRoom, OwedFault, after_files_turn, work_turn, job_turn, last_turn, fits_work, fits, turn_next}
 use Rattle.settings_machine.specs.Events.{Turned, next}
 use Rattle.settings_machine.specs.Paid.{IsGood}
 use Rattle.machine_disk.specs.Store.{IsReadyAt}
@@ -33,7 +33,7 @@ use Rattle.store_open.specs.Laws.{HoldsImage}
 use Rattle.affected_apply.specs.declared.store.Store.{Store}
 use Rattle.affected_apply.specs.Jobs.{job_after, failed_with_disk}
 use Rattle.affected_apply.specs.Turned.{noted_change, core_at, IsEvent, IsTurn, IsLastEvent, Ends}
-use Rattle.affected_apply.proofs.Running.{core_same, or_calm, calm, job_is, held_is}
+use Rattle.affected_apply.proofs.Running.{core_same, or_calm, calm, job_is, held_is, fits_turn}
 
 module _ (I : Image) (good : IsGood I) (folder : Folder) (W V : World) (old new : History) (before : CoreState) (kept : Kept I folder W V old before) (w : Work)
     (running : before.job ≡ Running w)
@@ -52,24 +52,34 @@ module _ (I : Image) (good : IsGood I) (folder : Folder) (W V : World) (old new 
   runs_world : W.job ≡ Running w
   runs_world = job_is I folder W V old before kept w running
 
-  -- Memory was wanting before the change was begun.
-  ended_no_room : IsLastEvent I folder W V before (record { place = before.place; held = before.held; job = machine.Failed cause.Memory; faulted = false }) old old
+  -- What fits the end of a job.
+  fits_end : (a : Answer) → fits_work a [] [] ≡ true → fits W.job a ≡ true
+  fits_end a is = fits_turn I folder W V old before kept w running a
+      (ap (λ (l : List (List ℕ)). fits_work a l w.commands) no_file ∙ ap (λ (l : List Command). fits_work a [] l) no_command ∙ is)
+
+  -- It ran out of memory before the change was begun.
+  ended_no_room : IsLastEvent I folder W V before (record { place = before.place; held = before.held; job = machine.Failed cause.Memory; faulted = false }) old
+      old
   ended_no_room = record {
     answer = NoRoom;
+    fitting = fits_end NoRoom refl;
     ran = ran_no_room I good folder W V old before kept none_failed w runs_world no_file no_command;
     runs = ap (λ (N : World). N.runs) (is_last NoRoom);
   }
 
-  module _ (settled : IsSettled old) (batch : Changes) (dir_is : batch.dir ≡ before.place.directory) (follows : Follows (noted_change w.since) batch.entries) where
+  module _ (settled : IsSettled old) (batch : Changes) (dir_is : batch.dir ≡ before.place.directory)
+      (follows : Follows (noted_change w.since) batch.entries) where
     stands_before : Stands (files_before batch old) W.held 2
     stands_before =
         let r : IsReadyAt before.place before.held old = kept.core.ready none_failed in
-        subst (λ (h : Held). Stands (files_before batch old) h 2) (sym holds) (subst (λ (d : Names). Stands (files_below d (tree_of old)) before.held 2) (sym dir_is) r.stands)
+        subst (λ (h : Held). Stands (files_before batch old) h 2) (sym holds)
+        (subst (λ (d : Names). Stands (files_below d (tree_of old)) before.held 2) (sym dir_is) r.stands)
 
     stands : Stands (files_after batch old) (record W.held { owed = owed.Keys w.since }) 2
     stands =
         let s : Stands (files_before batch old) W.held 2 = stands_before in
-        follows.stands (files_before batch old) W.held 2 s (record { live = s.content.rule; pending = s.pending.rule }) (names_none W.held (noted_change w.since) refl)
+        follows.stands (files_before batch old) W.held 2 s (record { live = s.content.rule; pending = s.pending.rule })
+        (names_none W.held (noted_change w.since) refl)
         (tells_none W.held (noted_change w.since) (λ k. refl))
 
     -- The noted keys are stored.
@@ -78,6 +88,7 @@ module _ (I : Image) (good : IsGood I) (folder : Folder) (W V : World) (old new 
         (record { place = before.place; held = record W.held { owed = owed.Keys w.since }; job = (next I W (Turned (Fine 0))).job; faulted = false }) old new
     ended commits = record {
       answer = Fine 0;
+      fitting = fits_end (Fine 0) refl;
       ran = ran_done I good folder W V old new before kept none_failed settled w runs_world no_file no_command batch dir_is stands 0 commits;
       runs = ap (λ (N : World). N.runs) (is_last (Fine 0));
     }
@@ -86,9 +97,11 @@ module _ (I : Image) (good : IsGood I) (folder : Folder) (W V : World) (old new 
     ended_failing : (fault : Failed) → Commits batch (Err fault) old new
         → IsLastEvent I folder W V before (record { place = before.place; held = before.held; job = machine.Failed cause.Disk; faulted = true }) old new
     ended_failing fault commits =
-        let r = ran_not_done I good folder W V old new before kept none_failed settled w runs_world no_file no_command batch dir_is stands fault before.held commits in
+        let r = ran_not_done I good folder W V old new before kept none_failed settled w runs_world no_file no_command batch dir_is stands fault before.held
+        commits in
         record {
           answer = OwedFault r.0;
+          fitting = fits_end (OwedFault r.0) refl;
           ran = subst (λ (j : Job). Ran I folder W V (Turned (OwedFault r.0) ∷ []) old new before
               (record { place = before.place; held = before.held; job = j; faulted = true }))
               (ap (λ (N : World). N.job) (is_last (OwedFault r.0))) r.1;
@@ -134,7 +147,7 @@ module _ (s : Store) (held : Held) (w : Work) (no_file : w.files ≡ []) (no_com
           (or_calm faulted true (none_failed I good folder W V old new before kept w refl no_file no_command)))
           (ended_failing I good folder W V old new before kept w refl no_file no_command settled batch dir_is follows fault commits)
 
-  -- Where memory was wanting.
+  -- Where it ran out of memory.
   pub memory_ends : (old : History) → Ends s held w held (machine.Failed cause.Memory) old old
   memory_ends old = record { event = by } where
     by : (I : Image) → IsGood I → HoldsImage I s.image.now → (folder : Folder) (faulted : Bool) (W V : World) → IsSettled old
@@ -153,7 +166,8 @@ pub synced_end : (s : Store) (held held_after : Held) (w w' : Work) (left : Job)
     → (old mid new : History) → ((I : Image) → HoldsImage I s.image.now → mid ≡ then synced old) → Ends s held w' held_after left mid new
     → IsTurn s held (Running w) held_after left ran_before ran_after old new
 synced_end s held held_after w w' left ran_before ran_after done none old mid new synced_by ends = record { event = by } where
-  by : (I : Image) → IsGood I → HoldsImage I s.image.now → (folder : Folder) (faulted : Bool) (W V : World) → Kept I folder W V old (core_at s held (Running w) faulted)
+  by : (I : Image) → IsGood I → HoldsImage I s.image.now → (folder : Folder) (faulted : Bool) (W V : World)
+      → Kept I folder W V old (core_at s held (Running w) faulted)
       → IsEvent I folder W V (core_at s held (Running w) faulted) (core_at s held_after left (faulted || failed_with_disk left)) ran_before ran_after old new
   by I good of folder faulted W V kept =
       let before = core_at s held (Running w) faulted in
@@ -166,6 +180,7 @@ synced_end s held held_after w w' left ran_before ran_after done none old mid ne
       (subst IsSettled (sym synced') (settled_synced old)) one.kept in
       record {
         answer = e.answer;
+        fitting = e.fitting;
         ran = ran_more I folder W V [] (Turned e.answer ∷ []) old mid new before before now one e.ran;
         runs = moves_map (λ r t same is. same ∙ is ∙ sym e.runs) none;
       }

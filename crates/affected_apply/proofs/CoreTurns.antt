@@ -3,24 +3,20 @@ use Rattle.std.proofs.Common.{◌≡◌, ◌≢◌, inl, inr, ⊎_elim, ℕ, ari
 use Rattle.std.proofs.Common.{◌||◌, List, [], ◌∷◌, Option, is_some, refl, sym, ◌∙◌, ap, subst}
 use Rattle.std.specs.Prelude.{All, IsSome}
 use Rattle.std.specs.FinMap.{get}
-use Rattle.std.specs.Str.{bytes_eq}
-use Rattle.std.proofs.lemmas.Bool.{cases_Bool, cond-true}
-use Rattle.std.proofs.lemmas.Slice.Eq.{bytes_eq-Decides}
+use Rattle.std.proofs.lemmas.Bool.{cases_Bool}
 use Rattle.outside.specs.History.{History}
 use Rattle.outside.specs.Spawner.{Run}
 use Rattle.outside.specs.Told.{Moves}
 use Rattle.settings_tree.specs.declared.entry.Owed.{Owed}
-use Rattle.settings_tree.specs.declared.entry.Owed.TheVariants as owed
 use Rattle.settings_tree.specs.declared.held.Held.{Held}
 use Rattle.metadata_links.specs.Links.{files_of}
 use Rattle.metadata_links.specs.declared.manifest.Manifest.{Manifest}
-use Rattle.settings_machine.specs.World.{Image, World, Work, Running, Among, path_of, is_running, due}
+use Rattle.settings_machine.specs.World.{Image, World, Work, Running, Among, path_of, is_running}
 use Rattle.settings_machine.specs.declared.cause.Cause.TheVariants as cause
 use Rattle.settings_machine.specs.Step.{turn_next}
 use Rattle.settings_machine.specs.Events.{Turned, next, faulted_next}
-use Rattle.settings_machine.specs.Paid.{IsDuePath, IsGood}
-use Rattle.settings_machine.specs.Laws.{IsKept}
-use Rattle.settings_machine.proofs.PaidLaws.{files_stay_paid}
+use Rattle.settings_machine.specs.Paid.{IsDuePath, IsFit, IsGood}
+use Rattle.settings_machine.proofs.PaidLaws.{due_owed, fit_stays}
 use Rattle.settings_machine.proofs.Manifests.{HasGoodFiles, good_files}
 use Rattle.machine_disk.specs.Kept.{Folder, CoreState, Kept}
 use Rattle.machine_disk.specs.Ran.{Ran}
@@ -36,11 +32,7 @@ use Rattle.store_open.specs.Laws.{HoldsImage}
 use Rattle.affected_apply.specs.declared.store.Store.{Store}
 use Rattle.affected_apply.specs.Jobs.{failed_with_disk}
 use Rattle.affected_apply.specs.Turned.{core_at, IsEvent, IsTurn}
-use Rattle.affected_apply.proofs.Running.{core_same, or_calm, calm, job_is, held_is, job_paid}
-
--- Where the stored image text is the image's, what is owed is due.
-due_owed : (I : Image) (held : Held) → held.image ≡ I.text → due I held ≡ held.owed
-due_owed I held same = cond-true (bytes_eq held.image I.text) held.owed owed.All ((bytes_eq-Decides held.image I.text).1 same)
+use Rattle.affected_apply.proofs.Running.{core_same, or_calm, calm, job_is, held_is, job_owes, fits_turn}
 
 -- A job that failed with Disk doesn't run.
 stopped : (t : Turn) (left : Work) → fails_with_disk t ≡ true → is_running (job_left t left) ≡ false
@@ -69,8 +61,8 @@ module _ (I : Image) (good : IsGood I) (folder : Folder) (W V : World) (old new 
   none_failed : before.faulted ≡ false
   none_failed = calm I folder W V old before kept w running
 
-  kept_next : IsKept I (next I W (Turned one.answer))
-  kept_next = files_stay_paid I good W (record { fit = kept.fit; paid = kept.disk.paid }) (Turned one.answer ∷ []) refl
+  fit_next : IsFit I (next I W (Turned one.answer))
+  fit_next = fit_stays I good W kept.fit (Turned one.answer ∷ []) refl
 
   job_same : job_left t left ≡ (next I W (Turned one.answer)).job
   job_same = sym (ap (λ (N : World). N.job) one.is)
@@ -86,9 +78,9 @@ module _ (I : Image) (good : IsGood I) (folder : Folder) (W V : World) (old new 
       } in
       subst (λ (h : History). Ran I folder W V (Turned one.answer ∷ []) old h before now) (sym same)
       (⊎_elim
-      (λ fails. ran_failed I folder W V old before kept (Turned one.answer) now alike kept_next.fit kept_next.paid job_same fails
+      (λ fails. ran_failed I folder W V old before kept (Turned one.answer) now alike fit_next job_same fails
       (ap (λ (b : Bool). faulted_next b (Turned one.answer)) none_failed ∙ one.fault ∙ fails) refl (stopped t left fails))
-      (λ fine. ran_calm I folder W V old before kept (Turned one.answer) now alike kept_next.fit kept_next.paid job_same refl refl none_failed fine (one.fault ∙ fine))
+      (λ fine. ran_calm I folder W V old before kept (Turned one.answer) now alike fit_next job_same refl refl none_failed fine (one.fault ∙ fine))
       (cases_Bool (fails_with_disk t)))
 
   -- The first of the files has something else.
@@ -97,17 +89,18 @@ module _ (I : Image) (good : IsGood I) (folder : Folder) (W V : World) (old new 
   put f fs files puts =
       let row : is_some (get I.manifest.files f) ≡ true = first_known I.manifest w.files known f fs files in
       let paths : HasGoodFiles I.manifest = good_files I.defaults I.manifest good.manifest in
-      let paid = job_paid I folder W V old before kept w running in
+      let owes = job_owes I folder W V old before kept w running in
       let due_path : IsDuePath I W.held (path_of I f) = record {
         file = f;
-        due = subst (λ (o : Owed). Among (files_of I.manifest o) f) (sym (due_owed I W.held paid.image))
-            (paid.to_do f (subst (λ (l : List (List ℕ)). Among l f) (sym files) (inl refl)));
+        due = subst (λ (o : Owed). Among (files_of I.manifest o) f) (sym (due_owed I W.held kept.fit.image))
+            (owes.to_do f (subst (λ (l : List (List ℕ)). Among l f) (sym files) (inl refl)));
         path_is = refl;
       } in
       subst (λ (h : History). Ran I folder W V (Turned one.answer ∷ []) old h before now) (sym puts.on_disk)
       (ran_wrote I folder W V old before kept none_failed (Turned one.answer) (path_of I f) (paths.etc f row) due_path puts.node
-      (ap (λ (N : World). N.version) one.is) (ap (λ (N : World). N.format) one.is) (ap (λ (N : World). N.held) one.is) (ap (λ (N : World). N.etc) one.is ∙ puts.files)
-      kept_next.fit kept_next.paid now refl refl job_same (sym one.fault) (stopped t left))
+      (ap (λ (N : World). N.version) one.is) (ap (λ (N : World). N.format) one.is) (ap (λ (N : World). N.held) one.is)
+      (ap (λ (N : World). N.etc) one.is ∙ puts.files)
+      fit_next now refl refl job_same (sym one.fault) (stopped t left))
 
   made : (fs : List (List ℕ)) → w.files ≡ fs → MakesFiles I fs W.etc one.etc old new → Ran I folder W V (Turned one.answer ∷ []) old new before now
   made [] files both = alone both.0 both.1
@@ -115,7 +108,12 @@ module _ (I : Image) (good : IsGood I) (folder : Folder) (W V : World) (old new 
   made (f ∷ fs) files (inr puts) = put f fs files puts
 
   pub turn_event : IsEvent I folder W V before now ran_before ran_after old new
-  turn_event = record { answer = one.answer; ran = made w.files refl one.disk; runs = spawned } where
+  turn_event = record {
+    answer = one.answer;
+    fitting = fits_turn I folder W V old before kept w running one.answer one.fitting;
+    ran = made w.files refl one.disk;
+    runs = spawned;
+  } where
     spawned : Moves ran_before ran_after (λ r s. r ≡ W.runs → s ≡ (turn_next I W one.answer).runs)
     spawned = subst (λ (x : List Run). Moves ran_before ran_after (λ r s. r ≡ W.runs → s ≡ x)) (sym (ap (λ (N : World). N.runs) one.is)) one.spawner
 
@@ -154,7 +152,8 @@ pub turn_made : (s : Store) (held : Held) (w left : Work) (t : Turn) (view : Vie
     → (ran_before ran_after : Option (List Run)) (old new : History)
     → IsMachineTurn view w t left ran_before ran_after old new → IsTurn s held (Running w) held (job_left t left) ran_before ran_after old new
 turn_made s held w left t view live os manifest templates more known ran_before ran_after old new makes = record { event = by } where
-  by : (I : Image) → IsGood I → HoldsImage I s.image.now → (folder : Folder) (faulted : Bool) (W V : World) → Kept I folder W V old (core_at s held (Running w) faulted)
+  by : (I : Image) → IsGood I → HoldsImage I s.image.now → (folder : Folder) (faulted : Bool) (W V : World)
+      → Kept I folder W V old (core_at s held (Running w) faulted)
       → IsEvent I folder W V (core_at s held (Running w) faulted)
       (core_at s held (job_left t left) (faulted || failed_with_disk (job_left t left))) ran_before ran_after old new
   by I good of folder faulted W V kept =

@@ -34,7 +34,8 @@ words_reversed xs has = λ k d below. by k d below where
   by : (k : ℕ) (d : Command) → k < length (reverse xs) → HasWord (seen (get_or (reverse xs) k d))
   by k d below =
       let short : k < length xs = subst (λ (m : ℕ). k < m) (length-reverse xs) below in
-      subst (λ (c : Command). HasWord (seen c)) (sym (get_or-reverse xs k d short)) (has_word (get_or xs (length xs - 1 - k) d) (has (length xs - 1 - k) d (omega arith)))
+      subst (λ (c : Command). HasWord (seen c)) (sym (get_or-reverse xs k d short))
+      (has_word (get_or xs (length xs - 1 - k) d) (has (length xs - 1 - k) d (omega arith)))
 
 -- A list of no length is empty.
 pub none_in : {X : Type 0} (xs : List X) → (length xs == 0) ≡ true → xs ≡ []

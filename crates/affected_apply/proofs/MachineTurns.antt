@@ -1,5 +1,5 @@
 -- One call of a job is one turn of the machine.
-use Rattle.std.proofs.Common.{◌≡◌, inl, inr, ⊎_elim, ℕ, zero, suc, List, [], ◌∷◌, ◌++◌, Option, Some, Ok, Err, refl, sym, ◌∙◌, ap, subst}
+use Rattle.std.proofs.Common.{◌≡◌, inl, inr, ⊎_elim, ℕ, zero, suc, true, List, [], ◌∷◌, ◌++◌, Option, Some, Ok, Err, refl, sym, ◌∙◌, ap, subst}
 use Rattle.std.specs.FinMap.{insert}
 use Rattle.outside.specs.Tree.{file, file_in}
 use Rattle.outside.specs.History.{History}
@@ -12,7 +12,7 @@ use Rattle.template_eval.specs.declared.render_error.RenderError.{RenderError}
 use Rattle.settings_machine.specs.World.{Image, World, Work, Job, Running, Failed, path_of, rendered}
 use Rattle.settings_machine.specs.declared.cause.Cause.{Cause}
 use Rattle.settings_machine.specs.declared.cause.Cause.TheVariants as cause
-use Rattle.settings_machine.specs.Step.{Command, Answer, Fine, NoRoom, FileFault, NoSpawn, SyncFault, with_file, with_job, wrote}
+use Rattle.settings_machine.specs.Step.{Command, Answer, Fine, NoRoom, FileFault, NoSpawn, SyncFault, with_file, with_job, wrote, fits_work}
 use Rattle.settings_machine.specs.Step.{file_turn, command_turn, after_files_turn, work_turn, job_turn, last_turn, turn_next}
 use Rattle.affected_apply.specs.declared.outcome.Turn.{Turn}
 use Rattle.affected_apply.specs.declared.outcome.Turn.TheVariants as turn
@@ -46,11 +46,21 @@ module _ (I : Image) (live : Contents) (W : World) (w : Work) (job : W.job ≡ R
   file_left f fs left a = turned a ∙ ap (λ (l : List (List ℕ)). work_turn I W l w a) left
 
   command_left : (c : Command) (cs : List Command) → w.files ≡ [] → w.commands ≡ c ∷ cs → (a : Answer) → turn_next I W a ≡ command_turn W c cs w a
-  command_left c cs no_file left a = turned a ∙ ap (λ (l : List (List ℕ)). work_turn I W l w a) no_file ∙ ap (λ (l : List Command). after_files_turn I W l w a) left
+  command_left c cs no_file left a = turned a ∙ ap (λ (l : List (List ℕ)). work_turn I W l w a) no_file
+      ∙ ap (λ (l : List Command). after_files_turn I W l w a) left
 
   none_left : w.files ≡ [] → w.commands ≡ [] → (a : Answer) → turn_next I W a ≡ last_turn I W w a
   none_left no_file no_command a =
       turned a ∙ ap (λ (l : List (List ℕ)). work_turn I W l w a) no_file ∙ ap (λ (l : List Command). after_files_turn I W l w a) no_command
+
+  -- What fits where a file is left, where a command is, and at the end.
+  fits_file : (f : List ℕ) (fs : List (List ℕ)) → w.files ≡ f ∷ fs → (a : Answer) → fits_work a (f ∷ fs) w.commands ≡ true
+      → fits_work a w.files w.commands ≡ true
+  fits_file f fs left a is = ap (λ (l : List (List ℕ)). fits_work a l w.commands) left ∙ is
+
+  fits_now : (fs : List (List ℕ)) (cs : List Command) → w.files ≡ fs → w.commands ≡ cs → (a : Answer) → fits_work a fs cs ≡ true
+      → fits_work a w.files w.commands ≡ true
+  fits_now fs cs files commands a is = ap (λ (l : List (List ℕ)). fits_work a l w.commands) files ∙ ap (λ (l : List Command). fits_work a fs l) commands ∙ is
 
   -- What the file renders to in the world.
   renders_now : (f : List ℕ) (r : Rendered) → rendered I f live ≡ r → rendered I f W.held.live ≡ r
@@ -63,10 +73,12 @@ module _ (I : Image) (live : Contents) (W : World) (w : Work) (job : W.job ≡ R
     alone (f ∷ fs) same = inl (refl, same)
 
     -- Nothing but the job changes, which fails.
-    stopped : (a : Answer) (c : Cause) (left : Work) → is_disk_fault a ≡ fails_with_disk (turn.Failed c) → turn_next I W a ≡ with_job W (Failed c)
+    stopped : (a : Answer) (c : Cause) (left : Work) → fits_work a w.files w.commands ≡ true → is_disk_fault a ≡ fails_with_disk (turn.Failed c)
+        → turn_next I W a ≡ with_job W (Failed c)
         → new ≡ old → Moves before after (λ (r s : List Run). s ≡ r) → IsOneTurn I W w (turn.Failed c) left before after old new
-    stopped a c left fault is same none = record {
+    stopped a c left fitting fault is same none = record {
       answer = a;
+      fitting = fitting;
       fault = fault;
       etc = W.etc;
       runs = W.runs;
@@ -79,6 +91,7 @@ module _ (I : Image) (live : Contents) (W : World) (w : Work) (job : W.job ≡ R
         → IsOneTurn I W w (turn.Wrote name) left before after old new
     file_done name left done puts none = record {
       answer = Fine 0;
+      fitting = refl;
       fault = refl;
       etc = insert W.etc (path_of I name) puts.bytes;
       runs = W.runs;
@@ -97,6 +110,7 @@ module _ (I : Image) (live : Contents) (W : World) (w : Work) (job : W.job ≡ R
         let c : Command = (service, (index, done.words)) in
         record {
           answer = Fine 0;
+          fitting = refl;
           fault = refl;
           etc = W.etc;
           runs = W.runs ++ run_of done.words 0 ∷ [];
@@ -110,7 +124,7 @@ module _ (I : Image) (live : Contents) (W : World) (w : Work) (job : W.job ≡ R
     render_failed : (fs : List (List ℕ)) (cs : List Command) → w.files ≡ fs → (name : List ℕ) (error : RenderError) (left : Work)
         → MayFail fs cs (cause.Render name error) → rendered I name live ≡ Err error → new ≡ old → Moves before after (λ (r s : List Run). s ≡ r)
         → IsOneTurn I W w (turn.Failed (cause.Render name error)) left before after old new
-    render_failed (f ∷ fs) cs files name error left may says same none = stopped (Fine 0) (cause.Render name error) left refl
+    render_failed (f ∷ fs) cs files name error left may says same none = stopped (Fine 0) (cause.Render name error) left refl refl
         (file_left f fs files (Fine 0)
         ∙ ap (λ (r : Rendered). wrote I W f fs w r) (renders_now f (Err error) (ap (λ (n : List ℕ). rendered I n live) (sym may.0) ∙ says))
         ∙ ap (λ (n : List ℕ). with_job W (Failed (cause.Render n error))) (sym may.0))
@@ -129,9 +143,10 @@ module _ (I : Image) (live : Contents) (W : World) (w : Work) (job : W.job ≡ R
         → Moves before after (λ (r s : List Run). s ≡ r)
         → IsOneTurn I W w (turn.Failed cause.Disk) left before after old new
     put_failed f fs files left puts none = ⊎_elim
-        (λ same. stopped SyncFault cause.Disk left refl (file_left f fs files SyncFault) same none)
+        (λ same. stopped SyncFault cause.Disk left (fits_file f fs files SyncFault refl) refl (file_left f fs files SyncFault) same none)
         (λ changed. record {
           answer = FileFault (file_in changed.0);
+          fitting = fits_file f fs files (FileFault (file_in changed.0)) refl;
           fault = refl;
           etc = with_file W.etc (path_of I f) (file_in changed.0);
           runs = W.runs;
@@ -147,13 +162,15 @@ module _ (I : Image) (live : Contents) (W : World) (w : Work) (job : W.job ≡ R
         → IsOneTurn I W w (turn.Failed cause.Disk) left before after old new
     disk_failed (f ∷ fs) cs files commands left may failed none = put_failed f fs files left failed none
     disk_failed [] (c ∷ cs) files commands left may failed none = absurd may
-    disk_failed [] [] files commands left may failed none = stopped SyncFault cause.Disk left refl (none_left files commands SyncFault) failed none
+    disk_failed [] [] files commands left may failed none = stopped SyncFault cause.Disk left (fits_now [] [] files commands SyncFault refl) refl
+        (none_left files commands SyncFault) failed none
 
     spawn_failed : (fs : List (List ℕ)) (cs : List Command) → w.files ≡ fs → w.commands ≡ cs → (service : List ℕ) (left : Work)
         → MayFail fs cs (cause.Spawn service) → new ≡ old → Moves before after (λ (r s : List Run). s ≡ r)
         → IsOneTurn I W w (turn.Failed (cause.Spawn service)) left before after old new
     spawn_failed (f ∷ fs) cs files commands service left may same none = absurd may
-    spawn_failed [] (c ∷ cs) files commands service left may same none = stopped NoSpawn (cause.Spawn service) left refl
+    spawn_failed [] (c ∷ cs) files commands service left may same none =
+        stopped NoSpawn (cause.Spawn service) left (fits_now [] (c ∷ cs) files commands NoSpawn refl) refl
         (command_left c cs files commands NoSpawn ∙ ap (λ (n : List ℕ). with_job W (Failed (cause.Spawn n))) (sym may)) same none
     spawn_failed [] [] files commands service left may same none = absurd (cc may)
 
@@ -164,11 +181,13 @@ module _ (I : Image) (live : Contents) (W : World) (w : Work) (job : W.job ≡ R
     status_failed [] (c ∷ cs) files commands service zero left may same ran = absurd (may.1 refl)
     status_failed [] (c ∷ cs) files commands service (suc n) left may same ran = record {
       answer = Fine (suc n);
+      fitting = refl;
       fault = refl;
       etc = W.etc;
       runs = W.runs ++ run_of c.1.1 (suc n) ∷ [];
       is = command_left c cs files commands (Fine (suc n))
-          ∙ ap (λ (s : List ℕ). let X : World = record W { job = Failed (cause.Status s (suc n)); runs = W.runs ++ run_of c.1.1 (suc n) ∷ [] } in X) (sym may.0);
+          ∙ ap (λ (s : List ℕ). let X : World = record W { job = Failed (cause.Status s (suc n)); runs = W.runs ++ run_of c.1.1 (suc n) ∷ [] } in X)
+          (sym may.0);
       disk = alone w.files same;
       spawner = one_run W c cs w.commands commands (suc n) before after ran;
     }
@@ -183,5 +202,7 @@ module _ (I : Image) (live : Contents) (W : World) (w : Work) (job : W.job ≡ R
     turn_made (turn.Failed cause.Disk) left still by failed none = disk_failed w.files w.commands refl refl left still.may failed none
     turn_made (turn.Failed (cause.Render name error)) left still by same none = render_failed w.files w.commands refl name error left still.may by same none
     turn_made (turn.Failed (cause.Spawn service)) left still by same none = spawn_failed w.files w.commands refl refl service left still.may same none
-    turn_made (turn.Failed (cause.Status service number)) left still by same ran = status_failed w.files w.commands refl refl service number left still.may same ran
-    turn_made (turn.Failed cause.Memory) left still by same none = stopped NoRoom cause.Memory left refl (no_memory w.files w.commands refl refl still.may) same none
+    turn_made (turn.Failed (cause.Status service number)) left still by same ran =
+        status_failed w.files w.commands refl refl service number left still.may same ran
+    turn_made (turn.Failed cause.Memory) left still by same none = stopped NoRoom cause.Memory left refl refl (no_memory w.files w.commands refl refl still.may)
+        same none

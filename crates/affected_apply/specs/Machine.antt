@@ -6,7 +6,7 @@ use Rattle.outside.specs.History.{History, next, scribbled, synced}
 use Rattle.outside.specs.Spawner.{Run}
 use Rattle.outside.specs.Told.{Moves}
 use Rattle.settings_machine.specs.World.{Image, World, Files, Work, Job, Running, Failed, path_of}
-use Rattle.settings_machine.specs.Step.{Answer, with_file, turn_next}
+use Rattle.settings_machine.specs.Step.{Answer, with_file, fits_work, turn_next}
 use Rattle.settings_machine.specs.Events.{is_disk_fault}
 use Rattle.settings_machine.specs.declared.cause.Cause.TheVariants as cause
 use Rattle.affected_apply.specs.declared.outcome.Turn.{Turn}
@@ -35,11 +35,12 @@ abbrev pub MakesFiles : Image → List (List ℕ) → Files → Files → Histor
 MakesFiles I [] before after old new = (after ≡ before) × (new ≡ old)
 MakesFiles I (f ∷ fs) before after old new = ((after ≡ before) × (new ≡ old)) ⊎ PutsFile (path_of I f) before after old new
 
--- For some answer of the outside this is the machine's turn: the next world has the job that is left, the disk has its
+-- For some answer of the outside, which fits it, this is the machine's turn: the next world has the job that is left, the disk has its
 -- configuration files, and the programs that were run are its own; nothing else changes. The answer is a fault of the disk
 -- where the turn failed with Disk.
 pub record IsOneTurn (I : Image) (W : World) (w : Work) (t : Turn) (left : Work) (ran_before ran_after : Option (List Run)) (old new : History) : Type 0 where
   pub answer : Answer
+  pub fitting : fits_work answer w.files w.commands ≡ true
   pub fault : is_disk_fault answer ≡ fails_with_disk t
   pub etc : Files
   pub runs : List Run

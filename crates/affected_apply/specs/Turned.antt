@@ -1,5 +1,5 @@
 -- Turns of the job of a core, as events of the machine.
-use Rattle.std.specs.Prelude.{◌≡◌, ◌||◌, ◌&&◌, ℕ, Bool, List, [], ◌∷◌, Option, Some, None}
+use Rattle.std.specs.Prelude.{◌≡◌, ◌||◌, ◌&&◌, ℕ, Bool, true, List, [], ◌∷◌, Option, Some, None}
 use Rattle.outside.specs.History.{History, IsSettled}
 use Rattle.outside.specs.Spawner.{Run}
 use Rattle.outside.specs.Told.{Moves}
@@ -8,7 +8,7 @@ use Rattle.settings_tree.specs.declared.entry.Entry.TheVariants.{OwedSet}
 use Rattle.settings_tree.specs.declared.entry.Owed.TheVariants as owed
 use Rattle.settings_tree.specs.declared.held.Held.{Held}
 use Rattle.settings_machine.specs.World.{Key, Image, World, Work, Job, Running, is_running}
-use Rattle.settings_machine.specs.Step.{Answer, turn_next}
+use Rattle.settings_machine.specs.Step.{Answer, fits, turn_next}
 use Rattle.settings_machine.specs.Events.{Event, Turned, after}
 use Rattle.settings_machine.specs.Paid.{IsGood}
 use Rattle.machine_disk.specs.Kept.{Folder, CoreState, Kept}
@@ -23,15 +23,19 @@ core_at s held job faulted = record { place = s.place.now; held = held; job = jo
 
 -- ---- one turn
 
--- A turn is one event of the machine, for the answer that the outside gave: on the disk, in the core and in the programs that were run.
-pub record IsEvent (I : Image) (folder : Folder) (W V : World) (before now : CoreState) (ran_before ran_after : Option (List Run)) (old new : History) : Type 0 where
+-- A turn is one event of the machine, for the answer that the outside gave, which fits it: on the disk, in the core and in the programs that were run.
+pub record IsEvent (I : Image) (folder : Folder) (W V : World) (before now : CoreState) (ran_before ran_after : Option (List Run)) (old new : History) : Type
+    0 where
   pub answer : Answer
+  pub fitting : fits W.job answer ≡ true
   pub ran : Ran I folder W V (Turned answer ∷ []) old new before now
   pub runs : Moves ran_before ran_after (λ r s. r ≡ W.runs → s ≡ (turn_next I W answer).runs)
 
 -- By each image that the core holds, in each world at which disk and core are, a turn is one event.
-pub record IsTurn (s : Store) (held : Held) (job : Job) (held_after : Held) (job_left : Job) (ran_before ran_after : Option (List Run)) (old new : History) : Type 0 where
-  pub event : (I : Image) → IsGood I → HoldsImage I s.image.now → (folder : Folder) (faulted : Bool) (W V : World) → Kept I folder W V old (core_at s held job faulted)
+pub record IsTurn (s : Store) (held : Held) (job : Job) (held_after : Held) (job_left : Job) (ran_before ran_after : Option (List Run))
+    (old new : History) : Type 0 where
+  pub event : (I : Image) → IsGood I → HoldsImage I s.image.now → (folder : Folder) (faulted : Bool) (W V : World)
+      → Kept I folder W V old (core_at s held job faulted)
       → IsEvent I folder W V (core_at s held job faulted) (core_at s held_after job_left (faulted || failed_with_disk job_left)) ran_before ran_after old new
 
 -- ---- turns one after another
@@ -52,7 +56,8 @@ pub record AreEvents (I : Image) (folder : Folder) (W V : World) (slice : Option
 -- By each image that the core holds, in each world at which disk and core are, the turns are a slice.
 pub record Turns (s : Store) (slice : Option ℕ) (held : Held) (job : Job) (held_after : Held) (job_left : Job) (ran_before ran_after : Option (List Run))
     (old new : History) : Type 0 where
-  pub events : (I : Image) → IsGood I → HoldsImage I s.image.now → (folder : Folder) (faulted : Bool) (W V : World) → Kept I folder W V old (core_at s held job faulted)
+  pub events : (I : Image) → IsGood I → HoldsImage I s.image.now → (folder : Folder) (faulted : Bool) (W V : World)
+      → Kept I folder W V old (core_at s held job faulted)
       → AreEvents I folder W V slice (core_at s held job faulted)
       (core_at s held_after job_left (faulted || (is_running job && failed_with_disk job_left))) ran_before ran_after old new
 
@@ -65,6 +70,7 @@ noted_change keys = OwedSet (owed.Keys keys) ∷ []
 -- The end of a job is one event of the machine.
 pub record IsLastEvent (I : Image) (folder : Folder) (W V : World) (before now : CoreState) (old new : History) : Type 0 where
   pub answer : Answer
+  pub fitting : fits W.job answer ≡ true
   pub ran : Ran I folder W V (Turned answer ∷ []) old new before now
   pub runs : (turn_next I W answer).runs ≡ W.runs
 

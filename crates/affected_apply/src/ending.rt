@@ -53,7 +53,7 @@ fn next_job(manifest: &Manifest, job: &Job, owed: &Owed) -> Result<JobState, All
     }
 }
 
-// What the end of the job needs. The only error is want of memory.
+// What the end of the job needs. The only error is out of memory.
 fn prepared(
     alloc: Global,
     directory: &Path,
@@ -78,7 +78,7 @@ fn prepared(
 /// the job is idle, or begins again with them where it was asked for again and there are some. The batch and the job that
 /// follows are made before the disk is written. It answers the job.
 ///
-/// The job fails with `Memory` where memory is wanting, before the disk is written, and with `Disk` where the disk fails.
+/// The job fails with `Memory` where it runs out of memory, before the disk is written, and with `Disk` where the disk fails.
 /// It takes the time of a batch of one entry, and of `Job::begin`.
 pub(crate) fn end<D: Disk>(
     alloc: Global,

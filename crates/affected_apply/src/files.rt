@@ -46,7 +46,7 @@ fn put<D: Disk>(view: &View<'_>, file: &Text, bytes: &[u8], disk: &mut D) -> Res
 }
 
 /// Writes the file as its template renders now, by one write of the disk. It fails with `Render` where the
-/// template refuses, with `Disk` where the disk fails, and with `Memory` where memory is wanting; in the
+/// template refuses, with `Disk` where the disk fails, and with `Memory` where it runs out of memory; in the
 /// first and the last case the disk is left alone. It takes the time of `file_bytes` and of the write.
 pub(crate) fn write_file<D: Disk>(
     alloc: Global,

@@ -75,7 +75,7 @@ fn file_turn<D: Disk>(files: &mut Vec<Text>, view: &View<'_>, disk: &mut D) -> T
     }
 }
 
-// Runs the command that is next. Where it ended with status 0 it is done.
+// Runs the command that is next. Where it ended with exit status 0 it is done.
 fn command_turn<S: Spawner>(commands: &mut Vec<Command>, spawner: &mut S) -> Turn
     requires some { 0 < vec_len commands.old }
     requires words { All (λ c. HasWord (seen c)) commands.old.items }
@@ -110,7 +110,7 @@ fn last_turn<D: Disk>(disk: &mut D) -> Turn
 }
 
 impl Job {
-    /// A job of the owed keys: the files and the commands that they concern are to do. The only error is want of memory.
+    /// A job of the owed keys: the files and the commands that they affect are to do. The only error is out of memory.
     /// It takes the time of `Manifest::files_of` and `Manifest::commands_of`.
     pub fn begin(manifest: &Manifest, owed: &Owed) -> Result<Job, AllocError>
         ensures work { IfOk result (λ job. job.work ≡ work_of manifest.now owed.now) }
@@ -130,7 +130,7 @@ impl Job {
         })
     }
 
-    /// Makes room, so that so many keys can be noted without memory. After the only error, want of memory, it has the room
+    /// Makes room, so that so many keys can be noted without memory. After the only error, out of memory, it has the room
     /// that it had.
     pub fn reserve(&mut self, count: usize) -> Result<(), AllocError>
         ensures work { self.new.work ≡ self.old.work }
@@ -206,7 +206,7 @@ impl Job {
 
     /// One turn, over a view of the image that the job began with and of the live settings of now. `Wrote`: the next file
     /// was written, by one write of the disk, with what it renders to. `Ran`: no file was left, and the next command was run
-    /// and ended with status 0. `Done`: nothing was left, and the disk was synced.
+    /// and ended with exit status 0. `Done`: nothing was left, and the disk was synced.
     ///
     /// `Failed` leaves what it was to do still to do. Its causes are `Render` exactly where the template of the next file
     /// refuses, `Status` exactly where the next command ended with another status, `Disk` and `Spawn` only where the device's

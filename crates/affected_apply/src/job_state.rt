@@ -27,7 +27,7 @@ impl JobState {
         matches!(self, JobState::Running(_))
     }
 
-    /// How it stands, as a client is told. The only error is out of memory.
+    /// Its status, as a client gets it. The only error is out of memory.
     pub fn status(&self) -> Result<JobStatus, AllocError>
         ensures { IfOk result (λ status. status ≡ job_status (job_of self.now)) }
     {

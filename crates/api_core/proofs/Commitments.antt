@@ -19,10 +19,9 @@ use Rattle.settings_machine.specs.World.{Image, World, Job}
 use Rattle.settings_machine.specs.Requests.{Request}
 use Rattle.settings_machine.specs.Step.{Answered, WithoutMemory, Faulted, failing, answered, request_next}
 use Rattle.settings_machine.specs.Events.{Asked, next}
-use Rattle.settings_machine.specs.Laws.{IsKept}
-use Rattle.settings_machine.specs.Paid.{IsGood}
+use Rattle.settings_machine.specs.Paid.{IsFit, IsGood}
 use Rattle.settings_machine.proofs.Answering.{Keeps, answered_keeps}
-use Rattle.settings_machine.proofs.PaidLaws.{files_stay_paid}
+use Rattle.settings_machine.proofs.PaidLaws.{fit_stays}
 use Rattle.machine_disk.specs.Store.{IsReadyAt}
 use Rattle.machine_disk.specs.Kept.{Folder, CoreState, Kept}
 use Rattle.machine_disk.specs.Ran.{Ran}
@@ -41,14 +40,16 @@ use Rattle.api_core.specs.Plans.{MayCommit, with_core, IsPlanned, Plans, Replies
 use Rattle.api_core.specs.declared.planned.Effect.{Effect}
 use Rattle.api_core.specs.declared.serving.Core.{Core}
 
-module _ (I : Image) (folder : Folder) (W V : World) (old : History) (before : CoreState) (kept : Kept I folder W V old before) (calm : before.faulted ≡ false) where
+module _ (I : Image) (folder : Folder) (W V : World) (old : History) (before : CoreState) (kept : Kept I folder W V old before)
+    (calm : before.faulted ≡ false) where
   held_is : W.held ≡ before.held
   held_is = core_holds I folder W V old before kept calm
 
   same_world : with_core W before.held before.job ≡ W
   same_world = ap (λ (h : Held). with_core W h before.job) (sym held_is) ∙ ap (λ (j : Job). with_core W W.held j) kept.core.job
 
-  replied_at_core : (q : Request) (answer : Answer) (effect : Effect) → IsPlanned I before.held before.job q answer effect → (answered I W q).reply ≡ reply_of answer
+  replied_at_core : (q : Request) (answer : Answer) (effect : Effect) → IsPlanned I before.held before.job q answer effect
+      → (answered I W q).reply ≡ reply_of answer
   replied_at_core q answer effect planned = ap (λ (X : World). (answered I X q).reply) (sym same_world) ∙ planned.replies W
 
 module _ (I : Image) (good : IsGood I) (folder : Folder) (W V : World) (old : History) (before : CoreState) (kept : Kept I folder W V old before)
@@ -66,8 +67,8 @@ module _ (I : Image) (good : IsGood I) (folder : Folder) (W V : World) (old : Hi
     job_at : job_after effect.next before.job ≡ (answered I W q).world.job
     job_at = planned.job_is W ∙ ap (λ (X : World). (answered I X q).world.job) world
 
-    kept_after : IsKept I (next I W (Asked q Answered))
-    kept_after = files_stay_paid I good W (record { fit = kept.fit; paid = kept.disk.paid }) (Asked q Answered ∷ []) refl
+    fit_after : IsFit I (next I W (Asked q Answered))
+    fit_after = fit_stays I good W kept.fit (Asked q Answered ∷ []) refl
 
     quiet_event : (now : CoreState) → effect.change ≡ [] → now ≡ record before { job = job_after effect.next before.job }
         → IsEvent I folder W V q (Ok tt) old old before now
@@ -76,11 +77,9 @@ module _ (I : Image) (good : IsGood I) (folder : Folder) (W V : World) (old : Hi
       outcome = Answered;
       is = refl;
       ran = subst (Ran I folder W V (Asked q Answered ∷ []) old old before) (sym is)
-          (ran_calm I folder W V old before kept (Asked q Answered) (record before { job = job_after effect.next before.job }) alike k.fit k.paid job_at refl refl calm calm refl);
+          (ran_calm I folder W V old before kept (Asked q Answered) (record before { job = job_after effect.next before.job }) alike fit_after job_at refl refl
+          calm calm refl);
     } where
-      k : IsKept I (next I W (Asked q Answered))
-      k = kept_after
-
       keeps : Keeps I W (answered I W q).world
       keeps = answered_keeps I W q
 
@@ -92,11 +91,13 @@ module _ (I : Image) (good : IsGood I) (folder : Folder) (W V : World) (old : Hi
 
     module _ (may : (batch : Changes) → batch.dir ≡ before.place.directory → Follows effect.change batch.entries
         → Stands (files_after batch old) (laid before.held effect.change) 2) where
-      stands : (batch : Changes) → batch.dir ≡ before.place.directory → Follows effect.change batch.entries → Stands (files_after batch old) (answered I W q).world.held 2
+      stands : (batch : Changes) → batch.dir ≡ before.place.directory → Follows effect.change batch.entries
+          → Stands (files_after batch old) (answered I W q).world.held 2
       stands batch dir follows = subst (λ (h : Held). Stands (files_after batch old) h 2) held_at (may batch dir follows)
 
       written_event : (new : History) (now : CoreState) (batch : Changes) → batch.dir ≡ before.place.directory → Follows effect.change batch.entries
-          → journal.Commits {E = Failed} batch (Ok tt) old new → now ≡ record before { held = laid before.held effect.change; job = job_after effect.next before.job; faulted = false }
+          → journal.Commits {E = Failed} batch (Ok tt) old new → now ≡
+          record before { held = laid before.held effect.change; job = job_after effect.next before.job; faulted = false }
           → IsEvent I folder W V q (Ok tt) old new before now
       unfolding request_next
       written_event new now batch dir follows commits is = record {
@@ -104,16 +105,24 @@ module _ (I : Image) (good : IsGood I) (folder : Folder) (W V : World) (old : Hi
         is = refl;
         ran = subst (Ran I folder W V (Asked q Answered ∷ []) old new before)
             (ap (λ (h : Held). let s : CoreState = record before { held = h; job = (answered I W q).world.job; faulted = false } in s) (sym held_at)
-            ∙ ap (λ (j : Job). let s : CoreState = record before { held = laid before.held effect.change; job = j; faulted = false } in s) (sym job_at) ∙ sym is)
+            ∙ ap (λ (j : Job). let s : CoreState = record before { held = laid before.held effect.change; job = j; faulted = false } in s) (sym job_at)
+            ∙ sym is)
             (ran_answered I good folder W V old new before kept calm q batch dir (stands batch dir follows) commits);
       }
 
-      broken_event : (new : History) (now : CoreState) (batch : Changes) (fault : Failed) → batch.dir ≡ before.place.directory → Follows effect.change batch.entries
-          → journal.Commits batch (Err fault) old new → now ≡ record before { held = laid before.held effect.change; job = failing before.job cause.Disk; faulted = true }
+      broken_event : (new : History) (now : CoreState) (batch : Changes) (fault : Failed) → batch.dir ≡ before.place.directory
+          → Follows effect.change batch.entries
+          → journal.Commits batch (Err fault) old new → now ≡ record before {
+            held = laid before.held effect.change;
+            job =
+                failing before.job cause.Disk;
+            faulted = true;
+          }
           → IsEvent I folder W V q (Err disk.Failed) old new before now
       unfolding request_next
       broken_event new now batch fault dir follows commits is =
-          let f = ran_faulted I good folder W V old new before kept calm q batch dir (stands batch dir follows) fault (laid before.held effect.change) commits in record {
+          let f = ran_faulted I good folder W V old new before kept calm q batch dir (stands batch dir follows) fault (laid before.held effect.change) commits
+          in record {
             outcome = Faulted f.0;
             is = (f.0, refl);
             ran = subst (Ran I folder W V (Asked q (Faulted f.0) ∷ []) old new before)
@@ -128,12 +137,12 @@ module _ (I : Image) (good : IsGood I) (folder : Folder) (W V : World) (old : Hi
     outcome = WithoutMemory;
     is = refl;
     ran = subst (Ran I folder W V (Asked q WithoutMemory ∷ []) old old before) (sym is)
-        (ran_calm I folder W V old before kept (Asked q WithoutMemory) before (record { version = refl; format = refl; held = refl; etc = refl }) kept.fit kept.disk.paid
+        (ran_calm I folder W V old before kept (Asked q WithoutMemory) before (record { version = refl; format = refl; held = refl; etc = refl }) kept.fit
         kept.core.job refl refl calm calm refl);
   }
 
 module _ (c : Core) (q : Request) (calm : c.faulted ≡ false) where
-  -- Memory was wanting, and nothing happened.
+  -- It ran out of memory, and nothing happened.
   pub commits_undone : (now : Core) (old new : History) → IsUndone (core_state c) (core_state now) old new → Commits c q (Err disk.Memory) now old new
   commits_undone now old new undone = record {
     event = λ I good image folder W V kept.
@@ -162,7 +171,8 @@ module _ (c : Core) (q : Request) (calm : c.faulted ≡ false) where
     commits_written : (now : Core) (old new : History) → IsWritten (core_state c) effect (core_state now) old new → Commits c q (Ok tt) now old new
     commits_written now old new w = record {
       event = λ I good image folder W V kept.
-          written_event I good folder W V old (core_state c) kept calm q answer effect (by_image I image) (may_follow I folder W V old kept) new (core_state now)
+          written_event I good folder W V old (core_state c) kept calm q answer effect (by_image I image) (may_follow I folder W V old kept) new
+          (core_state now)
           w.batch w.dir w.follows w.commits w.core;
     }
 

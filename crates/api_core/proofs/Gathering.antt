@@ -53,13 +53,14 @@ module _ {X : Type 0} (at : Key → Option X) (q : Key) where
         by false true = refl
         by false false = refl
 
-  -- What is gathered at a key is what stands there, where the list has the key.
+  -- What is gathered at a key is what is there, where the list has the key.
   pub get-gathered : (keys : List Key) → get (gathered at keys) q ≡ cond (has_key keys q) (at q) None
   unfolding or_before
-  get-gathered keys = get-folded empty keys ∙ ap (λ (o : Option X). cond (has_key keys q) (or_before (at q) o) o) (get-empty {X = X} key_cmp q) ∙ by (at q) where
-    by : (o : Option X) → cond (has_key keys q) (or_before o None) None ≡ cond (has_key keys q) o None
-    by None = refl
-    by (Some x) = refl
+  get-gathered keys = get-folded empty keys ∙ ap (λ (o : Option X). cond (has_key keys q) (or_before (at q) o) o) (get-empty {X = X} key_cmp q)
+      ∙ by (at q) where
+        by : (o : Option X) → cond (has_key keys q) (or_before o None) None ≡ cond (has_key keys q) o None
+        by None = refl
+        by (Some x) = refl
 
 module _ (values : Values) where
   -- Where no key is missing each is a setting.
@@ -70,7 +71,8 @@ module _ (values : Values) where
         → (c || has_key keys q) ≡ true
         → (missing_key values keys ≡ None → has_key keys q ≡ true → is_prefix settings_key q ≡ true) → is_prefix settings_key q ≡ true
     by false c live tied none has rest = absurd (cc none)
-    by true true live tied none has rest = subst (λ (k : Key). is_prefix settings_key k ≡ true) (sym (key_tied q key tied)) (and_parts (is_prefix settings_key key) _ live).0
+    by true true live tied none has rest = subst (λ (k : Key). is_prefix settings_key k ≡ true) (sym (key_tied q key tied))
+        (and_parts (is_prefix settings_key key) _ live).0
     by true false live tied none has rest = rest none has
 
   module _ (keys : List Key) where
@@ -79,7 +81,8 @@ module _ (values : Values) where
     those = settings_where (has_key keys) values
 
     those_rise : T (is_sorted key_cmp those)
-    those_rise = is_sorted-where_key key_cmp (has_key keys) (settings_of values) (is_sorted-where_key key_cmp (is_prefix settings_key) (entries values) (entries_sorted values))
+    those_rise = is_sorted-where_key key_cmp (has_key keys) (settings_of values)
+        (is_sorted-where_key key_cmp (is_prefix settings_key) (entries values) (entries_sorted values))
 
     get-those : (q : Key) → get (from_sorted {R = key_cmp} those) q ≡ cond (has_key keys q) (cond (is_prefix settings_key q) (get values q) None) None
     get-those q = get-from_sorted key_cmp those q those_rise

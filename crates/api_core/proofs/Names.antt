@@ -1,4 +1,4 @@
--- Which values stand below names.
+-- Which values are below names.
 use Rattle.std.proofs.Common.{◌≡◌, ℕ, List, [], ◌∷◌, Option, Some, None, is_some, Bool, true, false, T, cond, ◌&&◌, ◌||◌}
 use Rattle.std.proofs.Common.{filter, fold, inl, inr, refl, sym, ◌∙◌, ap}
 use Rattle.std.specs.List.{list_any}
@@ -17,7 +17,7 @@ use Rattle.settings_machine.specs.Answers.{is_below_one}
 use Rattle.settings_machine.proofs.Elements.{key_tied, key_itself, among_filter, entry_among, entry_stands}
 use Rattle.api_core.specs.Gathered.{has_below, with_pairs, all_named}
 
--- ---- whether a value stands below a key
+-- ---- whether a value is below a key
 
 module _ {E : Type 0} (p : E → Bool) where
   any_among : (es : List E) (e : E) → Among es e → p e ≡ true → list_any p es ≡ true
@@ -33,7 +33,7 @@ module _ {E : Type 0} (p : E → Bool) where
   any_none (x ∷ es) none = ap (λ b. b || list_any p es) (none x (inl refl)) ∙ any_none es (λ e among. none e (inr among))
 
 module _ (values : Values) (key : Key) where
-  -- One that stands there is found,
+  -- One that is there is found,
   pub below_some : (k : Key) (x : Scalar) → IsLeastBelow values key None k x → has_below values key ≡ true
   below_some k x least = any_among (λ e. is_prefix key e.0) (entries values) (k, x) (entry_among key_cmp-IsAntisymmetric values k x least.stands) least.begins
 
@@ -44,10 +44,10 @@ module _ (values : Values) (key : Key) where
     by e among false begins = begins
     by e among true begins = absurd (cc (none.none e.0 tt begins, entry_stands key_cmp-IsAntisymmetric values e.0 e.1 (key_itself e.0) among))
 
--- ---- what stands below names
+-- ---- what is below names
 
 module _ (values : Values) (q : Key) where
-  -- Pairs of the values that are put stand there.
+  -- Pairs of the values that are put are there.
   get-with_pairs : (m : Values) (es : List (Key × Scalar)) → ((e : Key × Scalar) → Among es e → get values e.0 ≡ Some e.1)
       → get (with_pairs m es) q ≡ cond (is_some (find key_cmp q es)) (get values q) (get m q)
   get-with_pairs m [] agree = refl
@@ -60,7 +60,8 @@ module _ (values : Values) (q : Key) where
         by true tied None = sym (agree e (inl refl)) ∙ ap (get values) (sym (key_tied q e.0 tied))
         by false tied o = refl
 
-  get-below : (m : Values) (prefix : Key) → get (with_pairs m (entries_below values prefix)) q ≡ cond (is_prefix prefix q && is_some (get values q)) (get values q) (get m q)
+  get-below : (m : Values) (prefix : Key) → get (with_pairs m (entries_below values prefix)) q ≡ cond (is_prefix prefix q && is_some (get values q))
+      (get values q) (get m q)
   get-below m prefix = get-with_pairs m (entries_below values prefix)
       (λ e among. entry_stands key_cmp-IsAntisymmetric values e.0 e.1 (key_itself e.0) (among_filter (λ e. is_prefix prefix e.0) (entries values) e among).0)
       ∙ ap (λ (o : Option Scalar). cond (is_some o) (get values q) (get m q))
@@ -105,7 +106,7 @@ same_both true o = refl
 same_both false o = refl
 
 module _ (values : Values) (first : List ℕ) (names : List (List ℕ)) where
-  -- What stands below one of the names.
+  -- What is below one of the names.
   abbrev named : List (Key × Scalar)
   named = filter (λ e. is_below_one first names e.0) (entries_below values (first ∷ []))
 
@@ -125,9 +126,11 @@ module _ (values : Values) (first : List ℕ) (names : List (List ℕ)) where
   pub named_entries : entries (all_named values first names) ≡ named
   named_entries = ap entries (same_map key_total key_cmp-IsAntisymmetric (all_named values first names) (from_sorted {R = key_cmp} named)
       (λ q. get-named values q first empty names ∙ ap (λ (o : Option Scalar). cond (is_below_one first names q && is_some (get values q)) (get values q) o)
-      (get-empty {X = Scalar} key_cmp q) ∙ by q (is_below_one first names q) (get values q) refl ∙ sym (get-those q))) ∙ entries-from_sorted key_cmp named named_rise
+      (get-empty {X = Scalar} key_cmp q) ∙ by q (is_below_one first names q) (get values q) refl ∙ sym (get-those q)))
+      ∙ entries-from_sorted key_cmp named named_rise
     where
-      by : (q : Key) (b : Bool) (o : Option Scalar) → is_below_one first names q ≡ b → cond (b && is_some o) o None ≡ cond b (cond (is_prefix (first ∷ []) q) o None) None
+      by : (q : Key) (b : Bool) (o : Option Scalar) → is_below_one first names q ≡ b
+          → cond (b && is_some o) o None ≡ cond b (cond (is_prefix (first ∷ []) q) o None) None
       by q true None below = same_both (is_prefix (first ∷ []) q) None
       by q true (Some x) below = ap (λ c. cond c (Some x) None) (sym (one_begins first names q below))
       by q false None below = refl

@@ -37,10 +37,11 @@ module _ (index : Lists) (key : Key) where
 
 find_marked : (keys : List Key) (q : Key) → find key_cmp q (marked keys) ≡ cond (has_key keys q) there None
 find_marked [] q = refl
-find_marked (key ∷ keys) q = ap (λ (o : Option (Unit {0})). cond (eq_by_cmp key_cmp q key) there o) (find_marked keys q) ∙ by (eq_by_cmp key_cmp q key) (has_key keys q) where
-  by : (b c : Bool) → cond b there (cond c there None) ≡ cond (b || c) there None
-  by true c = refl
-  by false c = refl
+find_marked (key ∷ keys) q = ap (λ (o : Option (Unit {0})). cond (eq_by_cmp key_cmp q key) there o) (find_marked keys q)
+    ∙ by (eq_by_cmp key_cmp q key) (has_key keys q) where
+      by : (b c : Bool) → cond b there (cond c there None) ≡ cond (b || c) there None
+      by true c = refl
+      by false c = refl
 
 each_once : (keys : List Key) → gathered (λ key. there) keys ≡ from_entries {R = key_cmp} (marked keys)
 each_once keys = same_map key_total key_cmp-IsAntisymmetric (gathered (λ key. there) keys) (from_entries {R = key_cmp} (marked keys))

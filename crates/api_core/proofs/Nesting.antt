@@ -83,7 +83,11 @@ module _ {X : Type 0} (m : FinMap key_cmp X) where
 
     nest_first : (first : List ℕ) (p : Key × X → Bool) → ((e : Key × X) → p e ≡ true → is_prefix (first ∷ []) e.0 ≡ true) → (list : List (Key × X))
         → list ≡ filter p (entries m) → AreAlike 1 (keys_of list)
-    nest_first first p more list is = record { apart = some_apart m free p list is; alike = alike_begin first (keys_of list) (tested_begin first p more list is) }
+    nest_first first p more list is = record {
+      apart = some_apart m free p list is;
+      alike =
+          alike_begin first (keys_of list) (tested_begin first p more list is);
+    }
 
     -- those that begin with this segment,
     pub nest_below : (first : List ℕ) (list : List (Key × X)) → list ≡ entries_below m (first ∷ []) → AreAlike 1 (keys_of list)
@@ -91,7 +95,8 @@ module _ {X : Type 0} (m : FinMap key_cmp X) where
 
     -- and some of these.
     pub nest_where : (first : List ℕ) (q : Key × X → Bool) (list : List (Key × X)) → list ≡ filter q (entries_below m (first ∷ [])) → AreAlike 1 (keys_of list)
-    nest_where first q list is = nest_first first (λ e. is_prefix (first ∷ []) e.0 && q e) (λ e both. (and_parts (is_prefix (first ∷ []) e.0) (q e) both).0) list
+    nest_where first q list is = nest_first first (λ e. is_prefix (first ∷ []) e.0 && q e) (λ e both. (and_parts (is_prefix (first ∷ []) e.0) (q e) both).0)
+        list
         (is ∙ filter_both (λ e. is_prefix (first ∷ []) e.0) q (entries m))
 
 -- All that is pending begins with `settings`.

@@ -49,7 +49,8 @@ module _ (values : Values) (p : Key) (some : 0 < length p) where
   -- and below another key there are none.
   pub below_other : is_prefix settings_key p ≡ false → settings_where (is_prefix p) values ≡ []
   below_other other = filter_none (λ e. is_prefix settings_key e.0) (λ e. is_prefix p e.0)
-      (λ e setting. ⊎_elim (λ begins. absurd (cc (settings_begin p e.0 some begins, setting, other))) (λ none. none) (cases_Bool (is_prefix p e.0))) (entries values)
+      (λ e setting. ⊎_elim (λ begins. absurd (cc (settings_begin p e.0 some begins, setting, other))) (λ none. none) (cases_Bool (is_prefix p e.0)))
+      (entries values)
 
 -- A key has a segment.
 pub key_some : (key : Key) → is_key key ≡ true → 0 < length key

@@ -23,7 +23,7 @@ module _ {V : Type 0} (skip : ℕ) where
     by true is none rest = absurd (cc none)
     by false is none rest = (grind (arith, nat_tests), rest none)
 
-  -- Where each key goes on behind the first segments, they make a tree.
+  -- Where each key goes on after the first segments, they make a tree.
   pub make_tree : (es : List (Key × V)) → list_any (λ e. nat_le (length e.0) skip) es ≡ false → AreAlike skip (keys_of es) → MakeTree skip (keys_of es)
   make_tree es none alike = record {
     apart = alike.apart;

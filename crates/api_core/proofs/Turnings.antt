@@ -43,7 +43,8 @@ module _ (c now : Core) (s : Store) (place : s.place.now ≡ c.place) (same_plac
   before_is = ap (λ (p : Place). let x : CoreState = record { place = p; held = c.held; job = job_of c.job; faulted = c.faulted } in x) place
 
   after_is : core_at s now.held (job_of now.job) (faulted_after c now) ≡ core_state now
-  after_is = ap (λ (p : Place). let x : CoreState = record { place = p; held = now.held; job = job_of now.job; faulted = faulted_after c now } in x) (place ∙ sym same_place)
+  after_is = ap (λ (p : Place). let x : CoreState = record { place = p; held = now.held; job = job_of now.job; faulted = faulted_after c now } in x)
+      (place ∙ sym same_place)
       ∙ ap (λ (b : Bool). let x : CoreState = record { place = now.place; held = now.held; job = job_of now.job; faulted = b } in x) (sym faulted)
 
   -- Turns over the store of a core are turns of the core.
@@ -51,9 +52,11 @@ module _ (c now : Core) (s : Store) (place : s.place.now ≡ c.place) (same_plac
       → turned.Turns s slice c.held (job_of c.job) now.held (job_of now.job) ran_before ran_after old new → Turns c slice now ran_before ran_after old new
   turns_of slice ran_before ran_after old new image same_image t = record {
     each = λ I good holds folder W V kept.
-        let u = t.events I good (subst (HoldsImage I) (sym image) holds) folder c.faulted W V (subst (λ (x : CoreState). Kept I folder W V old x) (sym before_is) kept) in record {
+        let u = t.events I good (subst (HoldsImage I) (sym image) holds) folder c.faulted W V
+        (subst (λ (x : CoreState). Kept I folder W V old x) (sym before_is) kept) in record {
           turns = subst (λ (x : CoreState). AreEvents I folder W V slice (core_state c) x ran_before ran_after old new) after_is
-              (subst (λ (x : CoreState). AreEvents I folder W V slice x (core_at s now.held (job_of now.job) (faulted_after c now)) ran_before ran_after old new) before_is u);
+              (subst (λ (x : CoreState). AreEvents I folder W V slice x (core_at s now.held (job_of now.job) (faulted_after c now)) ran_before ran_after old
+              new) before_is u);
           image = subst (HoldsImage I) (sym same_image) holds;
         };
   }

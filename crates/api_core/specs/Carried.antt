@@ -37,7 +37,7 @@ pub record IsBroken (c : CoreState) (effect : Effect) (now : CoreState) (old new
   pub commits : Commits batch (Err fault) old new
   pub core : now ≡ record c { held = laid c.held effect.change; job = failing c.job cause.Disk; faulted = true }
 
--- Memory was wanting, and nothing happened.
+-- It ran out of memory, and nothing happened.
 pub record IsUndone (c now : CoreState) (old new : History) : Type 0 where
   pub core : now ≡ c
   pub disk : new ≡ old

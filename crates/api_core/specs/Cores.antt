@@ -34,7 +34,8 @@ HasOutcome (Err disk.Memory) outcome = outcome ≡ WithoutMemory
 HasOutcome (Err disk.Failed) outcome = (taken : Bool) × (outcome ≡ Faulted taken)
 
 -- A request comes to one event of the machine, on the disk and in the core, crash included.
-pub record IsEvent (I : Image) (folder : Folder) (W V : World) (q : Request) (result : Result Unit DiskErr) (old new : History) (before now : CoreState) : Type 0 where
+pub record IsEvent (I : Image) (folder : Folder) (W V : World) (q : Request) (result : Result Unit DiskErr) (old new : History) (before now : CoreState) : Type
+    0 where
   pub outcome : Outcome
   pub is : HasOutcome result outcome
   pub ran : Ran I folder W V (Asked q outcome ∷ []) old new before now

@@ -1,4 +1,4 @@
--- For private clauses: what stands at the keys of a list.
+-- For private clauses: what is at the keys of a list.
 use Rattle.std.specs.Prelude.{ℕ, Bool, List, [], ◌∷◌, Option, Some, None, fold, nat_lt, if◌then◌else◌}
 use Rattle.std.specs.List.{list_any}
 use Rattle.std.specs.Option.{option_map}
@@ -22,7 +22,7 @@ abbrev pub with_found : {X : Type 0} → FinMap key_cmp X → Key → Option X �
 with_found m key None = m
 with_found m key (Some x) = insert m key x
 
--- What stands at the keys.
+-- What is at the keys.
 abbrev pub gathered : {X : Type 0} → (Key → Option X) → List Key → FinMap key_cmp X
 gathered at keys = fold (λ m key. with_found m key (at key)) empty keys
 
@@ -34,7 +34,7 @@ no_key key = option_map NoKey key
 abbrev pub no_name : Option (List ℕ) → Option Refusal
 no_name name = option_map NoName name
 
--- Whether a value stands at the key or below it.
+-- Whether there is a value at the key or below it.
 abbrev pub has_below : Values → Key → Bool
 has_below values key = list_any (λ e. is_prefix key e.0) (entries values)
 
@@ -42,7 +42,7 @@ has_below values key = list_any (λ e. is_prefix key e.0) (entries values)
 abbrev pub with_pairs : Values → List (Key × Scalar) → Values
 with_pairs m pairs = fold (λ m e. insert m e.0 e.1) m pairs
 
--- What stands below a first name and each of the names.
+-- What is below a first name and each of the names.
 abbrev pub all_named : Values → List ℕ → List (List ℕ) → Values
 all_named values first names = fold (λ m name. with_pairs m (entries_below values (first ∷ name ∷ []))) empty names
 

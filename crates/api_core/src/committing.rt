@@ -20,7 +20,7 @@ use outside::{Disk, DiskErr, Path};
 use settings_tree::{Change, Held};
 use std::alloc::{AllocError, Global};
 
-// Writes the change as a batch, and lays it over what is held; where memory is wanting it lays nothing.
+// Writes the change as a batch, and lays it over what is held; where it runs out of memory it lays nothing.
 fn lay(alloc: Global, dir: &Path, held: &mut Held, change: Change) -> Result<Batch, AllocError>
     requires two_names { length dir.now ≡ 2 }
     requires rule { KeepsPrefixRule (laid held.old change) }

@@ -9,7 +9,7 @@ use key_names::{Key, Text};
 use settings_tree::{Content, OsName, Scalar, is_setting};
 use std::alloc::{AllocError, Global};
 
-/// All live values, rising by key. The only error is want of memory. It takes a logarithmic step for each.
+/// All live values, rising by key. The only error is out of memory. It takes a logarithmic step for each.
 pub(crate) fn all_values(alloc: Global, live: &Content) -> Result<Vec<(Key, Scalar)>, AllocError>
     ensures { IfOk result (λ pairs. pairs.items ≡ entries live.now.values) }
 {
@@ -22,7 +22,7 @@ pub(crate) fn all_values(alloc: Global, live: &Content) -> Result<Vec<(Key, Scal
     Ok(pairs)
 }
 
-/// The live values whose keys begin with this segment, rising by key. The only error is want of memory. It takes a
+/// The live values whose keys begin with this segment, rising by key. The only error is out of memory. It takes a
 /// logarithmic step for each.
 pub(crate) fn values_of(
     alloc: Global,
@@ -37,7 +37,7 @@ pub(crate) fn values_of(
     }
 }
 
-/// The live settings whose keys begin with this one, rising by key. The only error is want of memory. It takes a
+/// The live settings whose keys begin with this one, rising by key. The only error is out of memory. It takes a
 /// logarithmic step for each.
 pub(crate) fn settings_below(
     alloc: Global,
@@ -53,7 +53,7 @@ pub(crate) fn settings_below(
     live.below(prefix)
 }
 
-/// The texts by name. The only error is want of memory.
+/// The texts by name. The only error is out of memory.
 pub(crate) fn texts_of(alloc: Global, names: &[OsName]) -> Result<Vec<(Text, Text)>, AllocError>
     ensures { IfOk result (λ texts. texts.items ≡ map (λ n. (n.name, n.text)) names.now) }
 {

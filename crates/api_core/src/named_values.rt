@@ -12,7 +12,7 @@ use settings_maps::KeyMap;
 use settings_tree::{Content, Scalar};
 use std::alloc::{AllocError, Global};
 
-// The key of the two segments. The only error is want of memory, which is also answered where a segment is none.
+// The key of the two segments. The only error is out of memory, which is also answered where a segment is none.
 fn named_key(alloc: Global, first: &[u8], name: &Text) -> Result<Key, AllocError>
     ensures { IfOk result (λ key. key ≡ first.now ∷ name.now ∷ []) }
 {
@@ -25,7 +25,7 @@ fn named_key(alloc: Global, first: &[u8], name: &Text) -> Result<Key, AllocError
     }
 }
 
-// Whether a value stands at the key or below it.
+// Whether there is a value at the key or below it.
 fn has_below(live: &Content, key: &Key) -> bool
     ensures { result ≡ has_below live.now.values key.now }
 {
@@ -35,7 +35,7 @@ fn has_below(live: &Content, key: &Key) -> bool
     true
 }
 
-// The name, where no value stands below it, and else the later one.
+// The name, where there is no value below it, and else the later one.
 fn missing_first<'a>(
     alloc: Global,
     live: &Content,
@@ -55,7 +55,7 @@ fn missing_first<'a>(
     }
 }
 
-/// The first of the names below which no value stands. The only error is want of memory. It takes a logarithmic step for
+/// The first of the names below which there is no value. The only error is out of memory. It takes a logarithmic step for
 /// each name.
 pub(crate) fn missing_name<'a>(
     alloc: Global,
@@ -106,7 +106,7 @@ fn gather(
     Ok(map)
 }
 
-/// The values that stand below the first name and one of the names, each once and rising by key. The only error is want
+/// The values that are below the first name and one of the names, each once and rising by key. The only error is out
 /// of memory. It takes a logarithmic step or two for each value below a name, as often as the name is given.
 pub(crate) fn named_values(
     alloc: Global,

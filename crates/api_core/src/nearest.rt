@@ -74,7 +74,7 @@ fn lists_of(
     Ok(lists)
 }
 
-/// The nearest list of services of each of the keys that has one, each key once and rising. The only error is want of
+/// The nearest list of services of each of the keys that has one, each key once and rising. The only error is out of
 /// memory. It takes a logarithmic step for each key and each of its prefixes.
 pub(crate) fn nearest_lists(
     alloc: Global,

@@ -27,7 +27,7 @@ pub(crate) enum NextJob {
     Becomes(JobState),
 }
 
-// A job of the owed keys. The only error is want of memory.
+// A job of the owed keys. The only error is out of memory.
 fn begun(manifest: &Manifest, owed: &Owed) -> Result<JobState, AllocError>
     ensures job { IfOk result (λ job. (I : Image) → I.manifest ≡ manifest.now → job_of job ≡ begun I owed.now) }
     ensures rows { IfOk result (λ job. HasRows manifest.now (job_of job)) }
@@ -35,7 +35,7 @@ fn begun(manifest: &Manifest, owed: &Owed) -> Result<JobState, AllocError>
     Ok(JobState::Running(Job::begin(manifest, owed)?))
 }
 
-/// Where nothing is owed the job is idle, a running one is asked for again, and else one begins. The only error is want
+/// Where nothing is owed the job is idle, a running one is asked for again, and else one begins. The only error is out
 /// of memory.
 pub(crate) fn applying(
     manifest: &Manifest,
@@ -55,7 +55,7 @@ pub(crate) fn applying(
     }
 }
 
-/// A running job notes the keys, and then the same. The only error is want of memory.
+/// A running job notes the keys, and then the same. The only error is out of memory.
 pub(crate) fn noting_and_applying(
     manifest: &Manifest,
     job: &JobState,
@@ -86,7 +86,7 @@ fn count_noted(next: &NextJob) -> usize
     }
 }
 
-/// Makes room for the keys that a running job notes. The only error is want of memory.
+/// Makes room for the keys that a running job notes. The only error is out of memory.
 pub(crate) fn reserve(job: &mut JobState, next: &NextJob) -> Result<(), AllocError>
     ensures job { job_of job.new ≡ job_of job.old }
     ensures room { OnOk result (HasRoom next.now job.new) }

@@ -38,7 +38,7 @@ pub(crate) fn without_effect(alloc: Global, answer: Answer) -> Planned
     }
 }
 
-/// The transaction that is to be committed isn't there. The only error is want of memory.
+/// The transaction that is to be committed isn't there. The only error is out of memory.
 pub(crate) fn no_pending(alloc: Global, tx: &TxName) -> Result<Planned, AllocError>
     ensures change { IfOk result (λ planned. planned.effect.change ≡ []) }
     ensures next { IfOk result (λ planned. planned.effect.next ≡ NextJob.Stay) }

@@ -27,7 +27,7 @@ fn has_short_pending(pairs: &[(Key, Pending)], skip: usize) -> bool
     pairs.iter().any(|(key, _)| is_short(key, skip))
 }
 
-// Whether no value stands at the root of the tree.
+// Whether there is no value at the root of the tree.
 fn may_nest(body: &Body) -> bool
     ensures { result ≡ true → CanNest body.now → MayNest body.now }
 {
@@ -38,7 +38,7 @@ fn may_nest(body: &Body) -> bool
     }
 }
 
-/// Whether no value stands at the root of a tree of the answer.
+/// Whether there is no value at the root of a tree of the answer.
 pub(crate) fn may_print(answer: &Answer) -> bool
     ensures { result ≡ true → CanPrint answer.now → MayPrint answer.now }
 {

@@ -82,7 +82,7 @@ impl Core {
         Ok(tree(1, pairs))
     }
 
-    /// The live settings at the keys, or the first key at which none stands.
+    /// The live settings at the keys, or the first key at which there is none.
     pub(crate) fn settings_at(&self, alloc: Global, keys: &[Key]) -> Result<Answer, AllocError>
         requires sound { IsSoundCore self.now }
         ensures reads { IfOk result (IsReading self.now (machine.SettingsAt keys.now)) }
@@ -95,8 +95,8 @@ impl Core {
         }
     }
 
-    // What stands below a first name, or what stands below one of the names there, or the first name below which
-    // nothing stands.
+    // What is below a first name, or what is below one of the names there, or the first name below which
+    // there is nothing.
     fn below_names(
         &self,
         alloc: Global,
@@ -175,7 +175,7 @@ impl Core {
         Ok(Answer::Said(Body::Names(names)))
     }
 
-    /// How the job stands, and what is owed.
+    /// The status of the job, and what is owed.
     pub(crate) fn job_now(&self, alloc: Global) -> Result<Answer, AllocError>
         requires sound { IsSoundCore self.now }
         ensures reads { IfOk result (IsReading self.now machine.JobNow) }

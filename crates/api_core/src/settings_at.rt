@@ -18,7 +18,7 @@ fn is_live_setting(live: &Content, key: &Key) -> bool
     is_setting(key) && live.value(key).is_some()
 }
 
-// The key, where no live setting stands at it, and else the later one.
+// The key, where there is no live setting at it, and else the later one.
 fn missing_first<'a>(live: &Content, key: &'a Key, later: Option<&'a Key>) -> Option<&'a Key>
     ensures { no_key (option_copied result)
         ≡ (if is_live_setting live.now.values key.now then no_key (option_copied later.entry)
@@ -31,7 +31,7 @@ fn missing_first<'a>(live: &Content, key: &'a Key, later: Option<&'a Key>) -> Op
     }
 }
 
-/// The first of the keys at which no live setting stands. It takes a logarithmic step for each, and no memory.
+/// The first of the keys at which there is no live setting. It takes a logarithmic step for each, and no memory.
 pub(crate) fn missing_key<'a>(live: &Content, keys: &'a [Key]) -> Option<&'a Key>
     ensures { no_key (option_copied result) ≡ missing_key live.now.values keys.now }
 {
@@ -63,7 +63,7 @@ fn gather(alloc: Global, live: &Content, keys: &[Key]) -> Result<KeyMap<Scalar>,
     Ok(map)
 }
 
-/// Copies of the entries, rising by key. The only error is want of memory.
+/// Copies of the entries, rising by key. The only error is out of memory.
 pub(crate) fn pairs_of(
     alloc: Global,
     map: &KeyMap<Scalar>,
@@ -79,7 +79,7 @@ pub(crate) fn pairs_of(
     Ok(pairs)
 }
 
-/// The live settings at the keys, at each of which one stands, each once and rising by key. The only error is want of
+/// The live settings at the keys, at each of which there is one, each once and rising by key. The only error is out of
 /// memory. It takes a logarithmic step or two for each key.
 pub(crate) fn settings_at(
     alloc: Global,

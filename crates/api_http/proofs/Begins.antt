@@ -13,7 +13,8 @@ use Rattle.json_trees.specs.Collected.{result_and_then}
 use Rattle.json_trees.proofs.Flat.{All_below-tree_pairs}
 use Rattle.settings_tree.specs.Content.{settings_key}
 use Rattle.settings_machine.specs.Requests.{Request, IsProper}
-use Rattle.api_http.specs.Spelled.{Spells, at_root, at_os, at_settings, at_patch, at_services, at_files, at_affected, at_pending, at_drop, at_list, at_commit, at_apply, at_commit_and_apply, at_job, GivesKeysOrPrefix, by_keys, by_prefix, by_neither}
+use Rattle.api_http.specs.Spelled.{Spells, at_root, at_os, at_settings, at_patch, at_services, at_files, at_affected, at_pending}
+use Rattle.api_http.specs.Spelled.{at_drop, at_list, at_commit, at_apply, at_commit_and_apply, at_job, GivesKeysOrPrefix, by_keys, by_prefix, by_neither}
 use Rattle.api_http.specs.declared.route.Route.{Route}
 use Rattle.api_http.specs.Query.{Pair}
 
@@ -25,18 +26,23 @@ begins (name ∷ rest) e = let same : name ∷ [] ≡ settings_key = e in rw (na
     name_is : (name : List ℕ) → name ∷ [] ≡ settings_key → name ≡ codes "settings"
     name_is name e = cc
 
--- the keys of the pairs of a text that stands at a path begin with this path
-text_below : (o : Option Data) (body : List ℕ) (pairs : List (Path × Pending)) → data_of body ≡ o → flattened pending_leaf settings_key body ≡ Ok pairs → All (λ key. take 1 key ≡ settings_key) (keys_of pairs)
-text_below (Some d) body pairs is e = All_below-tree_pairs pending_leaf settings_key d pairs (sym (ap (λ r. result_and_then (tree_pairs pending_leaf settings_key) (ok_or r NotJson)) is) ∙ e)
+-- the keys of the pairs of a text that is at a path begin with this path
+text_below : (o : Option Data) (body : List ℕ) (pairs : List (Path × Pending)) → data_of body ≡ o → flattened pending_leaf settings_key body ≡ Ok pairs
+    → All (λ key. take 1 key ≡ settings_key) (keys_of pairs)
+text_below (Some d) body pairs is e = All_below-tree_pairs pending_leaf settings_key d pairs
+    (sym (ap (λ r. result_and_then (tree_pairs pending_leaf settings_key) (ok_or r NotJson)) is) ∙ e)
 text_below None body pairs is e = let never = sym (ap (λ r. result_and_then (tree_pairs pending_leaf settings_key) (ok_or r NotJson)) is) ∙ e in cc
 
 -- what holds of the keys holds of the pairs
-All-unmap : (pairs : List (Path × Pending)) → All (λ key. take 1 key ≡ settings_key) (keys_of pairs) → All (λ pair. IsTrue (is_prefix settings_key pair.0)) pairs
+All-unmap : (pairs : List (Path × Pending)) → All (λ key. take 1 key ≡ settings_key) (keys_of pairs)
+    → All (λ pair. IsTrue (is_prefix settings_key pair.0)) pairs
 All-unmap [] h = All-nil (λ (pair : Path × Pending). IsTrue (is_prefix settings_key pair.0))
-All-unmap (pair ∷ pairs) h = All-cons (λ (pair : Path × Pending). IsTrue (is_prefix settings_key pair.0)) pair pairs (begins pair.0 (h 0 pair.0 (omega arith))) (All-unmap pairs (λ k d lt. h (suc k) d (omega arith)))
+All-unmap (pair ∷ pairs) h = All-cons (λ (pair : Path × Pending). IsTrue (is_prefix settings_key pair.0)) pair pairs (begins pair.0 (h 0 pair.0 (omega arith)))
+    (All-unmap pairs (λ k d lt. h (suc k) d (omega arith)))
 
 -- the keys of a patch begin with `settings`
-pub patch_proper : (body : List ℕ) (pairs : List (Path × Pending)) → flattened pending_leaf settings_key body ≡ Ok pairs → All (λ pair. IsTrue (is_prefix settings_key pair.0)) pairs
+pub patch_proper : (body : List ℕ) (pairs : List (Path × Pending)) → flattened pending_leaf settings_key body ≡ Ok pairs
+    → All (λ pair. IsTrue (is_prefix settings_key pair.0)) pairs
 patch_proper body pairs e = All-unmap pairs (text_below _ body pairs refl e)
 
 either_proper : (pairs : List Pair) (q : Request) → GivesKeysOrPrefix pairs q → IsProper q

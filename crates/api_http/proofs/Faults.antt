@@ -57,8 +57,10 @@ two allowed wanted few p q ps = first (is_among allowed p.0) refl
   where
     of_names : Pairs_off p.0 q.0 → QueryFault allowed wanted (p ∷ q ∷ ps)
     of_names (inl (inl same)) = repeated p.0 p.1 q.1 [] [] ps (ap (λ n. p ∷ (n, q.1) ∷ ps) (sym same))
-    of_names (inl (inr (keys, prefix))) = both p.1 q.1 (subst (λ n. Contains (p ∷ q ∷ ps) (n, p.1)) keys (first_one p (q ∷ ps))) (subst (λ n. Contains (p ∷ q ∷ ps) (n, q.1)) prefix (second_one p q ps))
-    of_names (inr (prefix, keys)) = both q.1 p.1 (subst (λ n. Contains (p ∷ q ∷ ps) (n, q.1)) keys (second_one p q ps)) (subst (λ n. Contains (p ∷ q ∷ ps) (n, p.1)) prefix (first_one p (q ∷ ps)))
+    of_names (inl (inr (keys, prefix))) = both p.1 q.1 (subst (λ n. Contains (p ∷ q ∷ ps) (n, p.1)) keys (first_one p (q ∷ ps)))
+        (subst (λ n. Contains (p ∷ q ∷ ps) (n, q.1)) prefix (second_one p q ps))
+    of_names (inr (prefix, keys)) = both q.1 p.1 (subst (λ n. Contains (p ∷ q ∷ ps) (n, q.1)) keys (second_one p q ps))
+        (subst (λ n. Contains (p ∷ q ∷ ps) (n, p.1)) prefix (first_one p (q ∷ ps)))
 
     second : (b : Bool) → is_among allowed q.0 ≡ b → is_among allowed p.0 ≡ true → QueryFault allowed wanted (p ∷ q ∷ ps)
     second true is is' = of_names (few p.0 q.0 is' is)
@@ -73,14 +75,16 @@ pub several : (allowed wanted : List (List ℕ)) (pairs : List Pair) → Few all
 several allowed wanted pairs few (p, q, ps, is) = subst (QueryFault allowed wanted) (sym is) (two allowed wanted few p q ps)
 
 -- a bad pair alone is at fault
-pub bad_pair : (allowed wanted : List (List ℕ)) (pairs : List Pair) (name value : List ℕ) → pairs ≡ (name, value) ∷ [] → IsBadPair allowed name value → QueryFault allowed wanted pairs
+pub bad_pair : (allowed wanted : List (List ℕ)) (pairs : List Pair) (name value : List ℕ) → pairs ≡ (name, value) ∷ [] → IsBadPair allowed name value
+    → QueryFault allowed wanted pairs
 bad_pair allowed wanted pairs name value is (inl strange) = subst (QueryFault allowed wanted) (sym is) (unknown name value (first_one (name, value) []) strange)
 bad_pair allowed wanted pairs name value is (inr wrong) = subst (QueryFault allowed wanted) (sym is) (outside name value (first_one (name, value) []) wrong)
 
--- where no pair may stand, one is at fault
+-- where no pair may be, one is at fault
 pub one_too_many : (wanted : List (List ℕ)) (pairs : List Pair) (p : Pair) → pairs ≡ p ∷ [] → QueryFault [] wanted pairs
 one_too_many wanted pairs p is = subst (QueryFault [] wanted) (sym is) (unknown p.0 p.1 (first_one p []) refl)
 
 -- where a pair is wanted, none is at fault
 pub nothing_there : (allowed : List (List ℕ)) (name : List ℕ) (pairs : List Pair) → pairs ≡ [] → QueryFault allowed (name ∷ []) pairs
-nothing_there allowed name pairs is = subst (QueryFault allowed (name ∷ [])) (sym is) (missing name (0, omega arith, refl) (λ value (k, within, _). absurd (omega (arith, within))))
+nothing_there allowed name pairs is = subst (QueryFault allowed (name ∷ [])) (sym is)
+    (missing name (0, omega arith, refl) (λ value (k, within, _). absurd (omega (arith, within))))

@@ -6,7 +6,8 @@ use Rattle.api_http.specs.declared.route.Route.{Route}
 use Rattle.api_http.specs.Fields.{has_bad_length, has_field, body_length}
 use Rattle.api_http.specs.Routes.{has_path}
 use Rattle.api_http.specs.Query.{HasQueryFault}
-use Rattle.api_http.specs.Requests.{Told, path_of, pairs_of, route_told, Shows, bad_length, no_path, no_method, bad_query, transfer_coded, long_body, place, ShowsFirst, IsClean}
+use Rattle.api_http.specs.Requests.{Told, path_of, pairs_of, route_told, Shows, bad_length, no_path}
+use Rattle.api_http.specs.Requests.{no_method, bad_query, transfer_coded, long_body, place, ShowsFirst, IsClean}
 
 not_both : {A : Type 0} (x y : A) (P : A → Type 0) → x ≡ y → P x → P y
 not_both x y P e p = subst P e p
@@ -24,7 +25,7 @@ first_bad_length t bad = record { shows = bad_length bad; first = λ other s. le
     least _ (long_body _) = omega arith
 
 module _ (t : Told) (sound : has_bad_length t.fields ≡ false) where
-  -- of a head with a sound length an unknown path is told first
+  -- of a head with a sound length an unknown path is reported first
   pub first_no_path : has_path (path_of t) ≡ false → ShowsFirst t NoPath
   first_no_path none = record { shows = no_path none; first = λ other s. least other s }
     where

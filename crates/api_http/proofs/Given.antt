@@ -1,5 +1,6 @@
 -- The values that queries give, from what the code saw of them.
-use Rattle.std.proofs.Common.{◌≡◌, ℕ, ◌<◌, ◌≤◌, false, List, [], ◌∷◌, length, map, get_or, Bor, inl, inr, refl, ap, ◌∙◌, arith, Option, Some, None, IfSome, Result, Ok, Err, String, IfOk}
+use Rattle.std.proofs.Common.{◌≡◌, ℕ, ◌<◌, ◌≤◌, false, List, [], ◌∷◌, length, map, get_or, Bor, inl}
+use Rattle.std.proofs.Common.{inr, refl, ap, ◌∙◌, arith, Option, Some, None, IfSome, Result, Ok, Err, String, IfOk}
 use Rattle.std.specs.Global.{Global}
 use Rattle.std.specs.List.{list_all}
 use Rattle.std.proofs.lemmas.List.Folds.{list_all-map, list_all_at}
@@ -25,11 +26,13 @@ two_texts (p ∷ []) h = absurd (omega arith)
 two_texts (p ∷ q ∷ ps) h = (_, _, _, refl)
 
 -- a piece that is no name spoils the list
-pub no_name : (pieces : List (Bor (List ℕ))) (i : ℕ) (d : Bor (List ℕ)) → i < length pieces → is_meta_name (get_or pieces i d).now ≡ false → list_all is_meta_name (map (λ p. p.now) pieces) ≡ false
+pub no_name : (pieces : List (Bor (List ℕ))) (i : ℕ) (d : Bor (List ℕ)) → i < length pieces → is_meta_name (get_or pieces i d).now ≡ false
+    → list_all is_meta_name (map (λ p. p.now) pieces) ≡ false
 no_name pieces i d within bad = list_all-map is_meta_name (λ p. p.now) pieces ∙ list_all_at (λ p. is_meta_name p.now) pieces i d within bad
 
 -- the one pair gives the keys or the prefix
-pub either_given : (pairs : List Pair) (name value : List ℕ) (q : machine.Request) → pairs ≡ (name, value) ∷ [] → IsGivenEither name value q → GivesKeysOrPrefix pairs q
+pub either_given : (pairs : List Pair) (name value : List ℕ) (q : machine.Request) → pairs ≡ (name, value) ∷ [] → IsGivenEither name value q
+    → GivesKeysOrPrefix pairs q
 either_given pairs name value q is (inl (listed, named, lists, q_is)) =
     rw q_is (by_keys listed (record { value = value; given = is ∙ ap (λ n. (n, value) ∷ []) named; lists = lists }))
 either_given pairs name value q is (inr (key, named, spells, q_is)) =

@@ -1,10 +1,12 @@
 -- Line feeds of a head, and of the bytes that may hold it.
-use Rattle.std.proofs.Common.{◌≡◌, ℕ, zero, suc, ◌+◌, ◌-◌, ◌<◌, ◌≤◌, List, [], ◌∷◌, ◌++◌, length, take, drop, get_or, refl, ap, ◌∙◌, arith, cond, ◌==◌, if◌then◌else◌, Bool, true, false, ne_eqb, append-nil}
+use Rattle.std.proofs.Common.{◌≡◌, ℕ, zero, suc, ◌+◌, ◌-◌, ◌<◌, ◌≤◌, List, [], ◌∷◌, ◌++◌, length, take}
+use Rattle.std.proofs.Common.{drop, get_or, refl, ap, ◌∙◌, arith, cond, ◌==◌, if◌then◌else◌, Bool, true, false, ne_eqb, append-nil}
 use Rattle.std.proofs.Math.Seq.{take-suc, drop-cons}
 use Rattle.std.proofs.lemmas.List.Sums.{sum_by-cons, sum_by-append}
 use Rattle.std.specs.List.{flat_map}
 use Rattle.httparse.specs.Ascii.{space, colon}
-use Rattle.httparse.specs.Grammar.{LineEnd, crlf, lf, print_end, Field, print_field, print_section, print_blank, RequestHead, print_request, print_version, ReadsRequest, HasNoRequest}
+use Rattle.httparse.specs.Grammar.{LineEnd, crlf, lf, print_end, Field, print_field}
+use Rattle.httparse.specs.Grammar.{print_section, print_blank, RequestHead, print_request, print_version, ReadsRequest, HasNoRequest}
 use Rattle.httparse.specs.Spans.{RequestOverflows, RequestExceeds}
 use Rattle.api_http.specs.Heads.{line_feeds, lines_end, shown}
 
@@ -62,21 +64,26 @@ line_feeds-take : (xs : List ℕ) (i : ℕ) → i < length xs → line_feeds (ta
 line_feeds-take xs i h =
     let next : i + 1 ≡ suc i = omega arith in
     let one : line_feeds (get_or xs i 0 ∷ []) ≡ mark (get_or xs i 0) = omega (arith, line_feeds-cons (get_or xs i 0) [], line_feeds-nil) in
-    ap (λ n. line_feeds (take n xs)) next ∙ ap line_feeds (take-suc xs i 0 h) ∙ line_feeds-append (take i xs) (get_or xs i 0 ∷ []) ∙ ap (λ n. line_feeds (take i xs) + n) one
+    ap (λ n. line_feeds (take n xs)) next ∙ ap line_feeds (take-suc xs i 0 h) ∙ line_feeds-append (take i xs) (get_or xs i 0 ∷ [])
+    ∙ ap (λ n. line_feeds (take i xs) + n) one
 
-lines_end-drop : (xs : List ℕ) (i left : ℕ) → i < length xs → 0 < left → lines_end left (drop i xs) ≡ suc (lines_end (left - mark (get_or xs i 0)) (drop (i + 1) xs))
+lines_end-drop : (xs : List ℕ) (i left : ℕ) → i < length xs → 0 < left
+    → lines_end left (drop i xs) ≡ suc (lines_end (left - mark (get_or xs i 0)) (drop (i + 1) xs))
 lines_end-drop xs i left h some =
     let next : suc i ≡ i + 1 = omega arith in
-    ap (lines_end left) (drop-cons xs i 0 h) ∙ lines_end-more left (get_or xs i 0) (drop (suc i) xs) some ∙ ap (λ n. suc (lines_end (left - mark (get_or xs i 0)) (drop n xs))) next
+    ap (lines_end left) (drop-cons xs i 0 h) ∙ lines_end-more left (get_or xs i 0) (drop (suc i) xs) some
+    ∙ ap (λ n. suc (lines_end (left - mark (get_or xs i 0)) (drop n xs))) next
 
 -- one turn of the loop that looks for the end of the line feeds
-pub turn : (xs : List ℕ) (i left m : ℕ) → i < length xs → 0 < left → mark (get_or xs i 0) ≡ m → lines_end 66 xs ≡ i + lines_end left (drop i xs) → left + line_feeds (take i xs) ≡ 66
+pub turn : (xs : List ℕ) (i left m : ℕ) → i < length xs → 0 < left → mark (get_or xs i 0) ≡ m → lines_end 66 xs ≡ i + lines_end left (drop i xs)
+    → left + line_feeds (take i xs) ≡ 66
     → (lines_end 66 xs ≡ (i + 1) + lines_end (left - m) (drop (i + 1) xs)) × ((left - m) + line_feeds (take (i + 1) xs) ≡ 66)
 turn xs i left m h some is end count =
     let small = small_mark (get_or xs i 0) in
     let here = lines_end-drop xs i left h some in
     let more = line_feeds-take xs i h in
-    let same : lines_end (left - mark (get_or xs i 0)) (drop (i + 1) xs) ≡ lines_end (left - m) (drop (i + 1) xs) = ap (λ k. lines_end (left - k) (drop (i + 1) xs)) is in
+    let same : lines_end (left - mark (get_or xs i 0)) (drop (i + 1) xs) ≡ lines_end (left - m) (drop (i + 1) xs) =
+    ap (λ k. lines_end (left - k) (drop (i + 1) xs)) is in
     (omega arith, omega arith)
 
 -- the end of no lines is at the front
@@ -113,7 +120,8 @@ take-nil (suc n) = refl
 few_lines : (n : ℕ) (bs : List ℕ) → line_feeds (take (lines_end n bs) bs) ≤ n
 few_lines n [] = omega (arith, line_feeds-nil, ap line_feeds (take-nil n))
 few_lines zero (b ∷ bs) = omega (arith, line_feeds-nil)
-few_lines (suc k) (b ∷ bs) = rw (lines_end-more (suc k) b bs (omega arith)) (omega (arith, small_mark b, line_feeds-cons b (take (lines_end (suc k - mark b) bs) bs), few_lines (suc k - mark b) bs))
+few_lines (suc k) (b ∷ bs) = rw (lines_end-more (suc k) b bs (omega arith))
+    (omega (arith, small_mark b, line_feeds-cons b (take (lines_end (suc k - mark b) bs) bs), few_lines (suc k - mark b) bs))
 
 -- the bytes looked at hold 66 line feeds at most
 pub shown_lines : (bs : List ℕ) → line_feeds (shown bs) ≤ 66

@@ -16,7 +16,9 @@ use Rattle.api_http.specs.Query.{Pair}
 use Rattle.settings_machine.specs.Asked.{request_of}
 use Rattle.settings_machine.specs.Requests as machine
 use Rattle.api_http.specs.Spelled.{Spells, at_patch}
-use Rattle.api_http.specs.Requests.{Told, told, pairs_of, route_told, Shows, bad_length, no_path, no_method, bad_query, transfer_coded, long_body, place, ShowsFirst, Asks, Refuses, too_long, many_lines, in_head, in_body, MayRefuse, Waits, for_head, for_body, IfWhole, IfRefused, IsWhole}
+use Rattle.api_http.specs.Requests.{Told, told, pairs_of, route_told, Shows, bad_length}
+use Rattle.api_http.specs.Requests.{no_path, no_method, bad_query, transfer_coded, long_body, place, ShowsFirst}
+use Rattle.api_http.specs.Requests.{Asks, Refuses, too_long, many_lines, in_head, in_body, MayRefuse, Waits, for_head, for_body, IfWhole, IfRefused, IsWhole}
 use Rattle.api_http.proofs.OneRequest.{one_request}
 
 -- ---- one head
@@ -30,7 +32,8 @@ pub same_head : (bytes : List ℕ) (h k : RequestHead) (rest more : List ℕ) �
 same_head bytes h k rest more a b = let same = request_unique bytes h k rest more a.reads b.reads in record { head = same.0; behind = same.1 }
 
 -- a body that is no tree spells no patch
-pub no_tree_asked : (pairs : List Pair) (body : List ℕ) (e : TreeError) (r : Route) (q : machine.Request) → r ≡ Patch → flattened pending_leaf settings_key body ≡ Err e → Spells pairs body r q → ⊥
+pub no_tree_asked : (pairs : List Pair) (body : List ℕ) (e : TreeError) (r : Route) (q : machine.Request) → r ≡ Patch
+    → flattened pending_leaf settings_key body ≡ Err e → Spells pairs body r q → ⊥
 no_tree_asked pairs body e r q is wrong spells = by q (subst (λ x. Spells pairs body x q) is spells)
   where
     by : (q : machine.Request) → Spells pairs body Patch q → ⊥
@@ -60,9 +63,12 @@ module _ (bytes : List ℕ) where
       let same = same_head bytes a.head b.head a.rest b.rest a.clean.whole b.clean.whole in
       let route_is : a.route ≡ b.route = let e = sym a.route_is ∙ ap (λ h. route_told (told h)) same.head ∙ b.route_is in cc in
       let told_is = ap told same.head in
-      let first : Spells (pairs_of (told b.head)) (take (body_length (told b.head).fields) a.rest) a.route q = subst (λ h. Spells (pairs_of (told h)) (take (body_length (told h).fields) a.rest) a.route q) same.head a.spells in
-      let second : Spells (pairs_of (told b.head)) (take (body_length (told b.head).fields) b.rest) a.route q = subst (λ l. Spells (pairs_of (told b.head)) (take (body_length (told b.head).fields) l) a.route q) same.behind first in
-      let third : Spells (pairs_of (told b.head)) (take (body_length (told b.head).fields) b.rest) b.route q = subst (λ r. Spells (pairs_of (told b.head)) (take (body_length (told b.head).fields) b.rest) r q) route_is second in (
+      let first : Spells (pairs_of (told b.head)) (take (body_length (told b.head).fields) a.rest) a.route q =
+      subst (λ h. Spells (pairs_of (told h)) (take (body_length (told h).fields) a.rest) a.route q) same.head a.spells in
+      let second : Spells (pairs_of (told b.head)) (take (body_length (told b.head).fields) b.rest) a.route q =
+      subst (λ l. Spells (pairs_of (told b.head)) (take (body_length (told b.head).fields) l) a.route q) same.behind first in
+      let third : Spells (pairs_of (told b.head)) (take (body_length (told b.head).fields) b.rest) b.route q =
+      subst (λ r. Spells (pairs_of (told b.head)) (take (body_length (told b.head).fields) b.rest) r q) route_is second in (
         one_request _ _ b.route q q' third b.spells,
         a.length_is ∙ ap (λ h. length (print_request h) + body_length (told h).fields) same.head ∙ sym b.length_is,
       )
@@ -77,8 +83,10 @@ module _ (bytes : List ℕ) where
   asked_not_refused q n _ a (in_body h rest e clean body route_is wrong) =
       let same = same_head bytes a.head h a.rest rest a.clean.whole clean.whole in
       let patch : a.route ≡ Patch = let e = sym a.route_is ∙ ap (λ k. route_told (told k)) same.head ∙ route_is in cc in
-      let first : Spells (pairs_of (told h)) (take (body_length (told h).fields) a.rest) a.route q = subst (λ k. Spells (pairs_of (told k)) (take (body_length (told k).fields) a.rest) a.route q) same.head a.spells in
-      let second : Spells (pairs_of (told h)) (take (body_length (told h).fields) rest) a.route q = subst (λ l. Spells (pairs_of (told h)) (take (body_length (told h).fields) l) a.route q) same.behind first in
+      let first : Spells (pairs_of (told h)) (take (body_length (told h).fields) a.rest) a.route q =
+      subst (λ k. Spells (pairs_of (told k)) (take (body_length (told k).fields) a.rest) a.route q) same.head a.spells in
+      let second : Spells (pairs_of (told h)) (take (body_length (told h).fields) rest) a.route q =
+      subst (λ l. Spells (pairs_of (told h)) (take (body_length (told h).fields) l) a.route q) same.behind first in
       no_tree_asked _ _ e a.route q patch wrong second
 
   -- and its head is not hopeless

@@ -9,7 +9,10 @@ use Rattle.api_http.specs.declared.route.Route.{Route}
 use Rattle.api_http.specs.Query.{Pair, ListsNames}
 use Rattle.settings_machine.specs.World.{Key}
 use Rattle.settings_machine.specs.Requests as machine
-use Rattle.api_http.specs.Spelled.{NamesTx, named, unnamed, GivesNames, by_names, without_names, GivesKeys, GivesKeysOrPrefix, by_keys, by_prefix, by_neither, Spells, at_root, at_os, at_settings, at_patch, at_services, at_files, at_affected, at_pending, at_drop, at_list, at_commit, at_apply, at_commit_and_apply, at_job}
+use Rattle.api_http.specs.Spelled.{NamesTx, named, unnamed, GivesNames, by_names, without_names}
+use Rattle.api_http.specs.Spelled.{GivesKeys, GivesKeysOrPrefix, by_keys, by_prefix, by_neither, Spells, at_root}
+use Rattle.api_http.specs.Spelled.{at_os, at_settings, at_patch, at_services, at_files, at_affected}
+use Rattle.api_http.specs.Spelled.{at_pending, at_drop, at_list, at_commit, at_apply, at_commit_and_apply, at_job}
 
 first_name : List Pair → List ℕ
 first_name [] = []

@@ -24,7 +24,8 @@ use Rattle.api_http.proofs.Shown.{head_from_shown}
 use Rattle.api_http.specs.Plans.{IsPlan, Tells, IsNoTree, ReadsAs}
 
 -- the body is there and spells the request
-pub asked : (t : Told) (plan : Plan) (size n k : ℕ) (rest body : List ℕ) (request : Request) → Tells t (Planned plan size) → size ≤ length rest → body ≡ take size rest → ((r : Route) (pairs : List Pair) → IsPlan r pairs plan → Spells pairs body r (request_of request)) → k ≡ n + size
+pub asked : (t : Told) (plan : Plan) (size n k : ℕ) (rest body : List ℕ) (request : Request) → Tells t (Planned plan size) → size ≤ length rest
+    → body ≡ take size rest → ((r : Route) (pairs : List Pair) → IsPlan r pairs plan → Spells pairs body r (request_of request)) → k ≡ n + size
     → ReadsAs t rest n (Whole request k)
 asked t plan size n k rest body request (clean, size_is, planned) there body_is spells k_is = (
   record {
@@ -32,13 +33,15 @@ asked t plan size n k rest body request (clean, size_is, planned) there body_is 
     body = omega (arith, there, size_is);
     route = planned.route;
     route_is = planned.route_is;
-    spells = subst (λ b. Spells (pairs_of t) b planned.route (request_of request)) (body_is ∙ ap (λ m. take m rest) size_is) (spells planned.route (pairs_of t) planned.plan_is);
+    spells = subst (λ b. Spells (pairs_of t) b planned.route (request_of request)) (body_is ∙ ap (λ m. take m rest) size_is)
+        (spells planned.route (pairs_of t) planned.plan_is);
   },
   k_is ∙ ap (λ m. n + m) size_is,
 )
 
 -- the body is there and is no tree
-pub body_refused : (t : Told) (plan : Plan) (size n : ℕ) (rest body : List ℕ) → Tells t (Planned plan size) → size ≤ length rest → body ≡ take size rest → ((r : Route) (pairs : List Pair) → IsPlan r pairs plan → (r ≡ route.Patch) × IsNoTree body)
+pub body_refused : (t : Told) (plan : Plan) (size n : ℕ) (rest body : List ℕ) → Tells t (Planned plan size) → size ≤ length rest → body ≡ take size rest
+    → ((r : Route) (pairs : List Pair) → IsPlan r pairs plan → (r ≡ route.Patch) × IsNoTree body)
     → ReadsAs t rest n (Refused Body)
 body_refused t plan size n rest body (clean, size_is, planned) there body_is refuses =
     let wrong = refuses planned.route (pairs_of t) planned.plan_is in
@@ -83,7 +86,8 @@ module _ (bytes : List ℕ) (h : RequestHead) (rest : List ℕ) (whole : IsWhole
   waits_said (Refused r) said is = cc
 
 -- the head that the parser found is one of the bytes
-pub found_head : (bytes part : List ℕ) (headers : List HeaderSpan) (r : RequestSpans) (h : RequestHead) → part ≡ shown bytes → IsRequestAt part headers r h → IsWholeHead bytes h (drop r.len bytes) × (length (print_request h) ≡ r.len)
+pub found_head : (bytes part : List ℕ) (headers : List HeaderSpan) (r : RequestSpans) (h : RequestHead) → part ≡ shown bytes → IsRequestAt part headers r h
+    → IsWholeHead bytes h (drop r.len bytes) × (length (print_request h) ≡ r.len)
 found_head bytes part headers r h part_is at =
     let reads = subst (λ p. ReadsRequest p h (drop r.len part)) part_is at.reads in
     let there = head_from_shown bytes h (drop r.len part) reads in
@@ -99,11 +103,13 @@ found_head bytes part headers r h part_is at =
     )
 
 -- the parser finds no head where there is none
-pub found_whole_head : (bytes part : List ℕ) (headers : List HeaderSpan) (r : RequestSpans) → part ≡ shown bytes → IsRequestOf part headers r → HoldsNoHead bytes → ⊥
+pub found_whole_head : (bytes part : List ℕ) (headers : List HeaderSpan) (r : RequestSpans) → part ≡ shown bytes → IsRequestOf part headers r
+    → HoldsNoHead bytes → ⊥
 found_whole_head bytes part headers r part_is at none = none at.0 (drop r.len bytes) (found_head bytes part headers r at.0 part_is at.1).0
 
 -- what the parser found is what the head tells
-pub found_told : (part : List ℕ) (headers : List HeaderSpan) (r : RequestSpans) (h : RequestHead) (method target : List ℕ) → IsRequestAt part headers r h → method ≡ span_bytes part r.method → target ≡ span_bytes part r.path
+pub found_told : (part : List ℕ) (headers : List HeaderSpan) (r : RequestSpans) (h : RequestHead) (method target : List ℕ) → IsRequestAt part headers r h
+    → method ≡ span_bytes part r.method → target ≡ span_bytes part r.path
     → record { method = method; target = target; fields = map (header_bytes part) (take r.headers headers) } ≡ told h
 found_told part headers r h method target at method_is target_is =
     let m : method ≡ h.method = method_is ∙ at.method in
@@ -114,12 +120,14 @@ found_told part headers r h method target at method_is target_is =
 -- what was found of a head, and what follows it, read as the bytes do
 module _
     (bytes part : List ℕ) (headers fields : List HeaderSpan) (r : RequestSpans) (method target rest : List ℕ) (verdict : Verdict) (reading : Reading)
-    (part_is : part ≡ shown bytes) (at : IsRequestOf part headers r) (fields_are : fields ≡ take r.headers headers) (method_is : method ≡ span_bytes part r.method) (target_is : target ≡ span_bytes part r.path) (rest_is : rest ≡ drop r.len bytes)
+    (part_is : part ≡ shown bytes) (at : IsRequestOf part headers r) (fields_are : fields ≡ take r.headers headers)
+    (method_is : method ≡ span_bytes part r.method) (target_is : target ≡ span_bytes part r.path) (rest_is : rest ≡ drop r.len bytes)
     (tells : Tells (record { method = method; target = target; fields = map (header_bytes part) fields }) verdict)
     (said : (t : Told) → Tells t verdict → ReadsAs t rest r.len reading) where
   found_said : ReadsAs (told at.0) (drop r.len bytes) (length (print_request at.0)) reading
   found_said =
-      let as_told = ap (λ l. record { method = method; target = target; fields = map (header_bytes part) l }) fields_are ∙ found_told part headers r at.0 method target at.1 method_is target_is in
+      let as_told = ap (λ l. record { method = method; target = target; fields = map (header_bytes part) l }) fields_are
+      ∙ found_told part headers r at.0 method target at.1 method_is target_is in
       let here : ReadsAs (told at.0) rest r.len reading = said (told at.0) (subst (λ t. Tells t verdict) as_told tells) in
       let behind : ReadsAs (told at.0) (drop r.len bytes) r.len reading = subst (λ (l : List ℕ). ReadsAs (told at.0) l r.len reading) rest_is here in
       subst (λ (n : ℕ). ReadsAs (told at.0) (drop r.len bytes) n reading) at.1.len behind

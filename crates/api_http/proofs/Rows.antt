@@ -7,7 +7,8 @@ use Rattle.api_http.specs.declared.route.Route.{Route}
 use Rattle.api_http.specs.Routes.{has_path_in, row_of}
 
 -- the row at this index has the path
-pub path_there : (rows : List (Bor (List ℕ) × Bor (List ℕ) × Route)) (i : ℕ) (d : Bor (List ℕ) × Bor (List ℕ) × Route) (path : List ℕ) → i < length rows → bytes_eq (get_or rows i d).0.now path ≡ true
+pub path_there : (rows : List (Bor (List ℕ) × Bor (List ℕ) × Route)) (i : ℕ) (d : Bor (List ℕ) × Bor (List ℕ) × Route) (path : List ℕ) → i < length rows
+    → bytes_eq (get_or rows i d).0.now path ≡ true
     → has_path_in (map row_of rows) path ≡ has_path_in (map row_of (drop i rows)) path
     → ((get_or rows i d).0.now ≡ path) × IsTrue (has_path_in (map row_of rows) path)
 path_there rows i d path within same rest = (

@@ -31,11 +31,13 @@ last_feed h =
     let fields = flat_map print_field h.fields in
     let end = end_feed h.last in (
       front ++ (fields ++ end.0),
-      ap (λ l. front ++ (fields ++ l)) end.1 ∙ ap (λ l. front ++ l) (sym (append_assoc fields end.0 (10 ∷ []))) ∙ sym (append_assoc front (fields ++ end.0) (10 ∷ [])),
+      ap (λ l. front ++ (fields ++ l)) end.1 ∙ ap (λ l. front ++ l) (sym (append_assoc fields end.0 (10 ∷ [])))
+          ∙ sym (append_assoc front (fields ++ end.0) (10 ∷ [])),
     )
 
 -- a head within the limits lies in the bytes looked at
-pub head_in_shown : (bs : List ℕ) (h : RequestHead) (rest : List ℕ) → ReadsRequest bs h rest → length (print_request h) ≤ 16384 → line_feeds (print_request h) ≤ 66
+pub head_in_shown : (bs : List ℕ) (h : RequestHead) (rest : List ℕ) → ReadsRequest bs h rest → length (print_request h) ≤ 16384
+    → line_feeds (print_request h) ≤ 66
     → (more : List ℕ) × ReadsRequest (shown bs) h more
 head_in_shown bs h rest r short few =
     let text = print_request h in
@@ -44,7 +46,8 @@ head_in_shown bs h rest r short few =
     let cut = 16384 - length text in
     let near : take 16384 bs ≡ text ++ take cut rest = ap (take 16384) r.1 ∙ take_past text rest 16384 cut (omega (arith, short)) in
     let past = past_lines 66 last.0 (take cut rest) ends in
-    let whole : lines_end 66 (text ++ take cut rest) ≡ length text + past.0 = ap (λ l. lines_end 66 (l ++ take cut rest)) last.1 ∙ past.1 ∙ ap (λ l. length l + past.0) (sym last.1) in
+    let whole : lines_end 66 (text ++ take cut rest) ≡ length text + past.0 = ap (λ l. lines_end 66 (l ++ take cut rest)) last.1 ∙ past.1
+    ∙ ap (λ l. length l + past.0) (sym last.1) in
     let all : shown bs ≡ text ++ take past.0 (take cut rest) = ap (λ l. take (lines_end 66 l) l) near ∙ take_past text (take cut rest) _ past.0 whole in
     (take past.0 (take cut rest), (r.0, all))
 

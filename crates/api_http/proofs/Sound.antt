@@ -4,9 +4,13 @@ use Rattle.api_http.specs.declared.route.Route.{Route}
 use Rattle.api_http.specs.declared.plan.Plan.{Plan}
 use Rattle.api_http.specs.declared.plan.Plan.TheVariants.{Ready, Patch}
 use Rattle.api_http.specs.Plans.{IsPlan}
-use Rattle.api_http.specs.Query.{Pair, is_among, IsInGrammar, a_transaction, some_keys, a_prefix, some_names, QueryFault, unknown, repeated, outside, both, missing, HasQueryFault}
+use Rattle.api_http.specs.Query.{Pair, is_among, IsInGrammar, a_transaction, some_keys, a_prefix, some_names}
+use Rattle.api_http.specs.Query.{QueryFault, unknown, repeated, outside, both, missing, HasQueryFault}
 use Rattle.settings_machine.specs.Requests as machine
-use Rattle.api_http.specs.Spelled.{NamesTx, named, unnamed, GivesNames, by_names, without_names, GivesKeys, GivesKeysOrPrefix, by_keys, by_prefix, by_neither, Spells, at_root, at_os, at_settings, at_patch, at_services, at_files, at_affected, at_pending, at_drop, at_list, at_commit, at_apply, at_commit_and_apply, at_job}
+use Rattle.api_http.specs.Spelled.{NamesTx, named, unnamed, GivesNames, by_names, without_names}
+use Rattle.api_http.specs.Spelled.{GivesKeys, GivesKeysOrPrefix, by_keys, by_prefix, by_neither, Spells, at_root}
+use Rattle.api_http.specs.Spelled.{at_os, at_settings, at_patch, at_services, at_files, at_affected}
+use Rattle.api_http.specs.Spelled.{at_pending, at_drop, at_list, at_commit, at_apply, at_commit_and_apply, at_job}
 
 -- ---- a query without pairs, and one of a single pair
 
@@ -40,12 +44,14 @@ name_is : (n v m w : List ℕ) → ◌≡◌ {A = Pair} (n, v) (m, w) → n ≡ 
 name_is n v m w e = ap (λ (p : Pair). p.0) e
 
 -- a pair of an allowed name with a value of its grammar is no fault, if it is the one that is wanted
-pub one_sound : (names needed : List (List ℕ)) (pairs : List Pair) (name value : List ℕ) → pairs ≡ (name, value) ∷ [] → is_among names name ≡ true → IsInGrammar name value
+pub one_sound : (names needed : List (List ℕ)) (pairs : List Pair) (name value : List ℕ) → pairs ≡ (name, value) ∷ [] → is_among names name ≡ true
+    → IsInGrammar name value
     → ((n : List ℕ) → Contains needed n → n ≡ name) → ¬ QueryFault names needed pairs
 one_sound names needed pairs name value is among valid only (unknown n v has strange) =
     let same = in_one (name, value) (n, v) (subst (λ l. Contains l (n, v)) is has) in
     let never = sym among ∙ ap (λ (p : Pair). is_among names p.0) same ∙ strange in cc
-one_sound names needed pairs name value is among valid only (repeated n v w front middle back at) = never_two pairs (n, v) (n, w) front middle back (omega (arith, ap length is)) at
+one_sound names needed pairs name value is among valid only (repeated n v w front middle back at) =
+    never_two pairs (n, v) (n, w) front middle back (omega (arith, ap length is)) at
 one_sound names needed pairs name value is among valid only (outside n v has wrong) =
     let same = in_one (name, value) (n, v) (subst (λ l. Contains l (n, v)) is has) in
     wrong (subst (λ (p : Pair). IsInGrammar p.0 p.1) same valid)
@@ -55,7 +61,8 @@ one_sound names needed pairs name value is among valid only (both v w has has') 
     omega (arith, ap length (sym first ∙ second))
 one_sound names needed pairs name value is among valid only (missing n needs none) =
     let here : Contains {X = Pair} ((name, value) ∷ []) (name, value) = (0, omega arith, refl) in
-    let there : Contains {X = Pair} ((name, value) ∷ []) (n, value) = subst (λ (m : List ℕ). Contains {X = Pair} ((name, value) ∷ []) (m, value)) (sym (only n needs)) here in
+    let there : Contains {X = Pair} ((name, value) ∷ []) (n, value) = subst (λ (m : List ℕ). Contains {X = Pair} ((name, value) ∷ []) (m, value))
+    (sym (only n needs)) here in
     none value (subst (λ (l : List Pair). Contains l (n, value)) (sym is) there)
 
 nothing_needed : (name n : List ℕ) → Contains [] n → n ≡ name
@@ -74,17 +81,21 @@ tx_sound pairs tx (unnamed is _) = none_sound _ pairs is
 
 -- a query that gives names has no fault
 pub names_sound : (pairs : List Pair) (names : Option (List (List ℕ))) → GivesNames pairs names → ¬ QueryFault (codes "names" ∷ []) [] pairs
-names_sound pairs _ (by_names value listed is lists) = one_sound _ [] pairs (codes "names") value is refl (some_names refl listed lists) (nothing_needed (codes "names"))
+names_sound pairs _ (by_names value listed is lists) = one_sound _ [] pairs (codes "names") value is refl (some_names refl listed lists)
+    (nothing_needed (codes "names"))
 names_sound pairs _ (without_names is) = none_sound _ pairs is
 
 -- a query that gives keys has no fault
 pub keys_sound : (pairs : List Pair) (keys : List (List (List ℕ))) → GivesKeys pairs keys → ¬ QueryFault (codes "keys" ∷ []) (codes "keys" ∷ []) pairs
-keys_sound pairs keys gives = one_sound _ (codes "keys" ∷ []) pairs (codes "keys") gives.value gives.given refl (some_keys refl keys gives.lists) (one_needed (codes "keys"))
+keys_sound pairs keys gives = one_sound _ (codes "keys" ∷ []) pairs (codes "keys") gives.value gives.given refl (some_keys refl keys gives.lists)
+    (one_needed (codes "keys"))
 
 -- a query that gives keys or a prefix has no fault
 pub either_sound : (pairs : List Pair) (q : machine.Request) → GivesKeysOrPrefix pairs q → ¬ QueryFault (codes "keys" ∷ codes "prefix" ∷ []) [] pairs
-either_sound pairs _ (by_keys keys gives) = one_sound _ [] pairs (codes "keys") gives.value gives.given refl (some_keys refl keys gives.lists) (nothing_needed (codes "keys"))
-either_sound pairs _ (by_prefix value key is spells) = one_sound _ [] pairs (codes "prefix") value is refl (a_prefix refl key spells) (nothing_needed (codes "prefix"))
+either_sound pairs _ (by_keys keys gives) = one_sound _ [] pairs (codes "keys") gives.value gives.given refl (some_keys refl keys gives.lists)
+    (nothing_needed (codes "keys"))
+either_sound pairs _ (by_prefix value key is spells) = one_sound _ [] pairs (codes "prefix") value is refl (a_prefix refl key spells)
+    (nothing_needed (codes "prefix"))
 either_sound pairs _ (by_neither is) = none_sound _ pairs is
 
 -- a query that spells a request has no fault of its route

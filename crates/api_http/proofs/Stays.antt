@@ -78,12 +78,15 @@ lines_full bytes many = omega (arith, many, end_lines 66 (take 16384 bytes))
 -- what is refused is never whole
 pub refused_stays : (bytes more : List ℕ) (r : Refusal) → MayRefuse bytes r → (q : machine.Request) (n : ℕ) → ¬ Asks (bytes ++ more) q n
 refused_stays bytes more _ (inl (too_long none few long)) q n a = no_head_comes bytes more (long_stays bytes more long) none a.head a.rest a.clean.whole
-refused_stays bytes more _ (inl (many_lines none many)) q n a = no_head_comes bytes more (full_stays bytes more (lines_full bytes many)) none a.head a.rest a.clean.whole
+refused_stays bytes more _ (inl (many_lines none many)) q n a = no_head_comes bytes more (full_stays bytes more (lines_full bytes many)) none a.head a.rest
+    a.clean.whole
 refused_stays bytes more _ (inl (in_head h rest r whole first)) q n a =
-    a.clean.clean r (subst (λ k. Shows (told k) r) (same_head (bytes ++ more) h a.head (rest ++ more) a.rest (head_stays bytes more h rest whole) a.clean.whole).head first.shows)
+    a.clean.clean r (subst (λ k. Shows (told k) r) (same_head (bytes ++ more) h a.head (rest ++ more) a.rest (head_stays bytes more h rest whole)
+    a.clean.whole).head first.shows)
 refused_stays bytes more r (inl (in_body h rest e clean body route_is wrong)) q n a =
     asked_not_refused (bytes ++ more) q n _ a
-    (in_body h (rest ++ more) e (clean_stays bytes more h rest clean) (omega (arith, body, length-append rest more)) route_is (ap (λ l. flattened pending_leaf settings_key l) (take-append-le (body_length (told h).fields) rest more body) ∙ wrong))
+    (in_body h (rest ++ more) e (clean_stays bytes more h rest clean) (omega (arith, body, length-append rest more)) route_is
+    (ap (λ l. flattened pending_leaf settings_key l) (take-append-le (body_length (told h).fields) rest more body) ∙ wrong))
 refused_stays bytes more r (inr (_, hopeless)) q n a = hopeless_stays bytes more hopeless a.head a.rest a.clean.whole
 
 -- a whole request lies within the bytes
@@ -99,11 +102,14 @@ many_stay bytes more many =
 pub refusal_stays : (bytes more : List ℕ) (r : Refusal) → MayRefuse bytes r → MayRefuse (bytes ++ more) r
 refusal_stays bytes more _ (inl (too_long none few long)) =
     let same : take 16384 (bytes ++ more) ≡ take 16384 bytes = take-append-le 16384 bytes more long in
-    inl (too_long (no_head_comes bytes more (long_stays bytes more long) none) (omega (arith, few, ap line_feeds same)) (omega (arith, long, length-append bytes more)))
-refusal_stays bytes more _ (inl (many_lines none many)) = inl (many_lines (no_head_comes bytes more (full_stays bytes more (lines_full bytes many)) none) (many_stay bytes more many))
+    inl (too_long (no_head_comes bytes more (long_stays bytes more long) none) (omega (arith, few, ap line_feeds same))
+    (omega (arith, long, length-append bytes more)))
+refusal_stays bytes more _ (inl (many_lines none many)) = inl (many_lines (no_head_comes bytes more (full_stays bytes more (lines_full bytes many)) none)
+    (many_stay bytes more many))
 refusal_stays bytes more _ (inl (in_head h rest r whole first)) = inl (in_head h (rest ++ more) r (head_stays bytes more h rest whole) first)
 refusal_stays bytes more _ (inl (in_body h rest e clean body route_is wrong)) =
-    inl (in_body h (rest ++ more) e (clean_stays bytes more h rest clean) (omega (arith, body, length-append rest more)) route_is (ap (λ l. flattened pending_leaf settings_key l) (take-append-le (body_length (told h).fields) rest more body) ∙ wrong))
+    inl (in_body h (rest ++ more) e (clean_stays bytes more h rest clean) (omega (arith, body, length-append rest more)) route_is
+    (ap (λ l. flattened pending_leaf settings_key l) (take-append-le (body_length (told h).fields) rest more body) ∙ wrong))
 refusal_stays bytes more r (inr (is, hopeless)) = by (cases_lt (line_feeds (take 16384 (bytes ++ more))) 66)
   where
     none : HoldsNoHead (bytes ++ more)
@@ -132,7 +138,8 @@ whole_within bytes NotYet a = tt
 whole_within bytes (Refused r) a = tt
 
 -- a reading that is refused stays refused for the same cause
-pub refusal_kept : (bytes : List ℕ) (reading : Reading) → IfRefused reading (MayRefuse bytes) → IfRefused reading (λ r. (more : List ℕ) → MayRefuse (bytes ++ more) r)
+pub refusal_kept : (bytes : List ℕ) (reading : Reading) → IfRefused reading (MayRefuse bytes)
+    → IfRefused reading (λ r. (more : List ℕ) → MayRefuse (bytes ++ more) r)
 refusal_kept bytes (Whole request n) may = tt
 refusal_kept bytes NotYet may = tt
 refusal_kept bytes (Refused r) may = λ more. refusal_stays bytes more r may
@@ -144,7 +151,8 @@ whole_stays bytes NotYet a = tt
 whole_stays bytes (Refused r) a = tt
 
 -- a reading that is refused is never whole
-pub never_whole : (bytes : List ℕ) (reading : Reading) → IfRefused reading (MayRefuse bytes) → IfRefused reading (λ _. (more : List ℕ) (q : machine.Request) (n : ℕ) → ¬ Asks (bytes ++ more) q n)
+pub never_whole : (bytes : List ℕ) (reading : Reading) → IfRefused reading (MayRefuse bytes)
+    → IfRefused reading (λ _. (more : List ℕ) (q : machine.Request) (n : ℕ) → ¬ Asks (bytes ++ more) q n)
 never_whole bytes (Whole request n) a = tt
 never_whole bytes NotYet a = tt
 never_whole bytes (Refused r) may = λ more. refused_stays bytes more r may

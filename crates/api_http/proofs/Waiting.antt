@@ -1,5 +1,6 @@
 -- How many bytes are waited for.
-use Rattle.std.proofs.Common.{◌≡◌, ◌≤◌, ◌<◌, ◌+◌, ◌++◌, ℕ, List, [], ◌∷◌, length, take, drop, map, Bool, true, false, ◌⊎◌, inl, inr, refl, sym, ap, ◌∙◌, subst, arith, length-append, append-nil}
+use Rattle.std.proofs.Common.{◌≡◌, ◌≤◌, ◌<◌, ◌+◌, ◌++◌, ℕ, List, [], ◌∷◌, length, take, drop, map}
+use Rattle.std.proofs.Common.{Bool, true, false, ◌⊎◌, inl, inr, refl, sym, ap, ◌∙◌, subst, arith, length-append, append-nil}
 use Rattle.std.proofs.lemmas.Bool.{cases_lt}
 use Rattle.httparse.specs.Grammar.{RequestHead, print_request}
 use Rattle.httparse.specs.declared.spans.HeaderSpan.{HeaderSpan}
@@ -27,17 +28,21 @@ short_body t clean = by (cases_lt 1048576 (body_length t.fields))
     by (inr within) = within
 
 -- the head that the parser found, with the length of its body
-pub found_size : (bytes part : List ℕ) (headers fields : List HeaderSpan) (r : RequestSpans) (size : ℕ) → part ≡ shown bytes → IsRequestOf part headers r → fields ≡ take r.headers headers
-    → (has_bad_length (map (header_bytes part) fields) ≡ false → body_length (map (header_bytes part) fields) ≤ 1048576 → size ≡ body_length (map (header_bytes part) fields))
+pub found_size : (bytes part : List ℕ) (headers fields : List HeaderSpan) (r : RequestSpans) (size : ℕ) → part ≡ shown bytes → IsRequestOf part headers r
+    → fields ≡ take r.headers headers
+    → (has_bad_length (map (header_bytes part) fields) ≡ false → body_length (map (header_bytes part) fields) ≤ 1048576
+    → size ≡ body_length (map (header_bytes part) fields))
     → (head : RequestHead) (rest : List ℕ) → IsCleanHead bytes head rest → r.len + size ≡ length (print_request head) + body_length (told head).fields
 found_size bytes part headers fields r size part_is at fields_are size_is head rest clean =
     let found = found_head bytes part headers r at.0 part_is at.1 in
     let same = (same_head bytes at.0 head (drop r.len bytes) rest found.0 clean.whole).head in
-    let as_told : map (header_bytes part) fields ≡ (told head).fields = ap (map (header_bytes part)) fields_are ∙ at.1.fields ∙ ap (λ h. (told h).fields) same in
+    let as_told : map (header_bytes part) fields ≡ (told head).fields = ap (map (header_bytes part)) fields_are ∙ at.1.fields
+    ∙ ap (λ h. (told h).fields) same in
     let sound = subst (λ (l : List Field). has_bad_length l ≡ false → body_length l ≤ 1048576 → size ≡ body_length l) as_told size_is in
     omega (arith, sound (sound_fields (told head) clean.clean) (short_body (told head) clean.clean), found.1, ap (λ h. length (print_request h)) same)
 
-module _ (bytes : List ℕ) (n : ℕ) (of_head : HoldsNoHead bytes → n ≡ length bytes + 1) (of_body : (head : RequestHead) (rest : List ℕ) → IsCleanHead bytes head rest → n ≡ length (print_request head) + body_length (told head).fields) where
+module _ (bytes : List ℕ) (n : ℕ) (of_head : HoldsNoHead bytes → n ≡ length bytes + 1)
+    (of_body : (head : RequestHead) (rest : List ℕ) → IsCleanHead bytes head rest → n ≡ length (print_request head) + body_length (told head).fields) where
   size_of : (head : RequestHead) (rest : List ℕ) → IsCleanHead bytes head rest → length bytes ≡ length (print_request head) + length rest
   size_of head rest clean = ap length clean.whole.reads.1 ∙ length-append (print_request head) rest
 

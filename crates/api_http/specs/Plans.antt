@@ -80,7 +80,7 @@ pub record IsBodyRefused (t : Told) (rest : List ℕ) : Type 0 where
   pub route_is : route_told t ≡ Some route.Patch
   pub no_tree : IsNoTree (take (body_length t.fields) rest)
 
--- What a whole head of this size and the bytes behind it read as.
+-- What a whole head of this size and the bytes after it read as.
 abbrev pub ReadsAs : Told → List ℕ → ℕ → Reading → Type 0
 ReadsAs t rest size (reading.Whole request n) = IsAsked t rest (request_of request) × (n ≡ size + body_length t.fields)
 ReadsAs t rest size reading.NotYet = IsClean t × (length rest < body_length t.fields)

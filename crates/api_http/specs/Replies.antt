@@ -79,7 +79,8 @@ allow_field _ = []
 abbrev pub with_body : Status → List ℕ → List ℕ → Sent
 with_body status field body = record {
   status = status.0;
-  bytes = codes "HTTP/1.1 " ++ decimal status.0 ++ codes " " ++ status.1 ++ codes "\r\nContent-Type: application/json\r\nContent-Length: " ++ decimal (length body) ++ codes "\r\n" ++ field ++ codes "Connection: close\r\n\r\n" ++ body;
+  bytes = codes "HTTP/1.1 " ++ decimal status.0 ++ codes " " ++ status.1 ++ codes "\r\nContent-Type: application/json\r\nContent-Length: "
+      ++ decimal (length body) ++ codes "\r\n" ++ field ++ codes "Connection: close\r\n\r\n" ++ body;
   body = body;
 }
 

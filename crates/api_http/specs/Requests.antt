@@ -34,7 +34,7 @@ told head = record { method = head.method; target = head.target; fields = map na
 abbrev pub path_of : Told → List ℕ
 path_of t = before_first (λ b. b == 63) t.target
 
--- The names and values behind it.
+-- The names and values after it.
 abbrev pub pairs_of : Told → List Pair
 pairs_of t = query_pairs (after_first (λ b. b == 63) t.target)
 
@@ -105,7 +105,8 @@ pub data Refuses (bytes : List ℕ) : Refusal → Type 0 where
   -- The whole head shows it.
   in_head : (head : RequestHead) (rest : List ℕ) (refusal : Refusal) → IsWholeHead bytes head rest → ShowsFirst (told head) refusal → Refuses bytes refusal
   -- The body of a patch is no tree of settings.
-  in_body : (head : RequestHead) (rest : List ℕ) (e : TreeError) → IsCleanHead bytes head rest → HasBody head rest → route_told (told head) ≡ Some route.Patch → flattened pending_leaf settings_key (body_of head rest) ≡ Err e
+  in_body : (head : RequestHead) (rest : List ℕ) (e : TreeError) → IsCleanHead bytes head rest → HasBody head rest → route_told (told head) ≡ Some route.Patch
+      → flattened pending_leaf settings_key (body_of head rest) ≡ Err e
       → Refuses bytes Body
 
 -- The head is refused, or it is hopeless.

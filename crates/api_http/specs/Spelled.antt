@@ -39,7 +39,8 @@ pub data Spells (pairs : List Pair) (body : List ℕ) : Route → machine.Reques
   at_root : pairs ≡ [] → Spells pairs body route.Root machine.Root
   at_os : pairs ≡ [] → Spells pairs body route.OsNames machine.OsNames
   at_settings : (q : machine.Request) → GivesKeysOrPrefix pairs q → Spells pairs body route.Settings q
-  at_patch : (tx : List ℕ) (changes : List (Key × Pending)) → NamesTx pairs tx → flattened pending_leaf settings_key body ≡ Ok changes → Spells pairs body route.Patch (machine.Patch tx changes)
+  at_patch : (tx : List ℕ) (changes : List (Key × Pending)) → NamesTx pairs tx → flattened pending_leaf settings_key body ≡ Ok changes
+      → Spells pairs body route.Patch (machine.Patch tx changes)
   at_services : (names : Option (List (List ℕ))) → GivesNames pairs names → Spells pairs body route.Services (machine.Services names)
   at_files : (names : Option (List (List ℕ))) → GivesNames pairs names → Spells pairs body route.Files (machine.ConfigurationFiles names)
   at_affected : (keys : List Key) → GivesKeys pairs keys → Spells pairs body route.Affected (machine.Affected keys)

@@ -38,7 +38,7 @@ fn told_reply(alloc: Global, refusal: &Refusal) -> Result<Reply, AllocError>
     json_reply(alloc, refusal.status(), phrase_of(refusal), &text)
 }
 
-/// The reply with the status 200 and this text, compact JSON, as its body, as `print_answer` prints one. The only error is out of memory.
+/// The reply with HTTP status 200 and this text, compact JSON, as its body, as `print_answer` prints one. The only error is out of memory.
 pub fn print_text(alloc: Global, text: &Text) -> Result<Reply, AllocError>
     ensures { IfOk result (λ reply. reply ≡ with_body (200, codes "OK") [] text.now) }
 {
@@ -48,7 +48,7 @@ pub fn print_text(alloc: Global, text: &Text) -> Result<Reply, AllocError>
 /// The reply of what the machine answers, as HTTP/1.1 (RFC 9112).
 ///
 /// With a body it is the status line, `Content-Type: application/json`, `Content-Length` with the
-/// decimal length of the body, `Connection: close`, an empty line and the body. What is said has the
+/// decimal length of the body, `Connection: close`, an empty line and the body. What is said has HTTP
 /// status 200 and its text as body; a refusal has its status, and its text, compact JSON whose names
 /// rise. Without a body, 204, it is the status line, `Connection: close` and an empty line.
 ///

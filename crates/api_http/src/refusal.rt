@@ -7,8 +7,8 @@ use key_names::Text;
 use std::alloc::{AllocError, Global};
 
 /// Why HTTP refuses a request, in the order in which the causes are looked for, each with its status, and
-/// behind `Body` why there is no answer of the machine. Those up to `Body` are told by the bytes of the
-/// request alone.
+/// after `Body` why there is no answer of the machine. The bytes of the request alone tell those up
+/// to `Body`.
 #[derive(Debug, Drop)]
 pub enum Refusal {
     /// 413: the first 16,384 bytes hold no whole head, and show no fault.
@@ -32,7 +32,7 @@ pub enum Refusal {
     BodyTooLong,
     /// 400: the body of a patch is no tree of settings.
     Body,
-    /// 503: memory was wanting. It says nothing of the request.
+    /// 503: it ran out of memory. It says nothing of the request.
     Memory,
     /// 500: a call of the disk failed.
     DiskFault,
@@ -71,7 +71,7 @@ impl Refusal {
         self.status_line().0
     }
 
-    /// The body of its reply: compact JSON (RFC 8259) whose names rise. The only error is want of memory.
+    /// The body of its reply: compact JSON (RFC 8259) whose names rise. The only error is out of memory.
     pub fn body(&self, alloc: Global) -> Result<Text, AllocError>
         ensures { IfOk result (λ text. text ≡ refusal_text self.now) }
     {

@@ -162,7 +162,7 @@ fn reading_of(alloc: Global, bytes: &[u8]) -> Result<Reading, AllocError>
 /// What the bytes are, read as a request of HTTP/1.0 or 1.1 (RFC 9112).
 ///
 /// A request is a head, as `httparse` reads it, of at most 64 fields, 66 lines and 16,384 bytes, and
-/// as many bytes of body as its Content-Length says, none without one. Fields are told by their names
+/// as many bytes of body as its Content-Length says, none without one. Fields are told apart by their names
 /// without case; of them Content-Length and Transfer-Encoding alone count. The target is split at its
 /// first `?`; the path is one of the table byte for byte, and the query is read as a form. The body of
 /// a `PATCH` is a JSON tree of settings, and every other is passed over. What follows the request is
@@ -182,7 +182,7 @@ fn reading_of(alloc: Global, bytes: &[u8]) -> Result<Reading, AllocError>
 /// request is `NotYet`. A caller that gets a request in pieces asks `bytes_wanted` how long to wait.
 ///
 /// It takes time linear in the bytes of the request, up to a logarithm for a `PATCH`, and memory a few
-/// times that for what is asked. The only error is want of memory, which doesn't come before there is
+/// times that for what is asked. The only error is out of memory, which doesn't come before there is
 /// a whole head.
 pub fn read_request(alloc: Global, bytes: &[u8]) -> Result<Reading, AllocError>
     ensures whole { IfOk result (λ reading. IfWhole reading (Asks bytes.now)) }

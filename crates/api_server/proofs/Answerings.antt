@@ -91,16 +91,19 @@ answered_memory c n sent text told mid told_after h is memory m o = quiet c n to
     (served_memory text (is ∙ ap (λ (s : Sent). s.bytes) memory) told mid told_after m o)
 
 -- It was refused in reading, and its reply was printed or there was no memory for it.
-pub answered_refusal : (c : Core) (n : ℕ) (r : Refusal) (sent : Sent) (text : List ℕ) (told mid told_after : Option (List Exchange)) (h : History) → text ≡ sent.bytes
+pub answered_refusal : (c : Core) (n : ℕ) (r : Refusal) (sent : Sent) (text : List ℕ) (told mid told_after : Option (List Exchange)) (h : History)
+    → text ≡ sent.bytes
     → (sent ≡ refused r) ⊎ (sent ≡ refused refusal.Memory) → Moves told mid (LastBy (IsHeard (heard.Refused r))) → Moves mid told_after (LastBy (IsSaid text))
     → Answers c c n n told told_after h h
 answered_refusal c n r sent text told mid told_after h is printed m o = ⊎_elim
     (λ whole. unread c n told told_after h r (served_unread r text (is ∙ ap (λ (s : Sent). s.bytes) whole) told mid told_after m o))
-    (λ memory. quiet c n told told_after h OutOfMemory memory_well (λ I W. refl) (served_unprinted r text (is ∙ ap (λ (s : Sent). s.bytes) memory) told mid told_after m o))
+    (λ memory. quiet c n told told_after h OutOfMemory memory_well (λ I W. refl)
+    (served_unprinted r text (is ∙ ap (λ (s : Sent). s.bytes) memory) told mid told_after m o))
     printed
 
 -- It was asked and handled, and then its reply was written.
-pub answered_ask : (c now : Core) (faults faults_after : ℕ) (ask : asked.Request) (handled : Handled) (text : List ℕ) (told mid told_after : Option (List Exchange)) (old new : History)
+pub answered_ask : (c now : Core) (faults faults_after : ℕ) (ask : asked.Request) (handled : Handled) (text : List ℕ)
+    (told mid told_after : Option (List Exchange)) (old new : History)
     → text ≡ (sent_of handled).bytes → (handled ≡ came.DiskFault → Rose faults faults_after) → Moves told mid (LastBy (IsHeard (heard.Asked ask)))
     → Moves mid told_after (LastBy (IsSaid text))
     → HandlesFor c (request_of ask) handled now old new → Answers c now faults faults_after told told_after old new

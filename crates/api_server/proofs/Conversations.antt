@@ -63,13 +63,15 @@ served_nothing a b m = lasts_map (λ first new is. record {
 }) m
 
 -- Something was heard, and then a reply written.
-module _ (h : Heard) (said : Said) (text : List ℕ) (exchanges : (mid new : Exchange) → IsSaid text mid new → Wrote new text → Hears h mid → Exchanges new said) where
+module _ (h : Heard) (said : Said) (text : List ℕ) (exchanges : (mid new : Exchange) → IsSaid text mid new → Wrote new text → Hears h mid
+    → Exchanges new said) where
   one_served : (first mid new : Exchange) → IsHeard h first mid → IsSaid text mid new → IsServed said first new
   one_served first mid new is wrote_it = record {
     from_start = λ input start. (
       record {
         bound = omega (arith, within h input first mid start is, ap length wrote_it.heard);
-        bytes = exchanges mid new wrote_it (wrote text mid new (nothing_written h input first mid start is) wrote_it) (is.hears (nothing_heard h input first mid start is));
+        bytes = exchanges mid new wrote_it (wrote text mid new (nothing_written h input first mid start is) wrote_it)
+            (is.hears (nothing_heard h input first mid start is));
       },
       same_input text mid new wrote_it ∙ whole_input h input first mid start is,
     );

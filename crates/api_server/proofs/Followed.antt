@@ -28,7 +28,8 @@ use Rattle.api_server.proofs.Lasts.{head_same, tail_same}
 -- ---- programs
 
 -- Those of the first events, and then those of the others.
-pub runs_more : (I : Image) (W : World) (es fs : List Event) (a b c : Option (List Run)) → RunsBy I W es a b → RunsBy I (after I W es) fs b c → RunsBy I W (es ++ fs) a c
+pub runs_more : (I : Image) (W : World) (es fs : List Event) (a b c : Option (List Run)) → RunsBy I W es a b → RunsBy I (after I W es) fs b c
+    → RunsBy I W (es ++ fs) a c
 runs_more I W es fs a b c m n = moves_then (λ r s t first rest is. rest (first is) ∙ ap (λ (X : World). X.runs) (sym (after-append I W es fs))) m n
 
 -- Events that run none, and then others.
@@ -43,7 +44,8 @@ runs_none I W a = moves_stay (λ r is. is)
 -- ---- one connection
 
 -- Its request, and then a slice of turns.
-pub one_round : (slice : Option ℕ) (c mid now : Core) (faults faults_mid faults_after : ℕ) (told told_after : Option (List Exchange)) (ran_before ran_after : Option (List Run))
+pub one_round : (slice : Option ℕ) (c mid now : Core) (faults faults_mid faults_after : ℕ) (told told_after : Option (List Exchange))
+    (ran_before ran_after : Option (List Run))
     (old between new : History) → Answers c mid faults faults_mid told told_after old between → faults_mid ≤ faults_after
     → Turns mid slice now ran_before ran_after between new
     → ServesOne slice c now faults faults_after told told_after ran_before ran_after old new
@@ -68,7 +70,8 @@ one_round slice c mid now faults faults_mid faults_after told told_after ran_bef
 -- The events of one more.
 events_push : (rs : List Round) (r : Round) → events_of (rs ++ r ∷ []) ≡ events_of rs ++ events_of_round r
 events_push [] r = append-nil (events_of_round r)
-events_push (q ∷ rs) r = ap (λ (l : List Event). events_of_round q ++ l) (events_push rs r) ∙ sym (append_assoc (events_of_round q) (events_of rs) (events_of_round r))
+events_push (q ∷ rs) r = ap (λ (l : List Event). events_of_round q ++ l) (events_push rs r)
+    ∙ sym (append_assoc (events_of_round q) (events_of rs) (events_of_round r))
 
 -- It begins where those before it have led.
 rounds_push : (I : Image) (slice : Option ℕ) (b : Bool) (W : World) (rs : List Round) (r : Round) → AreRounds I slice b W rs
@@ -78,7 +81,8 @@ rounds_push I slice b W (q ∷ rs) r are is = (
   are.0,
   rounds_push I slice (faulted_after b (events_of_round q)) (after I W (events_of_round q)) rs r are.1
       (subst (λ (f : Bool). IsRound I slice f (after I (after I W (events_of_round q)) (events_of rs)) r) (faulted-append b (events_of_round q) (events_of rs))
-      (subst (λ (X : World). IsRound I slice (faulted_after b (events_of_round q ++ events_of rs)) X r) (after-append I W (events_of_round q) (events_of rs)) is)),
+      (subst (λ (X : World). IsRound I slice (faulted_after b (events_of_round q ++ events_of rs)) X r) (after-append I W (events_of_round q) (events_of rs))
+      is)),
 )
 
 -- Its bytes come last.
@@ -110,7 +114,8 @@ pub one_accepted : (came : Bool) → came ≡ true → (old new : DoorState) →
 one_accepted came is old new accepts = subst (λ (b : Bool). Accepts {E = Failed} (Ok b) old new) is accepts
 
 -- Before the first connection.
-pub rounds_none : (slice : Option ℕ) (c : Core) (told : Option (List Exchange)) (ran : Option (List Run)) (h : History) → ServesAll slice c c told told ran ran h h
+pub rounds_none : (slice : Option ℕ) (c : Core) (told : Option (List Exchange)) (ran : Option (List Run)) (h : History)
+    → ServesAll slice c c told told ran ran h h
 rounds_none slice c told ran h = record { each = by } where
   by : (I : Image) → IsGood I → HoldsImage I c.image → (folder : Folder) → IsImageOfFolder I folder → (W V : World) → Kept I folder W V h (core_state c)
       → RoundsBy I folder W V slice c c told told ran ran h h
@@ -128,23 +133,26 @@ pub rounds_more : (came : Bool) → came ≡ true
     → (slice : Option ℕ) (c mid now : Core) (faults faults_after : ℕ) (told told_mid told_opened told_after : Option (List Exchange))
     (ran_before ran_mid ran_after : Option (List Run)) (old between new : History)
     → Moves told_mid told_opened (Opens {E = Failed} (Ok came)) → ServesAll slice c mid told told_mid ran_before ran_mid old between
-    → ServesOne slice mid now faults faults_after told_opened told_after ran_mid ran_after between new → ServesAll slice c now told told_after ran_before ran_after old new
-rounds_more came is slice c mid now faults faults_after told told_mid told_opened told_after ran_before ran_mid ran_after old between new opens all one = record { each = by } where
-  by : (I : Image) → IsGood I → HoldsImage I c.image → (folder : Folder) → IsImageOfFolder I folder → (W V : World) → Kept I folder W V old (core_state c)
-      → RoundsBy I folder W V slice c now told told_after ran_before ran_after old new
-  by I good of folder made W V kept =
-      let was = all.each I good of folder made W V kept in
-      let es = events_of was.rounds in
-      let next = one.each I good was.image folder made (after I W es) was.made.other was.made.kept in
-      let r = next.round in
-      let same = sym (events_push was.rounds r) in
-      record {
-        rounds = was.rounds ++ r ∷ [];
-        are = rounds_push I slice c.faulted W was.rounds r was.are (subst (λ (f : Bool). IsRound I slice f (after I W es) r) was.made.flag next.is);
-        exchanged = exchanged_more was.rounds r told told_mid told_opened told_after was.exchanged
-            (subst (λ (b : Bool). Moves told_mid told_opened (Opens {E = Failed} (Ok b))) is opens) next.served;
-        made = subst (λ (l : List Event). Ran I folder W V l old new (core_state c) (core_state now)) same
-            (ran_more I folder W V es (events_of_round r) old between new (core_state c) (core_state mid) (core_state now) was.made next.made);
-        runs = subst (λ (l : List Event). RunsBy I W l ran_before ran_after) same (runs_more I W es (events_of_round r) ran_before ran_mid ran_after was.runs next.runs);
-        image = next.image;
-      }
+    → ServesOne slice mid now faults faults_after told_opened told_after ran_mid ran_after between new
+    → ServesAll slice c now told told_after ran_before ran_after old new
+rounds_more came is slice c mid now faults faults_after told told_mid told_opened told_after ran_before ran_mid ran_after old between new opens all one =
+    record { each = by } where
+      by : (I : Image) → IsGood I → HoldsImage I c.image → (folder : Folder) → IsImageOfFolder I folder → (W V : World) → Kept I folder W V old (core_state c)
+          → RoundsBy I folder W V slice c now told told_after ran_before ran_after old new
+      by I good of folder made W V kept =
+          let was = all.each I good of folder made W V kept in
+          let es = events_of was.rounds in
+          let next = one.each I good was.image folder made (after I W es) was.made.other was.made.kept in
+          let r = next.round in
+          let same = sym (events_push was.rounds r) in
+          record {
+            rounds = was.rounds ++ r ∷ [];
+            are = rounds_push I slice c.faulted W was.rounds r was.are (subst (λ (f : Bool). IsRound I slice f (after I W es) r) was.made.flag next.is);
+            exchanged = exchanged_more was.rounds r told told_mid told_opened told_after was.exchanged
+                (subst (λ (b : Bool). Moves told_mid told_opened (Opens {E = Failed} (Ok b))) is opens) next.served;
+            made = subst (λ (l : List Event). Ran I folder W V l old new (core_state c) (core_state now)) same
+                (ran_more I folder W V es (events_of_round r) old between new (core_state c) (core_state mid) (core_state now) was.made next.made);
+            runs = subst (λ (l : List Event). RunsBy I W l ran_before ran_after) same
+                (runs_more I W es (events_of_round r) ran_before ran_mid ran_after was.runs next.runs);
+            image = next.image;
+          }

@@ -57,7 +57,7 @@ module _ (c now : Core) (q : Request) (old new : History) where
         };
   }
 
-  -- Memory was wanting.
+  -- It ran out of memory.
   pub answers_memory : Commits c q (Err disk.Memory) now old new → Answers c q Memory now old new
   unfolding request_next
   answers_memory commits = record {
@@ -71,6 +71,6 @@ module _ (c now : Core) (q : Request) (old new : History) where
         };
   }
 
--- Memory was wanting for its plan or its reply, and nothing happened.
+-- It ran out of memory for its plan or its reply, and nothing happened.
 pub answers_unplanned : (c : Core) (q : Request) (h : History) → c.faulted ≡ false → Answers c q Memory c h h
 answers_unplanned c q h calm = answers_memory c c q h h (commits_undone c q calm c h h (record { core = refl; disk = refl }))

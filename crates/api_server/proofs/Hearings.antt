@@ -19,7 +19,12 @@ use Rattle.api_server.proofs.Waitings.{waits_here}
 
 -- nothing is read yet
 pub added_none : (a : Option (List Exchange)) → Moves a a (LastIf (IsAdded [] []))
-added_none a = lasts_stay (λ e. record { more = []; grown = refl; read = record { split = refl; heard = sym (append-nil e.heard); written = refl; failed = refl } })
+added_none a = lasts_stay (λ e. record {
+  more = [];
+  grown = refl;
+  read =
+      record { split = refl; heard = sym (append-nil e.heard); written = refl; failed = refl };
+})
 
 -- one read after others
 read_more : (first then : List ℕ) (old mid new : Exchange) → IsRead first old mid → IsRead then mid new → IsRead (first ++ then) old new
@@ -50,7 +55,8 @@ input_read bytes old new read =
 from_start : (bytes : List ℕ) (old new : Exchange) → IsRead bytes old new → old.heard ≡ [] → bytes ++ new.left ≡ input_of new
 from_start bytes old new read first = ap (λ (l : List ℕ). l ++ new.left) (ap (λ (l : List ℕ). l ++ bytes) (sym first) ∙ sym read.heard)
 
-module _ (heard : Heard) (now : List ℕ) (within : length now ≤ 1064960) (comes : (old new : Exchange) → IsRead now old new → old.heard ≡ [] → Hears heard new) where
+module _ (heard : Heard) (now : List ℕ) (within : length now ≤ 1064960)
+    (comes : (old new : Exchange) → IsRead now old new → old.heard ≡ [] → Hears heard new) where
   one_heard : (old new : Exchange) → IsAdded [] now old new → IsHeard heard old new
   one_heard old new added =
       let read : IsRead now old new = subst (λ (l : List ℕ). IsRead l old new) (sym added.grown) added.read in
@@ -79,14 +85,16 @@ heard_refused refusal before now a b longer comes m = all_heard (Refused refusal
     (λ old new read first. subst (λ (l : List ℕ). MayRefuse l refusal) (from_start now old new read first) (comes new.left)) a b m
 
 -- no memory to read it
-pub heard_memory : (before now : List ℕ) (a b : Option (List Exchange)) → IsLonger before now → Moves a b (LastBy (IsAdded [] now)) → Moves a b (LastBy (IsHeard Memory))
+pub heard_memory : (before now : List ℕ) (a b : Option (List Exchange)) → IsLonger before now → Moves a b (LastBy (IsAdded [] now))
+    → Moves a b (LastBy (IsHeard Memory))
 heard_memory before now a b longer m = all_heard Memory now longer.within (λ old new read first. tt) a b m
 
 -- none to keep what was read
 pub heard_lost : (before : List ℕ) (a b c : Option (List Exchange)) → Moves a b (LastIf (IsAdded [] before)) → Moves b c (LastBy (IsLost before))
     → Moves a c (LastBy (IsHeard Memory))
 heard_lost before a b c m n = lasts_then (λ old mid new added lost.
-    let read : IsRead (before ++ lost.more) old new = read_more before lost.more old mid new (subst (λ (l : List ℕ). IsRead l old mid) (sym added.grown) added.read) lost.read in
+    let read : IsRead (before ++ lost.more) old new = read_more before lost.more old mid new
+    (subst (λ (l : List ℕ). IsRead l old mid) (sym added.grown) added.read) lost.read in
     record {
       input = input_read (before ++ lost.more) old new read;
       written = read.written;

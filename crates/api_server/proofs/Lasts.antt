@@ -47,7 +47,15 @@ last_then R Q W f (e ∷ es) mid new so by =
     }
 
 last_mapped : (R W : Exchange → Exchange → Type 0) → ((x y : Exchange) → R x y → W x y) → (old new : List Exchange) → LastBy R old new → LastBy W old new
-last_mapped R W f old new by = record { before = by.before; now = by.now; others = by.others; old_is = by.old_is; new_is = by.new_is; moved = f by.before by.now by.moved }
+last_mapped R W f old new by = record {
+  before = by.before;
+  now = by.now;
+  others = by.others;
+  old_is = by.old_is;
+  new_is = by.new_is;
+  moved =
+      f by.before by.now by.moved;
+}
 
 -- before the first call
 pub lasts_stay : {R : Exchange → Exchange → Type 0} {a : Option (List Exchange)} → ((e : Exchange) → R e e) → Moves a a (LastIf R)

@@ -10,10 +10,9 @@ use Rattle.settings_machine.specs.Opening.{added_keys}
 use Rattle.settings_machine.specs.Requests.{Request, DiskFault, NoMemory, NotOpened}
 use Rattle.settings_machine.specs.Step.{Outcome, Answered, WithoutMemory, Unopened, Faulted, failing, noting, request_next, opened}
 use Rattle.settings_machine.specs.Events.{Succeeded, Failing, Opened, Asked, next, after}
-use Rattle.settings_machine.specs.Laws.{IsKept}
-use Rattle.settings_machine.specs.Paid.{IsGood}
+use Rattle.settings_machine.specs.Paid.{IsFit, IsGood}
 use Rattle.settings_machine.specs.Typed.{IsTypedHeld}
-use Rattle.settings_machine.proofs.PaidLaws.{files_stay_paid}
+use Rattle.settings_machine.proofs.PaidLaws.{fit_stays}
 use Rattle.machine_disk.specs.Kept.{Folder, CoreState, Kept}
 use Rattle.machine_disk.specs.Ran.{Ran, Reopens, OpensNot, OnTheWay, Within}
 use Rattle.machine_disk.proofs.Runs.{ran_more, opens_ran, unopened_ran, refused_ran, way_of_more}
@@ -63,7 +62,14 @@ calm_handles c now q sent old new calm image answers = record {
         replied = (request_next I W q e.outcome).reply;
         says = e.says;
         fits = e.fits;
-        handled_by = record { outcome = e.outcome; first = []; reopens = subst (λ (b : Bool). Reopens b e.outcome []) (sym calm) e.reopens; made = refl; replied = refl };
+        handled_by = record {
+          outcome = e.outcome;
+          first = [];
+          reopens = subst (λ (b : Bool). Reopens b e.outcome []) (sym calm) e.reopens;
+          made =
+              refl;
+          replied = refl;
+        };
         made = e.ran;
         image = subst (HoldsImage I) (sym image) holds;
       };
@@ -109,14 +115,16 @@ module _ (c : Core) (q : Request) (faulted : c.faulted ≡ true) where
             made = refl;
             replied = refl;
           };
-          made = ran_more I folder W V (Opened false Succeeded ∷ []) (Asked q e.outcome ∷ []) old mid new (core_state c) (core_state mid_core) (core_state now) one e.ran;
+          made = ran_more I folder W V (Opened false Succeeded ∷ []) (Asked q e.outcome ∷ []) old mid new (core_state c) (core_state mid_core) (core_state now)
+              one e.ran;
           image = subst (HoldsImage I) (sym same) holds;
         };
   }
 
   -- ---- an opening that failed
 
-  module _ (old new : History) (I : Image) (good : IsGood I) (holds : HoldsImage I c.image) (folder : Folder) (W V : World) (kept : Kept I folder W V old (core_state c))
+  module _ (old new : History) (I : Image) (good : IsGood I) (holds : HoldsImage I c.image) (folder : Folder) (W V : World)
+      (kept : Kept I folder W V old (core_state c))
       (n : OpensNot I folder W V false old new) where
     idle : is_running W.job ≡ false
     idle = idle_at I folder W V old kept
@@ -124,8 +132,8 @@ module _ (c : Core) (q : Request) (faulted : c.faulted ≡ true) where
     abbrev X : World
     X = after I W (Opened false (Failing n.taken) ∷ [])
 
-    kept_one : IsKept I X
-    kept_one = files_stay_paid I good W (record { fit = kept.fit; paid = kept.disk.paid }) (Opened false (Failing n.taken) ∷ []) refl
+    fit_one : IsFit I X
+    fit_one = fit_stays I good W kept.fit (Opened false (Failing n.taken) ∷ []) refl
 
     idle_one : is_running X.job ≡ false
     idle_one = ap is_running (failed_job I W idle n.taken) ∙ idle
@@ -135,25 +143,22 @@ module _ (c : Core) (q : Request) (faulted : c.faulted ≡ true) where
 
     not_opened : Ran I folder W V (Opened false (Failing n.taken) ∷ []) old new (core_state c) (core_state c)
     not_opened =
-        let k : IsKept I X = kept_one in
-        unopened_ran I folder W V false old new (core_state c) (core_state c) n kept.format k.fit job_one faulted faulted (kept.core.still faulted)
+        unopened_ran I folder W V false old new (core_state c) (core_state c) n kept.format fit_one job_one faulted (kept.core.still faulted)
 
     faulted_after_it : Ran I folder X not_opened.other (Asked q (Faulted false) ∷ []) new new (core_state c) (core_state c)
     unfolding request_next
     faulted_after_it =
         let one : Ran I folder W V (Opened false (Failing n.taken) ∷ []) old new (core_state c) (core_state c) = not_opened in
-        let k : IsKept I X = kept_one in
-        let more : IsKept I (next I X (Asked q (Faulted false))) = files_stay_paid I good X k (Asked q (Faulted false) ∷ []) refl in
+        let more : IsFit I (next I X (Asked q (Faulted false))) = fit_stays I good X fit_one (Asked q (Faulted false) ∷ []) refl in
         ran_unsaid I folder X not_opened.other new (core_state c) not_opened.kept (Asked q (Faulted false)) (core_state c)
-        (record { version = refl; format = refl; held = refl; etc = refl }) more.fit more.paid
+        (record { version = refl; format = refl; held = refl; etc = refl }) more
         (job_one ∙ sym (failing_still X.job cause.Disk idle_one)) refl refl refl (sym faulted) refl (λ f. kept.core.still f)
 
     memory_after_it : Ran I folder X not_opened.other (Asked q WithoutMemory ∷ []) new new (core_state c) (core_state c)
     unfolding request_next
     memory_after_it =
-        let k : IsKept I X = kept_one in
         ran_unsaid I folder X not_opened.other new (core_state c) not_opened.kept (Asked q WithoutMemory) (core_state c)
-        (record { version = refl; format = refl; held = refl; etc = refl }) k.fit k.paid job_one refl refl refl refl refl (λ f. kept.core.still f)
+        (record { version = refl; format = refl; held = refl; etc = refl }) fit_one job_one refl refl refl refl refl (λ f. kept.core.still f)
 
     failed_handled : IsHandled I folder W V q came.DiskFault c c old new
     unfolding request_next
@@ -236,7 +241,7 @@ module _ (c : Core) (q : Request) (faulted : c.faulted ≡ true) where
           };
     }
 
-    -- or memory was wanting for it: then it counts as an opening that failed for want of memory, and was not taken.
+    -- or it ran out of memory for it: then it counts as an opening that failed as it ran out of memory, and was not taken.
     untold_handles : Handles c q came.Memory c old new
     untold_handles = record {
       each = λ I good holds folder still W V kept.
@@ -282,7 +287,8 @@ module _ (c : Core) (q : Request) (faulted : c.faulted ≡ true) where
     by : IsBadPending I.types W.held first.tx key → ⊥
     by bad = bad.unfit (typed.pending first.tx key bad.value bad.there)
 
-  never : (e : OpenError) → IsRefusal e → (old new : History) → Opens false (Err e) old new → (I : Image) → IsGood I → (folder : Folder) → IsImageOfFolder I folder
+  never : (e : OpenError) → IsRefusal e → (old new : History) → Opens false (Err e) old new → (I : Image) → IsGood I → (folder : Folder)
+      → IsImageOfFolder I folder
       → (W V : World) → Kept I folder W V old (core_state c) → ⊥
   never error.Failed is old new opens I good folder of W V kept = is
   never error.Memory is old new opens I good folder of W V kept = is

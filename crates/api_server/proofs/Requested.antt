@@ -28,7 +28,8 @@ module _ (I : Image) where
   reopening_runs W true (Faulted taken) first reopens = one_runs W reopens.0 first reopens.1
 
   -- A request, with the opening before it.
-  pub handled_runs : (faulted : Bool) (W : World) (q : Request) (reply : Reply) (es : List Event) → Handled I faulted W q reply es → (after I W es).runs ≡ W.runs
+  pub handled_runs : (faulted : Bool) (W : World) (q : Request) (reply : Reply) (es : List Event) → Handled I faulted W q reply es
+      → (after I W es).runs ≡ W.runs
   handled_runs faulted W q reply es handled =
       ap (λ (l : List Event). (after I W l).runs) handled.made
       ∙ ap (λ (X : World). X.runs) (after-append I W handled.first (Asked q handled.outcome ∷ []))

@@ -26,7 +26,8 @@ use Rattle.api_server.proofs.Followed.{runs_none, runs_more, runs_after}
 -- ---- the beginning
 
 -- `Apply`, and then a slice of turns.
-pub begun : (boot : Bool) → boot ≡ true → (slice : Option ℕ) (sent : Handled) (c mid now : Core) (ran_before ran_after : Option (List Run)) (old between new : History)
+pub begun : (boot : Bool) → boot ≡ true → (slice : Option ℕ) (sent : Handled) (c mid now : Core) (ran_before ran_after : Option (List Run))
+    (old between new : History)
     → HandlesFor c Apply sent mid old between → Turns mid slice now ran_before ran_after between new → Boots boot slice c now ran_before ran_after old new
 begun false is slice sent c mid now ran_before ran_after old between new handles turns = absurd (cc is)
 begun true is slice sent c mid now ran_before ran_after old between new handles turns = record { each = by } where
@@ -46,7 +47,8 @@ begun true is slice sent c mid now ran_before ran_after old between new handles 
           turns = two.turns.form;
         };
         made = ran_more I folder W V one.events two.turns.events old between new (core_state c) (core_state mid) (core_state now) one.made two.turns.ran;
-        runs = runs_after I W one.events two.turns.events ran_before ran_after (handled_runs I c.faulted W Apply one.replied one.events one.handled_by) two.turns.runs;
+        runs = runs_after I W one.events two.turns.events ran_before ran_after (handled_runs I c.faulted W Apply one.replied one.events one.handled_by)
+            two.turns.runs;
         image = two.image;
       }
 
@@ -67,7 +69,8 @@ not_begun false is slice c ran h = record { each = by } where
 -- ---- the end
 
 -- Turns until no job runs.
-pub driven : (fine : Bool) → fine ≡ true → (c now : Core) (ran_before ran_after : Option (List Run)) (old new : History) → Turns c None now ran_before ran_after old new
+pub driven : (fine : Bool) → fine ≡ true → (c now : Core) (ran_before ran_after : Option (List Run)) (old new : History)
+    → Turns c None now ran_before ran_after old new
     → Ends fine c now ran_before ran_after old new
 driven false is c now ran_before ran_after old new turns = absurd (cc is)
 driven true is c now ran_before ran_after old new turns = record { each = by } where
@@ -94,7 +97,8 @@ not_driven false is c ran h = record { each = by } where
 -- ---- the whole
 
 -- The beginning, the connections one after another, and the end.
-pub whole : (slice : Option ℕ) (boot fine : Bool) (c up served now : Core) (told told_after : Option (List Exchange)) (ran_before ran_up ran_served ran_after : Option (List Run))
+pub whole : (slice : Option ℕ) (boot fine : Bool) (c up served now : Core) (told told_after : Option (List Exchange))
+    (ran_before ran_up ran_served ran_after : Option (List Run))
     (old booted ended new : History) → Boots boot slice c up ran_before ran_up old booted
     → ServesAll slice up served told told_after ran_up ran_served booted ended
     → Ends fine served now ran_served ran_after ended new → Serves slice boot fine c now told told_after ran_before ran_after old new
@@ -121,7 +125,8 @@ whole slice boot fine c up served now told told_after ran_before ran_up ran_serv
         };
         exchanged = two.exchanged;
         made = ran_more I folder W V one.events last old booted new (core_state c) (core_state up) (core_state now) one.made
-            (ran_more I folder X one.made.other (events_of two.rounds) three.events booted ended new (core_state up) (core_state served) (core_state now) two.made three.made);
+            (ran_more I folder X one.made.other (events_of two.rounds) three.events booted ended new (core_state up) (core_state served) (core_state now)
+            two.made three.made);
         runs = runs_more I W one.events last ran_before ran_up ran_after one.runs
             (runs_more I X (events_of two.rounds) three.events ran_up ran_served ran_after two.runs three.runs);
         image = three.image;
@@ -137,5 +142,6 @@ whole_told slice boot fine c up served now told told_after ran_before ran_up ran
     × ServesAll slice up served told told_after ran_up ran_served booted ended)
     = moves_then (λ old booted ended boots serves. (booted, boots, serves)) m n in
     moves_then
-    (λ old ended new both ends. whole slice boot fine c up served now told told_after ran_before ran_up ran_served ran_after old both.0 ended new both.1 both.2 ends)
+    (λ old ended new both ends. whole slice boot fine c up served now told told_after ran_before ran_up ran_served ran_after old both.0 ended new both.1 both.2
+    ends)
     begins o

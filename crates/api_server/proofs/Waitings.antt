@@ -22,12 +22,14 @@ wanted_most : (bytes : List ℕ) (n : ℕ) → (HoldsNoHead bytes → n ≡ leng
     → ((head : RequestHead) (rest : List ℕ) → IsCleanHead bytes head rest → n ≡ length (print_request head) + body_length (told head).fields) → Waits bytes
     → n ≤ 1064960
 wanted_most bytes n of_head of_body (for_head none few short) = omega (arith, of_head none)
-wanted_most bytes n of_head of_body (for_body head rest clean short) = omega (arith, of_body head rest clean, clean.whole.size, short_body (told head) clean.clean)
+wanted_most bytes n of_head of_body (for_body head rest clean short) =
+    omega (arith, of_body head rest clean, clean.whole.size, short_body (told head) clean.clean)
 
 -- bytes that wait
 pub waiting : (bytes : List ℕ) (n : ℕ) → Waits bytes → (Waits bytes → length bytes < n) → (Waits bytes → WaitsUntil bytes n)
     → (HoldsNoHead bytes → n ≡ length bytes + 1)
-    → ((head : RequestHead) (rest : List ℕ) → IsCleanHead bytes head rest → n ≡ length (print_request head) + body_length (told head).fields) → IsWaiting bytes n
+    → ((head : RequestHead) (rest : List ℕ) → IsCleanHead bytes head rest → n ≡ length (print_request head) + body_length (told head).fields)
+    → IsWaiting bytes n
 waiting bytes n waits more until of_head of_body = record { more = more waits; most = wanted_most bytes n of_head of_body waits; until = until waits }
 
 -- what was wanted of the bytes is wanted with more of them
@@ -48,7 +50,8 @@ some_before a b c d e f s t =
 some_head : (head : RequestHead) → 0 < length (print_request head)
 unfolding print_request
 some_head head =
-    some_before (print_blank head.blank) head.method head.target (print_version head.minor) (print_end head.line_end) (print_section head.fields head.last) space space
+    some_before (print_blank head.blank) head.method head.target (print_version head.minor) (print_end head.line_end) (print_section head.fields head.last)
+    space space
 
 -- before the first byte
 waits_first : Waits []
@@ -56,7 +59,8 @@ unfolding line_feeds
 waits_first = for_head none few (omega arith)
   where
     none : HoldsNoHead []
-    none head rest w = let e : 0 ≡ length (print_request head) + length rest = ap length w.reads.1 ∙ length-append (print_request head) rest in omega (arith, some_head head)
+    none head rest w = let e : 0 ≡ length (print_request head) + length rest = ap length w.reads.1
+        ∙ length-append (print_request head) rest in omega (arith, some_head head)
 
     few : HasFewLines []
     few = omega arith

@@ -39,7 +39,8 @@ pub record Answers (c now : Core) (faults faults_after : ℕ) (told told_after :
 -- ---- a connection
 
 -- One connection, by the machine, crash included. It is replied that the disk failed only where its count rose.
-pub record RoundBy (I : Image) (folder : Folder) (W V : World) (slice : Option ℕ) (c now : Core) (faults faults_after : ℕ) (told told_after : Option (List Exchange))
+pub record RoundBy (I : Image) (folder : Folder) (W V : World) (slice : Option ℕ) (c now : Core) (faults faults_after : ℕ)
+    (told told_after : Option (List Exchange))
     (ran_before ran_after : Option (List Run))
     (old new : History) : Type 0 where
   pub round : Round
@@ -51,7 +52,8 @@ pub record RoundBy (I : Image) (folder : Folder) (W V : World) (slice : Option �
   pub image : HoldsImage I now.image
 
 -- By each image that the core holds, each folder whose files make it, and in each world at which disk and core are.
-pub record ServesOne (slice : Option ℕ) (c now : Core) (faults faults_after : ℕ) (told told_after : Option (List Exchange)) (ran_before ran_after : Option (List Run))
+pub record ServesOne (slice : Option ℕ) (c now : Core) (faults faults_after : ℕ) (told told_after : Option (List Exchange))
+    (ran_before ran_after : Option (List Run))
     (old new : History) : Type 0 where
   pub each : (I : Image) → IsGood I → HoldsImage I c.image → (folder : Folder) → IsImageOfFolder I folder → (W V : World) → Kept I folder W V old (core_state c)
       → RoundBy I folder W V slice c now faults faults_after told told_after ran_before ran_after old new
@@ -70,6 +72,7 @@ pub record RoundsBy (I : Image) (folder : Folder) (W V : World) (slice : Option 
   pub image : HoldsImage I now.image
 
 -- By each image that the core holds, each folder whose files make it, and in each world at which disk and core are.
-pub record ServesAll (slice : Option ℕ) (c now : Core) (told told_after : Option (List Exchange)) (ran_before ran_after : Option (List Run)) (old new : History) : Type 0 where
+pub record ServesAll (slice : Option ℕ) (c now : Core) (told told_after : Option (List Exchange)) (ran_before ran_after : Option (List Run))
+    (old new : History) : Type 0 where
   pub each : (I : Image) → IsGood I → HoldsImage I c.image → (folder : Folder) → IsImageOfFolder I folder → (W V : World) → Kept I folder W V old (core_state c)
       → RoundsBy I folder W V slice c now told told_after ran_before ran_after old new

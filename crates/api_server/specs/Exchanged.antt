@@ -36,7 +36,7 @@ pub record IsReplied (x : Exchange) (q : Request) (reply : Reply) : Type 0 where
   pub wrote : Wrote x sent.bytes
 
 -- The bytes that came and went: nothing is written where the input ended before a request was whole or refused, or a read failed;
--- the fixed 503 where memory was wanting; the refusal; or the reply to what was asked.
+-- the fixed 503 where it ran out of memory; the refusal; or the reply to what was asked.
 abbrev pub Exchanges : Exchange → Said → Type 0
 Exchanges x Nothing = (x.written ≡ []) × ((Waits (input_of x) × (x.left ≡ [])) ⊎ (x.failed ≡ true))
 Exchanges x OutOfMemory = Wrote x (refused refusal.Memory).bytes

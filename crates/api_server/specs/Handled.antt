@@ -61,7 +61,7 @@ fault_of (error.IllTyped key) = printed key
 fault_of error.Failed = []
 fault_of error.Memory = []
 
--- It is told what is at fault, or memory was wanting for that.
+-- What is at fault is reported, or it ran out of memory for that.
 abbrev pub TellsFault : OpenError → Handled → Type 0
 TellsFault e handled = (handled ≡ NotOpened (refused (refusal.Store (fault_of e)))) ⊎ (handled ≡ Memory)
 
@@ -97,7 +97,8 @@ IsAsBefore c handled I folder = c.faulted ≡ true → (IsNotOpened handled → 
 -- By each image that the core holds, in each world at which disk and core are, a request is handled by the machine, crash
 -- included: after a failed call of the disk the store is opened again first.
 pub record Handles (c : Core) (q : Request) (handled : Handled) (now : Core) (old new : History) : Type 0 where
-  pub each : (I : Image) → IsGood I → HoldsImage I c.image → (folder : Folder) → IsAsBefore c handled I folder → (W V : World) → Kept I folder W V old (core_state c)
+  pub each : (I : Image) → IsGood I → HoldsImage I c.image → (folder : Folder) → IsAsBefore c handled I folder → (W V : World)
+      → Kept I folder W V old (core_state c)
       → IsHandled I folder W V q handled c now old new
 
 -- The files of the image's folder don't make the image still.
@@ -115,7 +116,7 @@ pub record IsRefused (c : Core) (handled : Handled) (told_before told_after : Op
 
 -- ---- what stays, and the cause of a failure
 
--- Memory was wanting, the machine refused the request, or it asks alone.
+-- It ran out of memory, the machine refused the request, or the request asks alone.
 abbrev pub ChangesNothing : Request → Handled → Type 0
 ChangesNothing q Memory = ⊤
 ChangesNothing q (Answered sent) = (is_of_success sent.status ≡ false) ⊎ (is_reading q ≡ true)

@@ -11,7 +11,7 @@ use Rattle.api_server.specs.declared.hearing.Heard.TheVariants.{Asked, Refused, 
 abbrev pub input_of : Exchange → List ℕ
 input_of e = e.heard ++ e.left
 
--- The request that the input begins with; why it is refused; that it ends before either, or that a call failed. Want of memory
+-- The request that the input begins with; why it is refused; that it ends before either, or that a call failed. `Memory`
 -- says nothing of it.
 abbrev pub Hears : Heard → Exchange → Type 0
 Hears (Asked request) e = (n : ℕ) × Asks (input_of e) (request_of request) n

@@ -67,7 +67,8 @@ AreLast true I W last = IsDriven I W last
 AreLast false I W last = last ≡ []
 
 -- By the machine, crash included.
-pub record EndedBy (I : Image) (folder : Folder) (W V : World) (fine : Bool) (c now : Core) (ran_before ran_after : Option (List Run)) (old new : History) : Type 0 where
+pub record EndedBy (I : Image) (folder : Folder) (W V : World) (fine : Bool) (c now : Core) (ran_before ran_after : Option (List Run))
+    (old new : History) : Type 0 where
   pub events : List Event
   pub are : AreLast fine I W events
   pub made : Ran I folder W V events old new (core_state c) (core_state now)

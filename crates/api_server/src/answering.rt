@@ -23,7 +23,7 @@ fn refusal_reply(alloc: Global, refusal: &Refusal) -> Reply
 
 /// Reads the request of a connection that was accepted, has it handled, and then writes its reply.
 ///
-/// A request that is refused in reading gets the reply of its refusal, and want of memory in reading it or in printing this reply
+/// A request that is refused in reading gets the reply of its refusal, and running out of memory in reading it or in printing this reply
 /// the fixed 503. Where the input ends before a request is whole or refused, and where a read fails, nothing is written.
 pub(crate) fn answer_one<D: Disk, N: Door>(
     alloc: Global,
@@ -33,7 +33,8 @@ pub(crate) fn answer_one<D: Disk, N: Door>(
 )
     requires busy { (N.state door.old).busy ≡ true }
     requires sound { IsSound core.old }
-    ensures answers { Moves (D.told disk.old) (D.told disk.new) (Answers core.old core.new (D.faults disk.old) (D.faults disk.new) (N.told door.old) (N.told door.new)) }
+    ensures answers { Moves (D.told disk.old) (D.told disk.new) (Answers core.old core.new (D.faults disk.old) (D.faults disk.new) (N.told door.old)
+        (N.told door.new)) }
     ensures sound { IsSound core.new }
     ensures same { N.state door.new ≡ N.state door.old }
     ensures disk_faults { D.faults disk.old ≤ D.faults disk.new }

@@ -13,7 +13,7 @@ pub enum Handled {
     Memory,
     /// A call of the disk failed: 500 `disk`.
     DiskFault,
-    /// The store could not be opened again, for what stands there: 500 `store`, printed.
+    /// The store could not be opened again, because of what is there: 500 `store`, printed.
     NotOpened(Reply),
 }
 

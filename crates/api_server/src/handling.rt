@@ -60,7 +60,7 @@ fn answer<D: Disk>(alloc: Global, core: &mut Core, request: &Request, disk: &mut
 /// of what is held is on the disk before it is answered with success.
 ///
 /// - `DiskFault`: a call of the disk failed. The request was taken wholly or not at all, it began no job, and a running one has failed.
-/// - `NotOpened`: the store could not be opened again, for what stands there; this never comes where the image is as before.
+/// - `NotOpened`: the store could not be opened again, because of what is there; this never comes where the image is as before.
 /// - `Memory` may come at any time, and changes nothing but that the store may have been opened again.
 ///
 /// A refusal of the machine, a 4xx, comes exactly by the machine, and writes nothing. It takes the time of `Core::plan` and
@@ -75,7 +75,7 @@ pub fn handle<D: Disk>(alloc: Global, core: &mut Core, request: &Request, disk: 
     ensures sound { IsSound core.new }
     ensures calm { IsAnswered result → (core_state core.new).faulted ≡ false }
 
-    // Where no call of the disk has failed before, want of memory, a refusal and a reading leave the disk as it was.
+    // Where no call of the disk has failed before, running out of memory, a refusal and a reading leave the disk as it was.
     ensures quiet { (core_state core.old).faulted ≡ false → ChangesNothing (request_of request.now) result
         → D.told disk.new ≡ D.told disk.old }
 

@@ -28,7 +28,7 @@ pub enum Heard {
     },
     /// Its input ended before a request was whole or refused, or a read failed.
     Ended,
-    /// Want of memory.
+    /// Out of memory.
     Memory,
 }
 

@@ -18,7 +18,7 @@ pub(crate) enum Next {
     Refused { refusal: Refusal },
     // More are wanted: so many in all before they can be anything else.
     Wanted { count: usize },
-    // Want of memory.
+    // Out of memory.
     Memory,
 }
 

@@ -49,7 +49,7 @@ fn store_reply(alloc: Global, error: &OpenError) -> Result<Reply, AllocError>
     print_refusal(alloc, &Refusal::Store { at })
 }
 
-// What stands there was refused, or memory was wanting to tell of it.
+// What is there was refused, or it ran out of memory in reporting it.
 fn not_opened(alloc: Global, error: &OpenError) -> Handled
     ensures { TellsFault error.now result }
 {

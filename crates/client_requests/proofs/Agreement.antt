@@ -1,5 +1,6 @@
 -- What the server reads of a question.
-use Rattle.std.proofs.Common.{arith, ◌≡◌, ◌+◌, inl, inr, ℕ, Bool, true, false, ◌&&◌, ◌||◌, List, [], ◌∷◌, length, codes, MatchOption, Option, Some, None, Err, refl, sym, ap, ◌∙◌, subst, length-append}
+use Rattle.std.proofs.Common.{arith, ◌≡◌, ◌+◌, inl, inr, ℕ, Bool, true, false, ◌&&◌, ◌||◌, List, []}
+use Rattle.std.proofs.Common.{◌∷◌, length, codes, MatchOption, Option, Some, None, Err, refl, sym, ap, ◌∙◌, subst, length-append}
 use Rattle.std.specs.Option.{unwrap_or}
 use Rattle.std.specs.Prelude.{find, option_map, if◌then◌else◌, Result, Ok, IfOk}
 use Rattle.std.specs.Str.{bytes_eq}
@@ -17,7 +18,10 @@ use Rattle.api_http.specs.Routes.{Row, rows, has_path, has_path_in, route_of, ro
 use Rattle.api_http.specs.Query.{HasQueryFault}
 use Rattle.settings_machine.specs.Requests.{Request}
 use Rattle.api_http.specs.Spelled.{Spells}
-use Rattle.api_http.specs.Requests.{told, pairs_of, route_told, body_of, HasBody, Shows, bad_length, no_path, no_method, bad_query, transfer_coded, long_body, IsClean, IsCleanHead, Asks, Refuses, too_long, many_lines, in_head, in_body, MayRefuse, Waits, for_head, for_body, IfWhole, IfRefused}
+use Rattle.api_http.specs.Requests.{told, pairs_of, route_told, body_of, HasBody, Shows}
+use Rattle.api_http.specs.Requests.{bad_length, no_path, no_method, bad_query, transfer_coded, long_body, IsClean}
+use Rattle.api_http.specs.Requests.{IsCleanHead, Asks, Refuses, too_long, many_lines, in_head}
+use Rattle.api_http.specs.Requests.{in_body, MayRefuse, Waits, for_head, for_body, IfWhole, IfRefused}
 use Rattle.api_http.proofs.Firsts.{first_no_path, first_no_method, first_query, none_shown}
 use Rattle.api_http.proofs.Sound.{spells_sound}
 use Rattle.api_http.proofs.OneAnswer.{same_head}
@@ -39,11 +43,13 @@ known_in : (table : List Row) (path method : List ℕ) → (route_in table path 
 known_in [] path method h = absurd (h refl)
 known_in (row ∷ table) path method h = by (known_in table path method) (bytes_eq row.0 path) refl
   where
-    by : ((route_in table path method ≡ None → ⊥) → has_path_in table path ≡ true) → (same : Bool) → bytes_eq row.0 path ≡ same → has_path_in (row ∷ table) path ≡ true
+    by : ((route_in table path method ≡ None → ⊥) → has_path_in table path ≡ true) → (same : Bool) → bytes_eq row.0 path ≡ same
+        → has_path_in (row ∷ table) path ≡ true
     by later true is = ap (λ x. x || has_path_in table path) is
     by later false is =
         let next : route_in (row ∷ table) path method ≡ route_in table path method =
-        ap (λ (x : Bool). option_map (λ (k : Row). k.2) (if x && bytes_eq row.1 method then Some row else find (λ (k : Row). bytes_eq k.0 path && bytes_eq k.1 method) table)) is in
+        ap (λ (x : Bool). option_map (λ (k : Row). k.2) (if x && bytes_eq row.1 method then Some row else find
+        (λ (k : Row). bytes_eq k.0 path && bytes_eq k.1 method) table)) is in
         ap (λ x. x || has_path_in table path) is ∙ later (λ none. h (next ∙ none))
 
 -- a path with a route is known
@@ -69,7 +75,8 @@ module _ (m t : List ℕ) (b : Option (List ℕ)) (s : IsSound m t b) where
   clean : (r : Route) → route_of (path_in t) m ≡ Some r → ¬ HasQueryFault r (pairs_in t) → IsCleanHead (ask_text m t b) (head_of m t b) (unwrap_or b [])
   clean r is sound_query = record {
     whole = whole m t b s;
-    clean = none_shown (told (head_of m t b)) (sound_length m t b s) (known (path_in t) m r is) r is sound_query (plain m t b) (omega (arith, length_is m t b s, s.body_short));
+    clean = none_shown (told (head_of m t b)) (sound_length m t b s) (known (path_in t) m r is) r is sound_query (plain m t b)
+        (omega (arith, length_is m t b s, s.body_short));
   }
 
   size : length (ask_text m t b) ≡ length (print_request (head_of m t b)) + body_length (told (head_of m t b)).fields
@@ -122,12 +129,14 @@ module _ (m t : List ℕ) (b : Option (List ℕ)) (s : IsSound m t b) where
       let flat'' = subst (λ (l : List ℕ). flattened pending_leaf settings_key (body_of (head_of m t b) l) ≡ Err e) same.behind flat' in
       let is' = subst (λ (h : RequestHead). route_told (told h) ≡ route_of (codes "/settings") (codes "PATCH")) same.head is in
       let clean' = subst (λ (h : RequestHead). IsClean (told h)) same.head is_clean.clean in
-      agreed.bad_body e is' (λ bad. let found = some_of (route_of (path_in t) m) (λ r. HasQueryFault r (pairs_in t)) bad in clean' Query (bad_query found.0 found.1 found.2))
+      agreed.bad_body e is' (λ bad. let found = some_of (route_of (path_in t) m) (λ r. HasQueryFault r (pairs_in t)) bad in
+      clean' Query (bad_query found.0 found.1 found.2))
       (subst (λ (l : List ℕ). flattened pending_leaf settings_key l ≡ Err e) all_body flat'')
 
   -- each of these faults is refused
   pub refused : (r : Refusal) → IsRefusedFor m t b r → Refuses (ask_text m t b) r
-  refused _ (agreed.no_path none) = in_head (head_of m t b) (unwrap_or b []) NoPath (whole m t b s) (first_no_path (told (head_of m t b)) (sound_length m t b s) none)
+  refused _ (agreed.no_path none) = in_head (head_of m t b) (unwrap_or b []) NoPath (whole m t b s)
+      (first_no_path (told (head_of m t b)) (sound_length m t b s) none)
   refused _ (agreed.no_method has none) =
       in_head (head_of m t b) (unwrap_or b []) (Method (path_in t)) (whole m t b s) (first_no_method (told (head_of m t b)) (sound_length m t b s) has none)
   refused _ (agreed.bad_query bad) =
@@ -135,7 +144,8 @@ module _ (m t : List ℕ) (b : Option (List ℕ)) (s : IsSound m t b) where
       in_head (head_of m t b) (unwrap_or b []) Query (whole m t b s)
       (first_query (told (head_of m t b)) (sound_length m t b s) (known (path_in t) m found.0 found.1) found.0 found.1 found.2)
   refused _ (agreed.bad_body e is sound_query flat) =
-      in_body (head_of m t b) (unwrap_or b []) e (clean _ is (λ fault. sound_query (some_has (route_of (path_in t) m) (λ r. HasQueryFault r (pairs_in t)) _ is fault))) there is
+      in_body (head_of m t b) (unwrap_or b []) e (clean _ is (λ fault. sound_query
+      (some_has (route_of (path_in t) m) (λ r. HasQueryFault r (pairs_in t)) _ is fault))) there is
       (subst (λ (l : List ℕ). flattened pending_leaf settings_key l ≡ Err e) (sym all_body) flat)
 
   waits : Waits (ask_text m t b) → ⊥
@@ -169,7 +179,8 @@ module _ (m t : List ℕ) (b : Option (List ℕ)) (s : IsSound m t b) where
     read_whole (Ok reading) h = whole_is reading (subst (λ (l : List ℕ). IfWhole reading (Asks l)) text_is h)
     read_whole (Err e) h = tt
 
-    pub read_refused : (r : Result Reading E) → IfOk r (λ reading. IfRefused reading (MayRefuse text)) → IfOk r (λ reading. IfRefused reading (IsRefusedFor m t b))
+    pub read_refused : (r : Result Reading E) → IfOk r (λ reading. IfRefused reading (MayRefuse text))
+        → IfOk r (λ reading. IfRefused reading (IsRefusedFor m t b))
     read_refused (Ok reading) h = refused_is reading (subst (λ (l : List ℕ). IfRefused reading (MayRefuse l)) text_is h)
     read_refused (Err e) h = tt
 

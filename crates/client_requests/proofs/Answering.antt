@@ -1,5 +1,6 @@
 -- A reply of the server is a reply for the client.
-use Rattle.std.proofs.Common.{arith, ◌≡◌, ◌≤◌, ◌<◌, ◌^◌, ℕ, zero, suc, Bool, true, false, ◌==◌, IsTrue, List, [], ◌∷◌, ◌++◌, length, map, codes, decimal, Option, Some, None, refl, sym, ap, ◌∙◌, subst, append_assoc, length-append}
+use Rattle.std.proofs.Common.{arith, ◌≡◌, ◌≤◌, ◌<◌, ◌^◌, ℕ, zero, suc, Bool, true, false, ◌==◌, IsTrue, List, []}
+use Rattle.std.proofs.Common.{◌∷◌, ◌++◌, length, map, codes, decimal, Option, Some, None, refl, sym, ap, ◌∙◌, subst, append_assoc, length-append}
 use Rattle.std.specs.Char.{is_ascii_digit}
 use Rattle.std.specs.List.{list_all, flat_map}
 use Rattle.std.specs.Option.{unwrap_or}
@@ -56,7 +57,8 @@ methods_values (row ∷ table) path h =
     let parts = split (list_all is_value_byte row.1) (list_all (λ (r : Row). list_all is_value_byte r.1) table) h in
     by parts.0 (methods_values table path parts.1) (bytes_eq row.0 path) refl
   where
-    by : list_all is_value_byte row.1 ≡ true → AreValues (methods_in table path) → (same : Bool) → bytes_eq row.0 path ≡ same → AreValues (methods_in (row ∷ table) path)
+    by : list_all is_value_byte row.1 ≡ true → AreValues (methods_in table path) → (same : Bool) → bytes_eq row.0 path ≡ same
+        → AreValues (methods_in (row ∷ table) path)
     by here later true is = rw is (both_true here later)
     by here later false is = rw is later
 
@@ -84,7 +86,8 @@ head_of status phrase allow n = record {
 
 abbrev text_of : ℕ → List ℕ → Option (List ℕ) → List ℕ → List ℕ
 text_of status phrase allow body =
-    codes "HTTP/1.1 " ++ (decimal status ++ (codes " " ++ (phrase ++ (codes "\r\nContent-Type: application/json\r\nContent-Length: " ++ (decimal (length body) ++ (codes "\r\n" ++ (allow_text allow ++ (codes "Connection: close\r\n\r\n" ++ body))))))))
+    codes "HTTP/1.1 " ++ (decimal status ++ (codes " " ++ (phrase ++ (codes "\r\nContent-Type: application/json\r\nContent-Length: "
+    ++ (decimal (length body) ++ (codes "\r\n" ++ (allow_text allow ++ (codes "Connection: close\r\n\r\n" ++ body))))))))
 
 regroup : (d x y z r : List ℕ) → (((d ++ x) ++ y) ++ z) ++ r ≡ d ++ (x ++ ((y ++ z) ++ r))
 regroup d x y z r = simp append_assoc
@@ -121,7 +124,8 @@ are_fields n (Some value) below pass =
     (All-cons IsField (size_field n) (allowed ∷ close_field ∷ []) (size n below)
     (All-cons IsField allowed (close_field ∷ []) (allow_is value pass) (All-cons IsField close_field [] close (All-nil IsField))))
 
-lengths_are : (n : ℕ) (allow : Option (List ℕ)) → n < 2 ^ 64 → lengths (map name_and_value (kind_field ∷ size_field n ∷ (allow_fields allow ++ close_field ∷ []))) ≡ decimal n ∷ []
+lengths_are : (n : ℕ) (allow : Option (List ℕ)) → n < 2 ^ 64 → lengths
+    (map name_and_value (kind_field ∷ size_field n ∷ (allow_fields allow ++ close_field ∷ []))) ≡ decimal n ∷ []
 lengths_are n None below = ap (λ (v : List ℕ). v ∷ []) (trimmed (decimal n) (decimal_digits n below))
 lengths_are n (Some value) below = ap (λ (v : List ℕ). v ∷ []) (trimmed (decimal n) (decimal_digits n below))
 
@@ -159,7 +163,8 @@ record IsStatus (status : Status) : Type 0 where
   high : status.0 < 1000
   phrase : list_all is_value_byte status.1 ≡ true
 
-is_reply : (status : Status) (allow : Option (List ℕ)) (body : List ℕ) → IsStatus status → list_all is_value_byte (unwrap_or allow []) ≡ true → length body < 2 ^ 64
+is_reply : (status : Status) (allow : Option (List ℕ)) (body : List ℕ) → IsStatus status → list_all is_value_byte (unwrap_or allow []) ≡ true
+    → length body < 2 ^ 64
     → IsReply (text_of status.0 status.1 allow body) status.0 body
 is_reply status allow body s pass below = record {
   head = head_of status.0 status.1 allow (length body);
@@ -180,11 +185,13 @@ is_reply status allow body s pass below = record {
 joined : (a b c d e f g h i j : List ℕ) → a ++ b ++ c ++ d ++ e ++ f ++ g ++ h ++ i ++ j ≡ a ++ (b ++ (c ++ (d ++ (e ++ (f ++ (g ++ (h ++ (i ++ j))))))))
 joined a b c d e f g h i j = simp append_assoc
 
-with_reply : (status : Status) (allow : Option (List ℕ)) (body : List ℕ) → IsStatus status → list_all is_value_byte (unwrap_or allow []) ≡ true → length body < 2 ^ 64
+with_reply : (status : Status) (allow : Option (List ℕ)) (body : List ℕ) → IsStatus status → list_all is_value_byte (unwrap_or allow []) ≡ true
+    → length body < 2 ^ 64
     → IsReply (with_body status (allow_text allow) body).bytes status.0 body
 with_reply status allow body s pass below =
     subst (λ (l : List ℕ). IsReply l status.0 body)
-    (sym (joined (codes "HTTP/1.1 ") (decimal status.0) (codes " ") status.1 (codes "\r\nContent-Type: application/json\r\nContent-Length: ") (decimal (length body)) (codes "\r\n") (allow_text allow) (codes "Connection: close\r\n\r\n") body))
+    (sym (joined (codes "HTTP/1.1 ") (decimal status.0) (codes " ") status.1 (codes "\r\nContent-Type: application/json\r\nContent-Length: ")
+    (decimal (length body)) (codes "\r\n") (allow_text allow) (codes "Connection: close\r\n\r\n") body))
     (is_reply status allow body s pass below)
 
 -- ---- each answer

@@ -1,5 +1,6 @@
 -- The text of a question is a head and a body.
-use Rattle.std.proofs.Common.{arith, ◌≡◌, ◌≤◌, ◌<◌, ◌^◌, ℕ, Bool, true, false, ◌&&◌, IsTrue, List, [], ◌∷◌, ◌++◌, length, get_or, reverse, codes, decimal, Option, Some, None, refl, sym, ap, ◌∙◌, append_assoc, leb-true}
+use Rattle.std.proofs.Common.{arith, ◌≡◌, ◌≤◌, ◌<◌, ◌^◌, ℕ, Bool, true, false, ◌&&◌, IsTrue, List, [], ◌∷◌}
+use Rattle.std.proofs.Common.{◌++◌, length, get_or, reverse, codes, decimal, Option, Some, None, refl, sym, ap, ◌∙◌, append_assoc, leb-true}
 use Rattle.std.specs.Char.{is_ascii_digit, is_ascii_uppercase}
 use Rattle.std.specs.List.{list_all, starts_with}
 use Rattle.std.specs.Option.{unwrap_or}
@@ -13,7 +14,8 @@ use Rattle.std.proofs.lemmas.Str.{IsUtf8-from_ascii}
 use Rattle.std.proofs.lemmas.Str.Ascii.{IsAscii-from_all}
 use Rattle.std.proofs.lemmas.Str.Parse.{digit_at}
 use Rattle.std.proofs.lemmas.Fmt.{decimal_is_IsNumeral}
-use Rattle.httparse.specs.Grammar.{crlf, Field, RequestHead, print_request, IsRequestHead, ReadsRequest, IsField, IsToken, AllPass, is_token_byte, is_uri_byte, is_value_byte, skip_ows, trim_ows}
+use Rattle.httparse.specs.Grammar.{crlf, Field, RequestHead, print_request, IsRequestHead, ReadsRequest, IsField}
+use Rattle.httparse.specs.Grammar.{IsToken, AllPass, is_token_byte, is_uri_byte, is_value_byte, skip_ows, trim_ows}
 use Rattle.httparse.proofs.OnLiterals.{httparse_on_literals}
 use Rattle.httparse.proofs.TrimLemmas.{AllPass-reverse, trim_ows_space}
 use Rattle.httparse.proofs.GrammarLemmas.{print_request-append}
@@ -136,7 +138,8 @@ pub size : (n : ℕ) → n < 2 ^ 64 → IsField (size_field n)
 unfolding httparse_on_literals
 size n below = record {
   name = literal_token (codes "Content-Length") (omega arith) refl;
-  raw = All-cons (λ b. IsTrue (is_value_byte b)) 32 (decimal n) refl (pass_also is_ascii_digit is_value_byte digit_in_value (decimal n) (decimal_digits n below));
+  raw = All-cons (λ b. IsTrue (is_value_byte b)) 32 (decimal n) refl (pass_also is_ascii_digit is_value_byte digit_in_value (decimal n)
+      (decimal_digits n below));
 }
 
 pub close : IsField close_field
@@ -156,7 +159,8 @@ are_fields (Some body) short =
 
 is_ascii : (t : List ℕ) → list_all is_target_byte t ≡ true → IsUtf8 t
 is_ascii t clean =
-    IsUtf8-from_ascii t (IsAscii-from_all t (λ i d lt. let r = target_range (get_or t i d) (AllPass-from_list_all is_target_byte t clean i d lt) in omega (arith, r)))
+    IsUtf8-from_ascii t (IsAscii-from_all t (λ i d lt. let r = target_range (get_or t i d) (AllPass-from_list_all is_target_byte t clean i d lt) in
+    omega (arith, r)))
 
 pub is_head : (m t : List ℕ) (b : Option (List ℕ)) → IsSound m t b → IsRequestHead (head_of m t b)
 is_head m t b s = record {
@@ -176,7 +180,7 @@ no_ows : (xs : List ℕ) → list_all is_ascii_digit xs ≡ true → skip_ows xs
 no_ows [] h = refl
 no_ows (b ∷ xs) h = cond-false _ _ _ (digit_ows b (split _ _ h).0)
 
--- digits behind a space are trimmed to digits
+-- digits after a space are trimmed to digits
 pub trimmed : (ds : List ℕ) → list_all is_ascii_digit ds ≡ true → trim_ows (32 ∷ ds) ≡ ds
 trimmed ds h =
     let back = list_all-from_AllPass is_ascii_digit (reverse ds) (AllPass-reverse is_ascii_digit ds (AllPass-from_list_all is_ascii_digit ds h)) in

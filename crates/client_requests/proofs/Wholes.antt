@@ -1,5 +1,6 @@
 -- The head of a question is whole, and its fields are sound.
-use Rattle.std.proofs.Common.{arith, ◌≡◌, ◌≤◌, ◌<◌, ◌+◌, ◌^◌, ℕ, Bool, true, false, ◌&&◌, ◌||◌, not, ◌==◌, List, [], ◌∷◌, ◌++◌, length, map, codes, decimal, Option, Some, None, refl, sym, ap, ◌∙◌, append-nil, length-append}
+use Rattle.std.proofs.Common.{arith, ◌≡◌, ◌≤◌, ◌<◌, ◌+◌, ◌^◌, ℕ, Bool, true, false, ◌&&◌, ◌||◌, not, ◌==◌, List}
+use Rattle.std.proofs.Common.{[], ◌∷◌, ◌++◌, length, map, codes, decimal, Option, Some, None, refl, sym, ap, ◌∙◌, append-nil, length-append}
 use Rattle.std.specs.Char.{is_ascii_digit, is_ascii_uppercase}
 use Rattle.std.specs.List.{list_all}
 use Rattle.std.specs.Option.{unwrap_or}
@@ -59,7 +60,8 @@ length_lines (Some body) short =
     let digits = no_feeds is_ascii_digit digit_no_feed (decimal (length body)) (decimal_digits (length body) (omega (arith, short))) in
     omega (arith, feeds_three (codes "Content-Type: application/json\r\nContent-Length: ") (decimal (length body)) (codes "\r\n"), digits, kind_lines, line_end)
 
-feeds_six : (a b c d e f : List ℕ) → line_feeds (a ++ (b ++ (c ++ (d ++ (e ++ f))))) ≡ line_feeds a + line_feeds b + line_feeds c + line_feeds d + line_feeds e + line_feeds f
+feeds_six : (a b c d e f : List ℕ) → line_feeds (a ++ (b ++ (c ++ (d ++ (e ++ f))))) ≡ line_feeds a + line_feeds b + line_feeds c + line_feeds d + line_feeds e
+    + line_feeds f
 feeds_six a b c d e f =
     omega (
       arith,

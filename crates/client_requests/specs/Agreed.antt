@@ -16,7 +16,7 @@ use Rattle.api_http.specs.Spelled.{Spells}
 abbrev pub path_in : List ℕ → List ℕ
 path_in target = before_first (λ b. b == 63) target
 
--- The names and values behind it.
+-- The names and values after it.
 abbrev pub pairs_in : List ℕ → List Pair
 pairs_in target = query_pairs (after_first (λ b. b == 63) target)
 

@@ -1,5 +1,5 @@
 //! The client and the server agree: the client's questions as the server reads them, and the server's replies as the
-//! client reads them. No crate of the program stands on this one.
+//! client reads them. No crate of the program depends on this one.
 #![tactic(auto)]
 
 mod answers;

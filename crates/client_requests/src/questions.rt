@@ -16,7 +16,7 @@ use std::alloc::{AllocError, Global};
 /// It is a request exactly where the method and the path of the target, up to its first `?`, are those of a row of
 /// the server's table, and the query and the body spell a request of that row. It is refused as `NoPath`, `Method`,
 /// `Query` or `Body` exactly where one of these is at fault, the first of them; never for its form, and never are
-/// more bytes waited for. The only error is want of memory.
+/// more bytes waited for. The only error is out of memory.
 pub fn read_question(
     alloc: Global,
     method: &[u8],

@@ -23,7 +23,7 @@ text_in (Err refusal) = line_of refusal
 abbrev pub Tells : ℕ → List ℕ → ℕ → Option (List ℕ) → Option (List ℕ) → Type 0
 Tells status text result s s' = ((result ≡ status) × Moves s s' (IsSaid text)) ⊎ ((result ≡ 12) × Moves s s' (IsSaidInPart text))
 
--- Memory was wanting, which is the status, and as much of its line is written as the output takes.
+-- It ran out of memory, which is the status, and as much of its line is written as the output takes.
 abbrev pub TellsMemory : ℕ → Option (List ℕ) → Option (List ℕ) → Type 0
 TellsMemory result s s' = (result ≡ 1) × Moves s s' (IsSaidInPart (codes "settings: memory\n"))
 

@@ -8,7 +8,10 @@ use Rattle.machine_answers.specs.Bodies.{refusal_text}
 use Rattle.template_eval.specs.declared.render_error.RenderError.{RenderError}
 use Rattle.template_eval.specs.declared.render_error.RenderError.TheVariants as render
 use Rattle.command_outcome.specs.declared.refusal.Refusal.{Refusal}
-use Rattle.command_outcome.specs.declared.refusal.Refusal.TheVariants.{Memory, Usage, Disk, Door, Spawn, NoStore, Damaged, BadLink, BadJournal, BadImage, IllTyped, NotCovered, Render, Status, Missing, Conflict, Refused, AlreadyThere, OldFormat, GeneratorStatus, GeneratorOutput, UserData, MigrationStatus, MigrationOutput}
+use Rattle.command_outcome.specs.declared.refusal.Refusal.TheVariants.{Memory, Usage, Disk, Door, Spawn, NoStore}
+use Rattle.command_outcome.specs.declared.refusal.Refusal.TheVariants.{Damaged, BadLink, BadJournal, BadImage, IllTyped, NotCovered}
+use Rattle.command_outcome.specs.declared.refusal.Refusal.TheVariants.{Render, Status, Missing, Conflict, Refused, AlreadyThere}
+use Rattle.command_outcome.specs.declared.refusal.Refusal.TheVariants.{OldFormat, GeneratorStatus, GeneratorOutput, UserData, MigrationStatus, MigrationOutput}
 
 -- The status of a refused command.
 abbrev pub status_of : Refusal → ℕ
@@ -41,7 +44,7 @@ status_of (MigrationOutput name) = 18
 abbrev pub spaced : List ℕ → List ℕ
 spaced text = 32 ∷ text
 
--- The word for why a template refused; want of memory has none.
+-- The word for why a template refused; out of memory has none.
 abbrev pub render_word : RenderError → List ℕ
 render_word (render.Missing path) = codes "missing"
 render_word (render.NotScalar path) = codes "not-scalar"
@@ -49,7 +52,7 @@ render_word (render.NotList path) = codes "not-list"
 render_word (render.BadBase64 path) = codes "bad-base64"
 render_word render.Memory = []
 
--- The path at which it refused, as it is written; want of memory has none.
+-- The path at which it refused, as it is written; out of memory has none.
 abbrev pub render_path : RenderError → List ℕ
 render_path (render.Missing path) = path
 render_path (render.NotScalar path) = path
@@ -57,7 +60,7 @@ render_path (render.NotList path) = path
 render_path (render.BadBase64 path) = path
 render_path render.Memory = []
 
--- What is told of a refusal behind the program's name.
+-- What is said of a refusal after the program's name.
 abbrev pub told : Refusal → List ℕ
 told Memory = codes "memory"
 told Usage = codes "usage"

@@ -9,7 +9,7 @@ use version_links::Version;
 /// Why a command is refused.
 #[derive(Debug, Drop)]
 pub enum Refusal {
-    /// 1: memory was wanting. It says nothing of the words or the devices.
+    /// 1: it ran out of memory. It says nothing of the words or the devices.
     Memory,
     /// 2: the words spell no command.
     Usage,

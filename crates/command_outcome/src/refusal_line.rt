@@ -95,7 +95,7 @@ fn push_name(line: &mut Vec<u8>, words: &str, name: &Text) -> Result<(), AllocEr
     push_text(line, name)
 }
 
-// The word for why a template refused; want of memory has none.
+// The word for why a template refused; out of memory has none.
 fn render_word(error: &RenderError) -> &'static str
     ensures { result.now ≡ render_word error.now }
 {
@@ -108,7 +108,7 @@ fn render_word(error: &RenderError) -> &'static str
     }
 }
 
-// The path at which it refused; want of memory has none.
+// The path at which it refused; out of memory has none.
 fn render_path(error: &RenderError) -> &str
     ensures { result.now ≡ render_path error.now }
 {
@@ -175,7 +175,7 @@ fn push_data(line: &mut Vec<u8>, kind: &Text, at: &Text) -> Result<(), AllocErro
     push_text(line, at)
 }
 
-// Adds what a client of the socket would be told: the status and the text of the refusal.
+// Adds what a client of the socket would get: the status and the text of the refusal.
 fn push_refused(
     alloc: Global,
     line: &mut Vec<u8>,
@@ -190,7 +190,7 @@ fn push_refused(
     push_text(line, &refusal_text(alloc, refusal)?)
 }
 
-// Adds what is told of the refusal behind the program's name.
+// Adds what is said of the refusal after the program's name.
 fn push_told(alloc: Global, line: &mut Vec<u8>, refusal: &Refusal) -> Result<(), AllocError>
     ensures { OnOk result (line.new.items ≡ line.old.items ++ told refusal.now) }
 {
@@ -263,7 +263,7 @@ impl Refusal {
     }
 
     /// What is printed of the refusal, with a line feed at its end: a line that begins with `settings: `, or the lines that tell of
-    /// each configuration file. The only error is want of memory.
+    /// each configuration file. The only error is out of memory.
     pub fn line(&self, alloc: Global) -> Result<Vec<u8>, AllocError>
         ensures { IfOk result (λ line. line.items ≡ line_of self.now) }
     {

@@ -1,4 +1,4 @@
-//! How a command ended is told.
+//! The report of how a command ended.
 ghost use Rattle.std.specs.Prelude.{◌≡◌, ◌≢◌, ◌⊎◌, Err, IsErrOf, codes};
 ghost use Rattle.outside.specs.Told.{Moves};
 ghost use Rattle.outside.specs.Faults.{Rose};
@@ -13,7 +13,7 @@ use std::alloc::Global;
 /// The status where the output could not be written.
 const CUT_SHORT: u8 = 12;
 
-/// The status where memory was wanting.
+/// The status where it ran out of memory.
 const OUT_OF_MEMORY: u8 = 1;
 
 // Writes the text, and answers the status; 12 where it can't be written.
@@ -28,7 +28,7 @@ fn tell_text<O: Sink>(out: &mut O, status: u8, text: &[u8]) -> u8
     }
 }
 
-// Writes that memory was wanting.
+// Writes that it ran out of memory.
 fn tell_memory<O: Sink>(out: &mut O) -> u8
     ensures told { TellsMemory result (O.told out.old) (O.told out.new) }
     ensures line { Moves (O.told out.old) (O.told out.new) (IsSaid (codes "settings: memory\n")) ⊎ Rose (O.faults out.old) (O.faults out.new) }
@@ -38,13 +38,14 @@ fn tell_memory<O: Sink>(out: &mut O) -> u8
     }
 }
 
-// Writes the line of a refusal that is no want of memory.
+// Writes the line of a refusal other than out of memory.
 fn tell_refusal<O: Sink>(alloc: Global, out: &mut O, refusal: &Refusal) -> u8
     requires other { refusal.now ≢ Refusal.Memory }
     ensures ends { Ends (Err refusal.now) result (O.told out.old) (O.told out.new) }
     ensures sink_fault { result ≡ 12 → Rose (O.faults out.old) (O.faults out.new) }
     ensures sink_faults { result ≢ 1 → result ≢ 12 → O.faults out.new ≡ O.faults out.old }
-    ensures memory_line { result ≡ 1 → Moves (O.told out.old) (O.told out.new) (IsSaid (codes "settings: memory\n")) ⊎ Rose (O.faults out.old) (O.faults out.new) }
+    ensures memory_line { result ≡ 1 → Moves (O.told out.old) (O.told out.new) (IsSaid (codes "settings: memory\n"))
+        ⊎ Rose (O.faults out.old) (O.faults out.new) }
 {
     match refusal.line(alloc) {
         Ok(line) => tell_text(out, refusal.status(), &line),
@@ -54,13 +55,14 @@ fn tell_refusal<O: Sink>(alloc: Global, out: &mut O, refusal: &Refusal) -> u8
 
 /// Writes what a command printed, or the line of its refusal, and answers its status: 0 for what it printed, else that of the
 /// refusal. It is 12 in place of any but 1 where the output fails, some of the text being written then, from the first on; and 1
-/// where memory for the line is wanting. Want of memory is 1 whatever the output does.
+/// where it ran out of memory for the line. Out of memory is 1 whatever the output does.
 pub fn tell<O: Sink>(alloc: Global, out: &mut O, outcome: &Result<Bytes, Refusal>) -> u8
     ensures ends { Ends outcome.now result (O.told out.old) (O.told out.new) }
     ensures memory { IsErrOf outcome.now Refusal.Memory → result ≡ 1 }
     ensures sink_fault { result ≡ 12 → Rose (O.faults out.old) (O.faults out.new) }
     ensures sink_faults { result ≢ 1 → result ≢ 12 → O.faults out.new ≡ O.faults out.old }
-    ensures memory_line { result ≡ 1 → Moves (O.told out.old) (O.told out.new) (IsSaid (codes "settings: memory\n")) ⊎ Rose (O.faults out.old) (O.faults out.new) }
+    ensures memory_line { result ≡ 1 → Moves (O.told out.old) (O.told out.new) (IsSaid (codes "settings: memory\n"))
+        ⊎ Rose (O.faults out.old) (O.faults out.new) }
 {
     match outcome {
         Ok(text) => tell_text(out, 0, text.as_slice()),

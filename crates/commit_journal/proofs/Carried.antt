@@ -33,45 +33,56 @@ module _ (dir : Names) (entries : List Entry) (valid : is_batch entries ≡ true
   abbrev found : Files
   found = files_below dir (tree_of old)
 
-  -- what the directory stands for once the journal is there
+  -- what the directory represents once the journal is there
   abbrev over : Files
   over = laid entries (without_journal found)
 
   -- with the journal there, and all else as it was but for the entries' files
   stands_with : HasJournal found entries → (files : Files) → ((p : Names) → IsNamed entries p ⊎ (files p ≡ found p)) → StandsFor files over
-  stands_with has files same = inr (entries, record { there = at (same journal); valid = valid }, laid_equal entries (without_journal found) (without_journal files) (λ p. one p (same p)))
+  stands_with has files same = inr (
+    entries,
+    record { there = at (same journal); valid = valid },
+    laid_equal entries (without_journal found)
+        (without_journal files) (λ p. one p (same p)),
+  )
     where
       at : IsNamed entries journal ⊎ (files journal ≡ files_below dir (tree_of old) journal) → files journal ≡ Some (file (journal_text entries))
       at (inl named) = absurd (journal_not_named entries valid named)
       at (inr is) = is ∙ has.there
 
-      one : (p : Names) → IsNamed entries p ⊎ (files p ≡ files_below dir (tree_of old) p) → IsNamed entries p ⊎ (without_journal (files_below dir (tree_of old)) p ≡ without_journal files p)
+      one : (p : Names) → IsNamed entries p ⊎ (files p ≡ files_below dir (tree_of old) p)
+          → IsNamed entries p ⊎ (without_journal (files_below dir (tree_of old)) p ≡ without_journal files p)
       one p (inl named) = inl named
       one p (inr is) = inr (rw is refl)
 
   -- while the entries are put in their places, a crash leaves the journal and all other files
-  during : IsSettledBelow dir old → HasJournal found entries → (h : History) → GoesOn (IsAt (IsNamed (placed dir entries))) old h → EachImage (TreeStandsFor dir over) h
-  during settled has h goes image is = stands_with has (files_below dir image) (λ p. one p (may_leave_at (IsNamed (placed dir entries)) old h goes (dir ++ p) (node_at image (dir ++ p)) (is (dir ++ p))))
+  during : IsSettledBelow dir old → HasJournal found entries → (h : History) → GoesOn (IsAt (IsNamed (placed dir entries))) old h
+      → EachImage (TreeStandsFor dir over) h
+  during settled has h goes image is = stands_with has (files_below dir image)
+      (λ p. one p (may_leave_at (IsNamed (placed dir entries)) old h goes (dir ++ p) (node_at image (dir ++ p)) (is (dir ++ p))))
     where
-      one : (p : Names) → MayLeave old (dir ++ p) (node_at image (dir ++ p)) ⊎ IsNamed (placed dir entries) (dir ++ p) → IsNamed entries p ⊎ (files_below dir image p ≡ files_below dir (tree_of old) p)
+      one : (p : Names) → MayLeave old (dir ++ p) (node_at image (dir ++ p)) ⊎ IsNamed (placed dir entries) (dir ++ p)
+          → IsNamed entries p ⊎ (files_below dir image p ≡ files_below dir (tree_of old) p)
       one p (inl may) = inr (settled p (node_at image (dir ++ p)) may)
       one p (inr named) = inl (named_below dir entries p named)
 
   -- so it does until they are kept
-  since_installs : {E : Type 0} (result : Result Unit E) (new : History) → IsSettledBelow dir old → HasJournal found entries → InstallsKept (placed dir entries) result old new → EachSince (TreeStandsFor dir over) old new
+  since_installs : {E : Type 0} (result : Result Unit E) (new : History) → IsSettledBelow dir old → HasJournal found entries
+      → InstallsKept (placed dir entries) result old new → EachSince (TreeStandsFor dir over) old new
   since_installs (Ok done) new settled has (mid, goes, is, kept) =
-      since_syncs (TreeStandsFor dir over) old mid new {E = Unit} (Ok tt) (since_goes (TreeStandsFor dir over) (IsAt (IsNamed (placed dir entries))) old mid (during settled has) goes) kept
+      since_syncs (TreeStandsFor dir over) old mid new {E = Unit} (Ok tt)
+      (since_goes (TreeStandsFor dir over) (IsAt (IsNamed (placed dir entries))) old mid (during settled has) goes) kept
   since_installs (Err e) new settled has goes = since_goes (TreeStandsFor dir over) (IsAt (IsNamed (placed dir entries))) old new (during settled has) goes
 
   -- the journal is taken away from files that are as its entries say
   without_it : (files : Files) → files ≡ laid entries found → with_node files journal None ≡ over
   without_it files is = ap (λ (f : Files). with_node f journal None) is ∙ sym (laid-with_node entries found journal None (journal_not_named entries valid))
 
-  -- so the tree is left with what it stood for
+  -- so the tree is left with what it represented
   ended : (h : History) → files_below dir (tree_of h) ≡ laid entries found → files_below dir (set_node (tree_of h) (dir ++ journal) None) ≡ over
   ended h is = files_below-set_node dir (tree_of h) journal None ∙ without_it (files_below dir (tree_of h)) is
 
-  -- and stands for it without a journal
+  -- and represents it without a journal
   stands_ended : (files : Files) → files ≡ over → StandsFor files over
   stands_ended files is = inl (
     ap (λ (f : Files). f journal) (is ∙ sym (without_it (laid entries found) refl)) ∙ with_node_here (laid entries found) journal None journal refl,
@@ -79,26 +90,33 @@ module _ (dir : Names) (entries : List Entry) (valid : is_batch entries ≡ true
   )
 
   -- while the journal is taken away, a crash leaves it or takes it away
-  image_ends : (h : History) → IsSettled h → files_below dir (tree_of h) ≡ laid entries found → EachSince (TreeStandsFor dir over) old h → EachImage (TreeStandsFor dir over) (next (replaced (dir ++ journal) None) h)
+  image_ends : (h : History) → IsSettled h → files_below dir (tree_of h) ≡ laid entries found → EachSince (TreeStandsFor dir over) old h
+      → EachImage (TreeStandsFor dir over) (next (replaced (dir ++ journal) None) h)
   image_ends h settled is so_far image im = elim (EachImage-replaced h (dir ++ journal) None settled image im) [
     | inl was ↦ subst (TreeStandsFor dir over) (sym was) (since_now (TreeStandsFor dir over) old h so_far (tree_of h) (tree_is_image h))
     | inr now ↦ stands_ended (files_below dir image) (ap (λ t. files_below dir t) now ∙ ended h is)
   ]
 
   -- so it does until it is kept away
-  since_ends : {E : Type 0} (result : Result Unit E) (h new : History) → IsSettled h → files_below dir (tree_of h) ≡ laid entries found → EachSince (TreeStandsFor dir over) old h → PutsKept (dir ++ journal) None result h new → EachSince (TreeStandsFor dir over) old new
+  since_ends : {E : Type 0} (result : Result Unit E) (h new : History) → IsSettled h → files_below dir (tree_of h) ≡ laid entries found
+      → EachSince (TreeStandsFor dir over) old h → PutsKept (dir ++ journal) None result h new → EachSince (TreeStandsFor dir over) old new
   since_ends (Ok done) h new settled is so_far kept =
-      since_syncs (TreeStandsFor dir over) old (next (replaced (dir ++ journal) None) h) new {E = Unit} (Ok tt) (since_next (TreeStandsFor dir over) old h (replaced (dir ++ journal) None) so_far (image_ends h settled is so_far)) kept
+      since_syncs (TreeStandsFor dir over) old (next (replaced (dir ++ journal) None) h) new {E = Unit} (Ok tt)
+      (since_next (TreeStandsFor dir over) old h (replaced (dir ++ journal) None) so_far (image_ends h settled is so_far)) kept
   since_ends (Err e) h new settled is so_far (inl same) = subst (λ k. EachSince (TreeStandsFor dir over) old k) (sym same) so_far
   since_ends (Err e) h new settled is so_far (inr put) =
-      subst (λ k. EachSince (TreeStandsFor dir over) old k) (sym put) (since_next (TreeStandsFor dir over) old h (replaced (dir ++ journal) None) so_far (image_ends h settled is so_far))
+      subst (λ k. EachSince (TreeStandsFor dir over) old k) (sym put) (since_next (TreeStandsFor dir over) old h (replaced (dir ++ journal) None) so_far
+      (image_ends h settled is so_far))
 
   -- entries that are kept are laid over the files
-  done_installs : (E : Type 0) (done : Unit) (h : History) → InstallsKept {E = E} (placed dir entries) (Ok done) old h → files_below dir (tree_of h) ≡ laid entries found
-  done_installs E done h (mid, goes, is, kept) = ap (λ k. files_below dir (tree_of k)) kept ∙ ap (λ t. files_below dir t) is ∙ installed_placed dir entries (tree_of old)
+  done_installs : (E : Type 0) (done : Unit) (h : History) → InstallsKept {E = E} (placed dir entries) (Ok done) old h
+      → files_below dir (tree_of h) ≡ laid entries found
+  done_installs E done h (mid, goes, is, kept) = ap (λ k. files_below dir (tree_of k)) kept ∙ ap (λ t. files_below dir t) is
+      ∙ installed_placed dir entries (tree_of old)
 
-  -- a journal that is kept away leaves what it stood for
-  done_ends : {E : Type 0} (result : Result Unit E) (h new : History) → files_below dir (tree_of h) ≡ laid entries found → PutsKept (dir ++ journal) None result h new → OnOk result ((files_below dir (tree_of new) ≡ over) × IsSettled new)
+  -- a journal that is kept away leaves what it represented
+  done_ends : {E : Type 0} (result : Result Unit E) (h new : History) → files_below dir (tree_of h) ≡ laid entries found
+      → PutsKept (dir ++ journal) None result h new → OnOk result ((files_below dir (tree_of new) ≡ over) × IsSettled new)
   done_ends (Ok done) h new is kept = (
     ap (λ k. files_below dir (tree_of k)) kept ∙ ended h is,
     subst IsSettled (sym kept) (settled_synced (next (replaced (dir ++ journal) None) h)),
@@ -122,13 +140,15 @@ module _ (dir : Names) (entries : List Entry) (valid : is_batch entries ≡ true
   -- entries that are put in their places touch no path elsewhere
   touches_installs : {E : Type 0} (result : Result Unit E) (new : History) → InstallsKept (placed dir entries) result old new → Touches (IsBelow dir) old new
   touches_installs (Ok done) new (mid, goes, is, kept) =
-      goes_joined (IsAtOrSync (IsBelow dir)) old mid new (goes_map (IsAt (IsNamed (placed dir entries))) (IsAtOrSync (IsBelow dir)) old mid within goes) (touches_synced dir mid new kept)
+      goes_joined (IsAtOrSync (IsBelow dir)) old mid new (goes_map (IsAt (IsNamed (placed dir entries))) (IsAtOrSync (IsBelow dir)) old mid within goes)
+      (touches_synced dir mid new kept)
   touches_installs (Err e) new goes = goes_map (IsAt (IsNamed (placed dir entries))) (IsAtOrSync (IsBelow dir)) old new within goes
 
 -- ---- both parts
 
 -- the entries are not kept
-pub carried_fails : (dir : Names) (entries : List Entry) (E : Type 0) (e : E) (old new : History) → is_batch entries ≡ true → InstallsKept {E = E} (placed dir entries) (Err e) old new → CarriesOut {E = E} (record { dir = dir; entries = entries }) (Err e) old new
+pub carried_fails : (dir : Names) (entries : List Entry) (E : Type 0) (e : E) (old new : History) → is_batch entries ≡ true
+    → InstallsKept {E = E} (placed dir entries) (Err e) old new → CarriesOut {E = E} (record { dir = dir; entries = entries }) (Err e) old new
 carried_fails dir entries E e old new valid put = record {
   any_moment = λ settled has. since_installs dir entries valid old {E = E} (Err e) new settled has put;
   done = tt;
@@ -136,13 +156,16 @@ carried_fails dir entries E e old new valid put = record {
 }
 
 -- the entries are kept, and then the journal is taken away or not
-pub carried : (dir : Names) (entries : List Entry) (E : Type 0) (done : Unit) (result : Result Unit E) (old mid new : History) → is_batch entries ≡ true → InstallsKept {E = E} (placed dir entries) (Ok done) old mid → PutsKept (dir ++ journal) None result mid new
+pub carried : (dir : Names) (entries : List Entry) (E : Type 0) (done : Unit) (result : Result Unit E) (old mid new : History) → is_batch entries ≡ true
+    → InstallsKept {E = E} (placed dir entries) (Ok done) old mid → PutsKept (dir ++ journal) None result mid new
     → CarriesOut (record { dir = dir; entries = entries }) result old new
 carried dir entries E done result old mid new valid put ends =
     let files = done_installs dir entries valid old E done mid put in
     let kept : IsSettled mid = subst IsSettled (sym put.3) (settled_synced put.0) in
     record {
-      any_moment = λ settled has. since_ends dir entries valid old result mid new kept files (since_installs dir entries valid old {E = E} (Ok done) mid settled has put) ends;
+      any_moment = λ settled has. since_ends dir entries valid old result mid new kept files
+          (since_installs dir entries valid old {E = E} (Ok done) mid settled has put) ends;
       done = done_ends dir entries valid old result mid new files ends;
-      others = goes_joined (IsAtOrSync (IsBelow dir)) old mid new (touches_installs dir entries valid old {E = E} (Ok done) mid put) (touches_puts dir (codes "journal") [] None result mid new ends);
+      others = goes_joined (IsAtOrSync (IsBelow dir)) old mid new (touches_installs dir entries valid old {E = E} (Ok done) mid put)
+          (touches_puts dir (codes "journal") [] None result mid new ends);
     }

@@ -32,11 +32,11 @@ module _ (batch : Changes) (valid : is_batch batch.entries ≡ true) (old : Hist
   abbrev put : Change
   put = replaced (batch.dir ++ journal) written
 
-  -- what is as it was stands for the files before
+  -- what is as it was represents the files before
   stands_untouched : (tree : Tree) → files_below batch.dir tree ≡ before → TreeStandsFor batch.dir (files_before batch old) tree
   stands_untouched tree is = inl (ap (λ (f : Files). f journal) is ∙ ready.no_journal, sym is)
 
-  -- with the journal it stands for the files after
+  -- with the journal it represents the files after
   stands_written : (tree : Tree) → files_below batch.dir tree ≡ with_node before journal written → TreeStandsFor batch.dir (files_after batch old) tree
   stands_written tree is = inr (
     batch.entries,
@@ -55,36 +55,45 @@ module _ (batch : Changes) (valid : is_batch batch.entries ≡ true) (old : Hist
   image_put : EachImage (StandsForEither batch old) (next put old)
   image_put image is = go (is (batch.dir ++ journal))
     where
-      was_at : (p : Names) → node_at image (batch.dir ++ journal) ≡ node_at (tree_of old) (batch.dir ++ journal) → MayLeave (next put old) (batch.dir ++ p) (node_at image (batch.dir ++ p)) → files_below batch.dir image p ≡ files_below batch.dir (tree_of old) p
+      was_at : (p : Names) → node_at image (batch.dir ++ journal) ≡ node_at (tree_of old) (batch.dir ++ journal)
+          → MayLeave (next put old) (batch.dir ++ p) (node_at image (batch.dir ++ p)) → files_below batch.dir image p ≡ files_below batch.dir (tree_of old) p
       was_at p was (inl may) = ready.settled p (node_at image (batch.dir ++ p)) may
       was_at p was (inr (here, is)) = ap (λ (q : Names). node_at image q) here ∙ was ∙ ap (λ (q : Names). node_at (tree_of old) q) (sym here)
 
-      now_at : (p : Names) → node_at image (batch.dir ++ journal) ≡ written → (p ≡ journal) ⊎ (eq_by_cmp path_cmp p journal ≡ false) → MayLeave (next put old) (batch.dir ++ p) (node_at image (batch.dir ++ p)) → files_below batch.dir image p ≡ with_node before journal written p
+      now_at : (p : Names) → node_at image (batch.dir ++ journal) ≡ written → (p ≡ journal) ⊎ (eq_by_cmp path_cmp p journal ≡ false)
+          → MayLeave (next put old) (batch.dir ++ p) (node_at image (batch.dir ++ p)) → files_below batch.dir image p ≡ with_node before journal written p
       now_at p is_now (inl here) may = ap (λ (q : Names). node_at image (batch.dir ++ q)) here ∙ is_now ∙ sym (with_node_here before journal written p here)
       now_at p is_now (inr other) (inl may) = ready.settled p (node_at image (batch.dir ++ p)) may ∙ sym (with_node_other before journal written p other)
-      now_at p is_now (inr other) (inr (here, is)) = absurd (false≢true (sym other ∙ ap (λ (q : Names). eq_by_cmp path_cmp q journal) (append_cancel_left batch.dir p journal here) ∙ path_itself journal))
+      now_at p is_now (inr other) (inr (here, is)) = absurd (false≢true
+          (sym other ∙ ap (λ (q : Names). eq_by_cmp path_cmp q journal) (append_cancel_left batch.dir p journal here) ∙ path_itself journal))
 
       go : MayLeave (next put old) (batch.dir ++ journal) (node_at image (batch.dir ++ journal)) → StandsForEither batch old image
-      go (inl may) = inl (stands_untouched image (fun_ext (λ p. was_at p (ready.settled journal (node_at image (batch.dir ++ journal)) may) (is (batch.dir ++ p)))))
+      go (inl may) = inl (stands_untouched image (fun_ext (λ p. was_at p (ready.settled journal (node_at image (batch.dir ++ journal)) may)
+          (is (batch.dir ++ p)))))
       go (inr (here, is_now)) = inr (stands_written image (fun_ext (λ p. now_at p is_now (path_cases p journal) (is (batch.dir ++ p)))))
 
   -- up to then each crash leaves the files before or after
   since_next_put : EachSince (StandsForEither batch old) old (next put old)
-  since_next_put = since_next (StandsForEither batch old) old old put (since_start (StandsForEither batch old) old (λ image is. inl (image_untouched image is))) image_put
+  since_next_put = since_next (StandsForEither batch old) old old put (since_start (StandsForEither batch old) old (λ image is. inl (image_untouched image is)))
+      image_put
 
   -- also until the journal is kept
-  pub since_put : {E : Type 0} (result : Result Unit E) (new : History) → PutsKept (batch.dir ++ journal) written result old new → EachSince (StandsForEither batch old) old new
+  pub since_put : {E : Type 0} (result : Result Unit E) (new : History) → PutsKept (batch.dir ++ journal) written result old new
+      → EachSince (StandsForEither batch old) old new
   since_put (Ok done) new kept = since_syncs (StandsForEither batch old) old (next put old) new {E = Unit} (Ok tt) since_next_put kept
-  since_put (Err e) new (inl same) = subst (λ k. EachSince (StandsForEither batch old) old k) (sym same) (since_start (StandsForEither batch old) old (λ image is. inl (image_untouched image is)))
+  since_put (Err e) new (inl same) = subst (λ k. EachSince (StandsForEither batch old) old k) (sym same)
+      (since_start (StandsForEither batch old) old (λ image is. inl (image_untouched image is)))
   since_put (Err e) new (inr is) = subst (λ k. EachSince (StandsForEither batch old) old k) (sym is) since_next_put
 
   -- a journal that is not kept is there nevertheless, or nothing was begun
-  pub put_failed : {E : Type 0} (e : E) (new : History) → PutsKept {E = E} (batch.dir ++ journal) written (Err e) old new → TreeStandsFor batch.dir (files_after batch old) (tree_of new) ⊎ IsNotBegun batch old new
+  pub put_failed : {E : Type 0} (e : E) (new : History) → PutsKept {E = E} (batch.dir ++ journal) written (Err e) old new
+      → TreeStandsFor batch.dir (files_after batch old) (tree_of new) ⊎ IsNotBegun batch old new
   put_failed e new (inl same) = inr (subst (λ k. IsNotBegun batch old k) (sym same) (record {
     tree = stands_untouched (tree_of old) refl;
     images = since_start (TreeStandsFor batch.dir (files_before batch old)) old image_untouched;
   }))
-  put_failed e new (inr is) = inl (stands_written (tree_of new) (ap (λ k. files_below batch.dir (tree_of k)) is ∙ files_below-set_node batch.dir (tree_of old) journal written))
+  put_failed e new (inr is) = inl (stands_written (tree_of new) (ap (λ k. files_below batch.dir (tree_of k)) is
+      ∙ files_below-set_node batch.dir (tree_of old) journal written))
 
   module _ (E : Type 0) (done : Unit) (mid new : History) (kept : PutsKept {E = E} (batch.dir ++ journal) written (Ok done) old mid) where
     -- the journal is there
@@ -118,11 +127,13 @@ module _ (batch : Changes) (valid : is_batch batch.entries ≡ true) (old : Hist
     pub since_carried : {F : Type 0} (result : Result Unit F) → CarriesOut batch result mid new → EachSince (StandsForEither batch old) old new
     since_carried result carries =
         since_joined (StandsForEither batch old) old mid new (since_put {E = E} (Ok done) mid kept)
-        (since_map (TreeStandsFor batch.dir (files_after batch old)) (StandsForEither batch old) mid new (λ image stands. inr stands) (since_after result carries))
+        (since_map (TreeStandsFor batch.dir (files_after batch old)) (StandsForEither batch old) mid new (λ image stands. inr stands)
+        (since_after result carries))
 
     -- so does the tree, where it is not carried out to the end
     pub carry_failed : {F : Type 0} (result : Result Unit F) → CarriesOut batch result mid new → TreeStandsFor batch.dir (files_after batch old) (tree_of new)
-    carry_failed result carries = since_now (TreeStandsFor batch.dir (files_after batch old)) mid new (since_after result carries) (tree_of new) (tree_is_image new)
+    carry_failed result carries = since_now (TreeStandsFor batch.dir (files_after batch old)) mid new (since_after result carries) (tree_of new)
+        (tree_is_image new)
 
     -- once it is carried out, the change is made
     pub is_made : (files_below batch.dir (tree_of new) ≡ carried_over batch mid) × IsSettled new → IsMade batch old new
@@ -130,7 +141,8 @@ module _ (batch : Changes) (valid : is_batch batch.entries ≡ true) (old : Hist
       files = files ∙ over_is;
       settled = settled;
       ready = record {
-        no_journal = ap (λ (f : Files). f journal) (files ∙ over_is) ∙ laid_other batch.entries before journal (journal_not_named batch.entries valid) ∙ ready.no_journal;
+        no_journal = ap (λ (f : Files). f journal) (files ∙ over_is) ∙ laid_other batch.entries before journal (journal_not_named batch.entries valid)
+            ∙ ready.no_journal;
         settled = λ p. settled (batch.dir ++ p);
       };
     }

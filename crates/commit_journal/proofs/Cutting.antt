@@ -10,7 +10,8 @@ Lacks-append c (x ∷ xs) ys first second = (first.0, Lacks-append c xs ys first
 
 -- one more element that is another byte
 pub lacks_more : (c : ℕ) (xs : List ℕ) (i : ℕ) → i < length xs → Lacks c (take i xs) → get_or xs i 0 ≢ c → Lacks c (take (i + 1) xs)
-lacks_more c xs i below lacks other = subst (λ (l : List ℕ). Lacks c l) (sym (take_more xs i 0 below)) (Lacks-append c (take i xs) (get_or xs i 0 ∷ []) lacks (other, tt))
+lacks_more c xs i below lacks other = subst (λ (l : List ℕ). Lacks c l) (sym (take_more xs i 0 below))
+    (Lacks-append c (take i xs) (get_or xs i 0 ∷ []) lacks (other, tt))
 
 -- a list with the byte in it does not lack it
 pub lacks_none : (c : ℕ) (xs ys : List ℕ) → Lacks c (xs ++ c ∷ ys) → ⊥
@@ -29,7 +30,7 @@ split_one c (x ∷ xs) (y ∷ ys) p q first second same =
     let e : xs ≡ ys = rest.0 in
     (cc, rest.1)
 
--- a list is cut behind so many bytes in one way
+-- a list is cut after so many bytes in one way
 pub same_length : (xs ys p q : List ℕ) → length xs ≡ length ys → xs ++ p ≡ ys ++ q → (xs ≡ ys) × (p ≡ q)
 same_length [] [] p q size same = (refl, same)
 same_length [] (y ∷ ys) p q size same = absurd (omega arith)

@@ -23,7 +23,8 @@ pub touches_synced : (dir : Names) (old new : History) → new ≡ next synced o
 touches_synced dir old new is = goes_one (IsAtOrSync (IsBelow dir)) old new synced is tt
 
 -- a node that is put below the directory touches no other path
-pub touches_puts : (dir : Names) (name : List ℕ) (rest : Names) (now : Option Node) {E : Type 0} (result : Result Unit E) (old new : History) → PutsKept (dir ++ name ∷ rest) now result old new → Touches (IsBelow dir) old new
+pub touches_puts : (dir : Names) (name : List ℕ) (rest : Names) (now : Option Node) {E : Type 0} (result : Result Unit E) (old new : History)
+    → PutsKept (dir ++ name ∷ rest) now result old new → Touches (IsBelow dir) old new
 touches_puts dir name rest now (Ok done) old new is =
     let C = IsAtOrSync (IsBelow dir) in
     let put = next (replaced (dir ++ name ∷ rest) now) old in

@@ -20,7 +20,9 @@ room_below dir path two = ap (λ n. nat_le n 40) (length-append dir path ∙ ap 
     two_less n = grind (arith, nat_tests)
 
 -- entries with a first name, with names, with room and with few enough bytes are valid
-made_entries : (dir : Names) (entries : List Entry) → length dir ≡ 2 → list_all (λ e. has_first_name e.0) entries ≡ true → list_all (λ e. are_names e.0) entries ≡ true → list_all (fits_below dir) entries ≡ true → list_all (λ e. fits_memory e.1) entries ≡ true → list_all is_entry entries ≡ true
+made_entries : (dir : Names) (entries : List Entry) → length dir ≡ 2 → list_all (λ e. has_first_name e.0) entries ≡ true
+    → list_all (λ e. are_names e.0) entries ≡ true → list_all (fits_below dir) entries ≡ true → list_all (λ e. fits_memory e.1) entries ≡ true
+    → list_all is_entry entries ≡ true
 made_entries dir [] two first named room small = refl
 made_entries dir (x ∷ entries) two first named room small =
     let a = and_parts (has_first_name x.0) (list_all (λ (e : Entry). has_first_name e.0) entries) first in
@@ -31,11 +33,15 @@ made_entries dir (x ∷ entries) two first named room small =
     and_from (is_entry x) (list_all is_entry entries) (and_from (is_entry_path x.0) (fits_memory x.1) path d.0) (made_entries dir entries two a.1 b.1 c.1 d.1)
 
 -- they are a batch where they rise
-pub made_batch : (dir : Names) (entries : List Entry) → length dir ≡ 2 → list_all (λ e. has_first_name e.0) entries ≡ true → are_rising entries ≡ true → list_all (λ e. are_names e.0) entries ≡ true → list_all (fits_below dir) entries ≡ true → list_all (λ e. fits_memory e.1) entries ≡ true → is_batch entries ≡ true
-made_batch dir entries two first rising named room small = and_from (list_all is_entry entries) (are_rising entries) (made_entries dir entries two first named room small) rising
+pub made_batch : (dir : Names) (entries : List Entry) → length dir ≡ 2 → list_all (λ e. has_first_name e.0) entries ≡ true → are_rising entries ≡ true
+    → list_all (λ e. are_names e.0) entries ≡ true → list_all (fits_below dir) entries ≡ true → list_all (λ e. fits_memory e.1) entries ≡ true
+    → is_batch entries ≡ true
+made_batch dir entries two first rising named room small = and_from (list_all is_entry entries) (are_rising entries)
+    (made_entries dir entries two first named room small) rising
 
 -- the parts of the batch of a journal
-pub parts_read : (dir copy path : Names) (text : List ℕ) (entries : List Entry) (all : List PlacedEntry) → copy ≡ dir → path ≡ dir ++ journal → IsJournal entries text → ArePlaced dir entries all → AreParts copy path text all
+pub parts_read : (dir copy path : Names) (text : List ℕ) (entries : List Entry) (all : List PlacedEntry) → copy ≡ dir → path ≡ dir ++ journal
+    → IsJournal entries text → ArePlaced dir entries all → AreParts copy path text all
 parts_read dir copy path text entries all same at is gives = record {
   path_is = at ∙ ap (λ (d : Names). d ++ journal) (sym same);
   text_is = record {
@@ -46,8 +52,10 @@ parts_read dir copy path text entries all same at is gives = record {
 }
 
 -- the parts of the batch of these entries
-pub parts_made : (dir copy path : Names) (text : List ℕ) (entries : List Entry) (all : List PlacedEntry) → copy ≡ dir → path ≡ dir ++ journal → text ≡ journal_text entries → is_batch entries ≡ true → ArePlaced dir entries all → AreParts copy path text all
-parts_made dir copy path text entries all same at is valid gives = parts_read dir copy path text entries all same at (record { text_is = is; valid = valid }) gives
+pub parts_made : (dir copy path : Names) (text : List ℕ) (entries : List Entry) (all : List PlacedEntry) → copy ≡ dir → path ≡ dir ++ journal
+    → text ≡ journal_text entries → is_batch entries ≡ true → ArePlaced dir entries all → AreParts copy path text all
+parts_made dir copy path text entries all same at is valid gives = parts_read dir copy path text entries all same at (record { text_is = is; valid = valid })
+    gives
 
 -- the entries of a journal have room
 journal_room : (dir : Names) (entries : List Entry) → length dir ≡ 2 → list_all is_entry entries ≡ true → list_all (fits_below dir) entries ≡ true

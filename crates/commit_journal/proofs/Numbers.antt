@@ -1,5 +1,6 @@
 -- Decimal numbers.
-use Rattle.std.proofs.Common.{◌≡◌, ◌≢◌, true, false, ℕ, zero, suc, ◌+◌, ◌-◌, ◌*◌, ◌<◌, ◌^◌, List, [], ◌∷◌, length, get_or, Option, Some, None, MatchOption, Result, Ok, Err, refl, sym, ◌∙◌, ap, subst, arith, rules}
+use Rattle.std.proofs.Common.{◌≡◌, ◌≢◌, true, false, ℕ, zero, suc, ◌+◌, ◌-◌, ◌*◌, ◌<◌, ◌^◌, List, [], ◌∷◌}
+use Rattle.std.proofs.Common.{length, get_or, Option, Some, None, MatchOption, Result, Ok, Err, refl, sym, ◌∙◌, ap, subst, arith, rules}
 use Rattle.std.proofs.lemmas.Bool.{false≢true}
 use Rattle.std.proofs.lemmas.Bool.Decides.{nat_tests}
 use Rattle.std.proofs.lemmas.Fmt.{decimal_digit, first_decimal, decimal_nonempty, decimal_is_IsNumeral, decimal-digits_value, parse-decimal, IsAscii-decimal}
@@ -13,7 +14,7 @@ use Rattle.std.specs.Str.{IsUtf8, all_ascii_digits}
 use Rattle.std.specs.Str.Parse.{AllDigits, ParsesUnsigned}
 use Rattle.commit_journal.specs.Parts.{Lacks, is_plain, IsNumber}
 
--- the value of digits behind a number
+-- the value of digits after a number
 abbrev read_on : ℕ → List ℕ → ℕ
 read_on n [] = n
 read_on n (c ∷ cs) = read_on (10 * n + (c - 48)) cs
@@ -55,7 +56,8 @@ not_parsed : {E : Type 0} (ds : List ℕ) (r : Result ℕ E) (e : E) → r ≡ E
 not_parsed ds r e failed parses n below is = let ok = parse-decimal 64 n ds r below below is parses in cc
 
 -- what a parse tells of digits
-pub value_parsed : {E : Type 0} (ds text : List ℕ) (r : Result ℕ E) (o : Option ℕ) → o ≡ result_ok r → ParsesUnsigned 64 10 text r → text ≡ ds → MatchOption o ((n : ℕ) → n < 2 ^ 64 → ds ≢ decimal n) (λ n. is_plain ds ≡ true → ds ≡ decimal n)
+pub value_parsed : {E : Type 0} (ds text : List ℕ) (r : Result ℕ E) (o : Option ℕ) → o ≡ result_ok r → ParsesUnsigned 64 10 text r → text ≡ ds
+    → MatchOption o ((n : ℕ) → n < 2 ^ 64 → ds ≢ decimal n) (λ n. is_plain ds ≡ true → ds ≡ decimal n)
 value_parsed {E = E} ds text (Ok n) o is parses same =
     subst (λ (p : Option ℕ). MatchOption p ((n : ℕ) → n < 2 ^ 64 → ds ≢ decimal n) (λ n. is_plain ds ≡ true → ds ≡ decimal n)) (sym is)
     (parsed {E = E} ds (Ok n) n refl (subst (λ (l : List ℕ). ParsesUnsigned {E = E} 64 10 l (Ok n)) same parses))
@@ -64,7 +66,8 @@ value_parsed ds text (Err e) o is parses same =
     (not_parsed ds (Err e) e refl (subst (λ (l : List ℕ). ParsesUnsigned 64 10 l (Err e)) same parses))
 
 -- plain digits are those of the value, or of none
-pub number_plain : (ds : List ℕ) (o : Option ℕ) → is_plain ds ≡ true → MatchOption o ((n : ℕ) → n < 2 ^ 64 → ds ≢ decimal n) (λ n. is_plain ds ≡ true → ds ≡ decimal n) → ((n : ℕ) → o ≡ Some n → n < 2 ^ 64) → MatchOption o ((n : ℕ) → IsNumber ds n → ⊥) (λ n. IsNumber ds n)
+pub number_plain : (ds : List ℕ) (o : Option ℕ) → is_plain ds ≡ true → MatchOption o ((n : ℕ) → n < 2 ^ 64 → ds ≢ decimal n)
+    (λ n. is_plain ds ≡ true → ds ≡ decimal n) → ((n : ℕ) → o ≡ Some n → n < 2 ^ 64) → MatchOption o ((n : ℕ) → IsNumber ds n → ⊥) (λ n. IsNumber ds n)
 number_plain ds None plain h fits = λ n is. h n is.fits is.digits_are
 number_plain ds (Some n) plain h fits = record { digits_are = h plain; fits = fits n refl }
 

@@ -1,5 +1,6 @@
 -- What the exits of a recovery leave.
-use Rattle.std.proofs.Common.{◌≡◌, inl, inr, ◌⊎◌, Bool, true, false, List, ◌++◌, ℕ, Option, Some, None, Result, Ok, Err, IsErrOf, option_map, is_some, refl, sym, ◌∙◌, ap, subst}
+use Rattle.std.proofs.Common.{◌≡◌, inl, inr, ◌⊎◌, Bool, true, false, List, ◌++◌, ℕ, Option, Some}
+use Rattle.std.proofs.Common.{None, Result, Ok, Err, IsErrOf, option_map, is_some, refl, sym, ◌∙◌, ap, subst}
 use Rattle.std.specs.Prelude.{Vec}
 use Rattle.std.specs.declared.alloc.Global.{Global}
 use Rattle.outside.specs.Names.{Names}
@@ -46,7 +47,7 @@ pub plain_device : (d : DiskErr) (e : JournalError) → HandsOn told.Failed told
 plain_device device.Failed e is = inr is
 plain_device device.Memory e is = inl is
 
--- ---- what a directory stands for
+-- ---- what a directory represents
 
 -- where neither a file nor a link is, nothing is
 no_node : (node : Option Node) → file_in node ≡ None → link_in node ≡ None → node ≡ None
@@ -61,19 +62,20 @@ same_text found one other first second = one_journal one other first.valid secon
     texts : Some (file (journal_text one)) ≡ Some (file (journal_text other)) → journal_text one ≡ journal_text other
     texts e = cc
 
--- where a journal is there, the directory does not stand for itself
+-- where a journal is there, the directory does not represent itself
 not_gone : (found : Files) (entries : List Entry) → HasJournal found entries → found journal ≡ None → ⊥
 not_gone found entries has gone = clash (sym gone ∙ has.there)
   where
     clash : None ≡ Some (file (journal_text entries)) → ⊥
     clash e = cc
 
--- a directory with a journal stands for the rest with its entries laid over it
+-- a directory with a journal represents the rest with its entries laid over it
 stands_over : (found files : Files) (entries : List Entry) → HasJournal found entries → StandsFor found files → files ≡ laid entries (without_journal found)
 stands_over found files entries has (inl (gone, is)) = absurd (not_gone found entries has gone)
-stands_over found files entries has (inr (others, there, is)) = is ∙ ap (λ (l : List Entry). laid l (without_journal found)) (same_text found others entries there has)
+stands_over found files entries has (inr (others, there, is)) = is ∙ ap (λ (l : List Entry). laid l (without_journal found))
+    (same_text found others entries there has)
 
--- a directory stands for one choice of files
+-- a directory represents one choice of files
 pub stands_one : StandsForOne
 stands_one found one other (inl (gone, is)) (inl (none, same)) = is ∙ sym same
 stands_one found one other (inl (gone, is)) (inr (entries, has, same)) = absurd (not_gone found entries has gone)
@@ -85,22 +87,27 @@ module _ (dir : Names) where
   touches old new (inl is) = subst (λ h. Touches (IsBelow dir) old h) (sym is) (goes_stay (IsAtOrSync (IsBelow dir)) old)
   touches old new (inr more) = goes_joined (IsAtOrSync (IsBelow dir)) old (next synced old) new (touches_synced dir old (next synced old) refl) more
 
-  -- and its tree stands for the same files
-  still_stands : (files : Files) (old new : History) → TreeStandsFor dir files (tree_of old) → FromSyncOn (EachSince (TreeStandsFor dir files)) old new → TreeStandsFor dir files (tree_of new)
+  -- and its tree represents the same files
+  still_stands : (files : Files) (old new : History) → TreeStandsFor dir files (tree_of old) → FromSyncOn (EachSince (TreeStandsFor dir files)) old new
+      → TreeStandsFor dir files (tree_of new)
   still_stands files old new stands (inl is) = subst (λ h. TreeStandsFor dir files (tree_of h)) (sym is) stands
   still_stands files old new stands (inr since) = since_now (TreeStandsFor dir files) (next synced old) new since (tree_of new) (tree_is_image new)
 
   -- once what is there is on the disk, a crash leaves it
-  since_synced : (files : Files) (old : History) → TreeStandsFor dir files (tree_of old) → EachSince (TreeStandsFor dir files) (next synced old) (next synced old)
-  since_synced files old stands = (since_start (TreeStandsFor dir files) (next synced old) (λ image im. subst (TreeStandsFor dir files) (sym (settled_image (next synced old) (settled_synced old) image im)) stands))
+  since_synced : (files : Files) (old : History) → TreeStandsFor dir files (tree_of old) → EachSince (TreeStandsFor dir files) (next synced old)
+      (next synced old)
+  since_synced files old stands = (since_start (TreeStandsFor dir files) (next synced old)
+      (λ image im. subst (TreeStandsFor dir files) (sym (settled_image (next synced old) (settled_synced old) image im)) stands))
 
-  keeps_synced : (files : Files) (old : History) → TreeStandsFor dir files (tree_of old) → FromSyncOn (EachSince (TreeStandsFor dir files)) old (next synced old)
+  keeps_synced : (files : Files) (old : History) → TreeStandsFor dir files (tree_of old) → FromSyncOn (EachSince (TreeStandsFor dir files)) old
+      (next synced old)
   keeps_synced files old stands = inr (since_synced files old stands)
 
   -- ---- the exits, by what was done
 
   -- another error than that of a bad journal
-  refused : (e : JournalError) → IsPlain e → (old new : History) → FromSyncOn (Touches (IsBelow dir)) old new → ((files : Files) → TreeStandsFor dir files (tree_of old) → FromSyncOn (EachSince (TreeStandsFor dir files)) old new) → Recovers dir (Err e) old new
+  refused : (e : JournalError) → IsPlain e → (old new : History) → FromSyncOn (Touches (IsBelow dir)) old new
+      → ((files : Files) → TreeStandsFor dir files (tree_of old) → FromSyncOn (EachSince (TreeStandsFor dir files)) old new) → Recovers dir (Err e) old new
   refused e plain old new goes keeps = record {
     sync_first = goes;
     keeps = keeps;
@@ -123,7 +130,8 @@ module _ (dir : Names) where
 
   -- only the sync was made
   only_synced : (e : JournalError) → IsPlain e → (old : History) → Recovers dir (Err e) old (next synced old)
-  only_synced e plain old = refused e plain old (next synced old) (inr (goes_stay (IsAtOrSync (IsBelow dir)) (next synced old))) (λ files. keeps_synced files old)
+  only_synced e plain old = refused e plain old (next synced old) (inr (goes_stay (IsAtOrSync (IsBelow dir)) (next synced old)))
+      (λ files. keeps_synced files old)
 
   -- no journal was there
   none_there : (old : History) → journal_in dir (tree_of old) ≡ None → Recovers dir (Ok false) old (next synced old)
@@ -154,7 +162,8 @@ module _ (dir : Names) where
           clash some = cc
 
   -- what was there is no journal
-  bad_there : (old : History) (path : Names) (text : List ℕ) → path ≡ dir ++ journal → journal_in dir (tree_of old) ≡ Some text → ((entries : List Entry) → IsJournal entries text → ⊥) → Recovers dir (Err (told.BadJournal path)) old (next synced old)
+  bad_there : (old : History) (path : Names) (text : List ℕ) → path ≡ dir ++ journal → journal_in dir (tree_of old) ≡ Some text
+      → ((entries : List Entry) → IsJournal entries text → ⊥) → Recovers dir (Err (told.BadJournal path)) old (next synced old)
   bad_there old path text at is other = record {
     sync_first = inr (goes_stay (IsAtOrSync (IsBelow dir)) (next synced old));
     keeps = λ files. keeps_synced files old;
@@ -174,7 +183,8 @@ module _ (dir : Names) where
       same_path : (found : Names) → IsErrOf {T = Bool} (Err (told.BadJournal path)) (told.BadJournal found) → found ≡ path
       same_path found same = cc
 
-  module _ (old : History) (batch : Changes) (text : List ℕ) (at : batch.dir ≡ dir) (is : journal_in dir (tree_of old) ≡ Some text) (spelled : IsJournal batch.entries text) where
+  module _ (old : History) (batch : Changes) (text : List ℕ) (at : batch.dir ≡ dir) (is : journal_in dir (tree_of old) ≡ Some text)
+      (spelled : IsJournal batch.entries text) where
     -- the rest with the journal's entries laid over it
     abbrev over : Files
     over = laid batch.entries (without_journal (files_below dir (tree_of old)))
@@ -191,20 +201,24 @@ module _ (dir : Names) where
             some_same x y e = cc
         file_there (Some (link bytes)) e = cc
 
-    -- the directory stands for what the journal makes of it
+    -- the directory represents what the journal makes of it
     stands_so : (files : Files) → TreeStandsFor dir files (tree_of old) → files ≡ over
     stands_so files stands = stands_over (files_below dir (tree_of old)) files batch.entries has_journal stands
 
-    -- while it is carried out, a crash leaves what stands for that
-    carried_since : {F : Type 0} (result : Result Unit F) (new : History) → CarriesOut batch result (next synced old) new → (files : Files) → TreeStandsFor dir files (tree_of old) → EachSince (TreeStandsFor dir files) (next synced old) new
+    -- while it is carried out, a crash leaves what represents that
+    carried_since : {F : Type 0} (result : Result Unit F) (new : History) → CarriesOut batch result (next synced old) new → (files : Files)
+        → TreeStandsFor dir files (tree_of old) → EachSince (TreeStandsFor dir files) (next synced old) new
     carried_since result new carries files stands =
         (subst (λ (f : Files). EachSince (TreeStandsFor dir f) (next synced old) new) (sym (stands_so files stands))
-        (at_dir (λ d. HasJournal (files_below d (tree_of old)) batch.entries → EachSince (TreeStandsFor d (laid batch.entries (without_journal (files_below d (tree_of old))))) (next synced old) new) (λ has. carries.any_moment (λ p. settled_synced old (batch.dir ++ p)) has) has_journal))
+        (at_dir (λ d. HasJournal (files_below d (tree_of old)) batch.entries
+        → EachSince (TreeStandsFor d (laid batch.entries (without_journal (files_below d (tree_of old))))) (next synced old) new)
+        (λ has. carries.any_moment (λ p. settled_synced old (batch.dir ++ p)) has) has_journal))
       where
         at_dir : (Q : Names → Type 0) → Q batch.dir → Q dir
         at_dir Q = subst Q at
 
-    carried_on : {F : Type 0} (result : Result Unit F) (new : History) → CarriesOut batch result (next synced old) new → (files : Files) → TreeStandsFor dir files (tree_of old) → FromSyncOn (EachSince (TreeStandsFor dir files)) old new
+    carried_on : {F : Type 0} (result : Result Unit F) (new : History) → CarriesOut batch result (next synced old) new → (files : Files)
+        → TreeStandsFor dir files (tree_of old) → FromSyncOn (EachSince (TreeStandsFor dir files)) old new
     carried_on result new carries files stands = inr (carried_since result new carries files stands)
 
     -- and no path elsewhere is touched
@@ -215,7 +229,8 @@ module _ (dir : Names) where
     within new goes = inr (within_since new goes)
 
     -- it was not carried out to the end
-    carry_failed : (e : JournalError) → IsPlain e → {F : Type 0} (f : F) (new : History) → CarriesOut {E = F} batch (Err f) (next synced old) new → Recovers dir (Err e) old new
+    carry_failed : (e : JournalError) → IsPlain e → {F : Type 0} (f : F) (new : History) → CarriesOut {E = F} batch (Err f) (next synced old) new
+        → Recovers dir (Err e) old new
     carry_failed e plain {F = F} f new carries = refused e plain old new (within new carries.others) (carried_on {F = F} (Err f) new carries)
 
     -- it was carried out
@@ -228,7 +243,8 @@ module _ (dir : Names) where
       done = λ files stands. record {
         files_are = files_over ∙ sym (stands_so files stands);
         ready = record {
-          no_journal = ap (λ (f : Files). f journal) files_over ∙ laid_other batch.entries (without_journal (files_below dir (tree_of old))) journal (journal_not_named batch.entries spelled.valid) ∙ with_node_here (files_below dir (tree_of old)) journal None journal refl;
+          no_journal = ap (λ (f : Files). f journal) files_over ∙ laid_other batch.entries (without_journal (files_below dir (tree_of old))) journal
+              (journal_not_named batch.entries spelled.valid) ∙ with_node_here (files_below dir (tree_of old)) journal None journal refl;
           settled = λ p. carries.done.1 (dir ++ p);
         };
       };
@@ -259,8 +275,10 @@ abbrev Finds : Option (Vec ℕ Global) → Names → History → Type 0
 Finds found path h = option_map (λ v. v.items) found ≡ file_in (node_at (tree_of h) path)
 
 -- what was found after the sync was there before it
-found_before : (dir path : Names) (found : Option (Vec ℕ Global)) (old mid : History) → path ≡ dir ++ journal → IsSynced old mid → Finds found path mid → journal_in dir (tree_of old) ≡ option_map (λ v. v.items) found
-found_before dir path found old mid at so finds = sym (finds ∙ ap (λ (p : Names). file_in (node_at (tree_of mid) p)) at ∙ ap (λ k. journal_in dir (tree_of k)) so)
+found_before : (dir path : Names) (found : Option (Vec ℕ Global)) (old mid : History) → path ≡ dir ++ journal → IsSynced old mid → Finds found path mid
+    → journal_in dir (tree_of old) ≡ option_map (λ v. v.items) found
+found_before dir path found old mid at so finds = sym (finds ∙ ap (λ (p : Names). file_in (node_at (tree_of mid) p)) at
+    ∙ ap (λ k. journal_in dir (tree_of k)) so)
 
 module _ (dir path : Names) (at : path ≡ dir ++ journal) where
   module _ (result : Result Bool JournalError) (e : JournalError) (is : result ≡ Err e) (plain : IsPlain e) where
@@ -270,11 +288,14 @@ module _ (dir path : Names) (at : path ≡ dir ++ journal) where
 
     -- at the sync
     pub exit_unsynced : (a b : Option History) → Moves a b (λ old new. new ≡ old) → Moves a b (Recovers dir result)
-    exit_unsynced a b m = subst (λ (r : Result Bool JournalError). Moves a b (Recovers dir r)) (sym is) (moves_map (λ old new same. subst (λ k. Recovers dir (Err e) old k) (sym same) (stayed dir e plain old)) m)
+    exit_unsynced a b m = subst (λ (r : Result Bool JournalError). Moves a b (Recovers dir r)) (sym is)
+        (moves_map (λ old new same. subst (λ k. Recovers dir (Err e) old k) (sym same) (stayed dir e plain old)) m)
 
     -- after the sync, before anything is written
     pub exit_synced : (a b c : Option History) → Moves a b IsSynced → c ≡ b → Moves a c (Recovers dir result)
-    exit_synced a b c m same = subst (λ (r : Result Bool JournalError). Moves a c (Recovers dir r)) (sym is) (subst (λ x. Moves a x (Recovers dir (Err e))) (sym same) (moves_map (λ old new so. subst (λ k. Recovers dir (Err e) old k) (sym so) (only_synced dir e plain old)) m))
+    exit_synced a b c m same = subst (λ (r : Result Bool JournalError). Moves a c (Recovers dir r)) (sym is)
+        (subst (λ x. Moves a x (Recovers dir (Err e))) (sym same) (moves_map
+        (λ old new so. subst (λ k. Recovers dir (Err e) old k) (sym so) (only_synced dir e plain old)) m))
 
   module _ (a b c : Option History) (m : Moves a b IsSynced) (same : c ≡ b) (found : Option (Vec ℕ Global)) (w : WhereTold b (Finds found path)) where
     -- the sync was made, and this is what was there
@@ -283,11 +304,13 @@ module _ (dir path : Names) (at : path ≡ dir ++ journal) where
 
     -- the disk told it
     has_found : Moves a c HasFound
-    has_found = moves_then (λ old mid new so now. let e : new ≡ next synced old = now.1 ∙ so in (e, found_before dir path found old mid at so now.0)) m (moves_where w (moves_same {R = λ s t. t ≡ s} same (λ s. refl)))
+    has_found = moves_then (λ old mid new so now. let e : new ≡ next synced old = now.1 ∙ so in (e, found_before dir path found old mid at so now.0)) m
+        (moves_where w (moves_same {R = λ s t. t ≡ s} same (λ s. refl)))
 
     -- nothing was found
     pub exit_none : found ≡ None → Moves a c (Recovers dir (Ok false))
-    exit_none none = moves_map (λ old new has. subst (λ k. Recovers dir (Ok false) old k) (sym has.0) (none_there dir old (has.1 ∙ ap (λ (o : Option (Vec ℕ Global)). option_map (λ v. v.items) o) none))) has_found
+    exit_none none = moves_map (λ old new has. subst (λ k. Recovers dir (Ok false) old k) (sym has.0)
+        (none_there dir old (has.1 ∙ ap (λ (o : Option (Vec ℕ Global)). option_map (λ v. v.items) o) none))) has_found
 
     module _ (text : Vec ℕ Global) (some : found ≡ Some text) where
       -- its text was there
@@ -296,15 +319,19 @@ module _ (dir path : Names) (at : path ≡ dir ++ journal) where
 
       -- what was found is no journal
       pub exit_bad : ((entries : List Entry) → IsJournal entries text.items → ⊥) → Moves a c (Recovers dir (Err (told.BadJournal path)))
-      exit_bad other = moves_map (λ old new has. subst (λ k. Recovers dir (Err (told.BadJournal path)) old k) (sym has.0) (bad_there dir old path text.items at (some_text old has.1) other)) has_found
+      exit_bad other = moves_map (λ old new has. subst (λ k. Recovers dir (Err (told.BadJournal path)) old k) (sym has.0)
+          (bad_there dir old path text.items at (some_text old has.1) other)) has_found
 
       module _ (batch : Changes) (d : Option History) (here : batch.dir ≡ dir) (spelled : IsJournal batch.entries text.items) where
         -- what was found was not carried out to the end
-        pub exit_failed : (result : Result Bool JournalError) (e : JournalError) → result ≡ Err e → IsPlain e → {F : Type 0} (f : F) → Moves c d (CarriesOut {E = F} batch (Err f)) → Moves a d (Recovers dir result)
+        pub exit_failed : (result : Result Bool JournalError) (e : JournalError) → result ≡ Err e → IsPlain e → {F : Type 0} (f : F)
+            → Moves c d (CarriesOut {E = F} batch (Err f)) → Moves a d (Recovers dir result)
         exit_failed result e is plain {F = F} f n = subst (λ (r : Result Bool JournalError). Moves a d (Recovers dir r)) (sym is)
-            (moves_then (λ old mid new has carries. carry_failed dir old batch text.items here (some_text old has.1) spelled e plain {F = F} f new (subst (λ k. CarriesOut {E = F} batch (Err f) k new) has.0 carries)) has_found n)
+            (moves_then (λ old mid new has carries. carry_failed dir old batch text.items here (some_text old has.1) spelled e plain {F = F} f new
+            (subst (λ k. CarriesOut {E = F} batch (Err f) k new) has.0 carries)) has_found n)
 
         -- what was found was carried out
         pub exit_carried : {F : Type 0} (done : Unit) → Moves c d (CarriesOut {E = F} batch (Ok done)) → Moves a d (Recovers dir (Ok true))
         exit_carried {F = F} done n =
-            moves_then (λ old mid new has carries. carry_ended dir old batch text.items here (some_text old has.1) spelled {F = F} done new (subst (λ k. CarriesOut {E = F} batch (Ok done) k new) has.0 carries)) has_found n
+            moves_then (λ old mid new has carries. carry_ended dir old batch text.items here (some_text old has.1) spelled {F = F} done new
+            (subst (λ k. CarriesOut {E = F} batch (Ok done) k new) has.0 carries)) has_found n

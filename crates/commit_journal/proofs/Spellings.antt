@@ -1,5 +1,6 @@
 -- Printed paths, read in one way.
-use Rattle.std.proofs.Common.{◌≡◌, ◌≢◌, ◌⊎◌, inl, inr, Bool, true, false, ◌&&◌, cond, ◌==◌, nat_le, nat_lt, ℕ, ◌+◌, ◌≤◌, List, [], ◌∷◌, ◌++◌, length, length-append, append_assoc, Result, Ok, Err, refl, sym, ◌∙◌, ap, arith}
+use Rattle.std.proofs.Common.{◌≡◌, ◌≢◌, ◌⊎◌, inl, inr, Bool, true, false, ◌&&◌, cond, ◌==◌, nat_le, nat_lt, ℕ, ◌+◌}
+use Rattle.std.proofs.Common.{◌≤◌, List, [], ◌∷◌, ◌++◌, length, length-append, append_assoc, Result, Ok, Err, refl, sym, ◌∙◌, ap, arith}
 use Rattle.std.specs.Prelude.{All}
 use Rattle.std.proofs.lemmas.Bool.{false≢true, and_parts, and_from, not-true}
 use Rattle.std.proofs.lemmas.Bool.Decides.{nat_tests}
@@ -31,7 +32,7 @@ lacks_byte c other (x ∷ xs) all =
 name_bytes : (name : List ℕ) → is_name name ≡ true → list_all is_name_byte name ≡ true
 name_bytes name valid = (and_parts _ _ (and_parts _ _ valid).0).1
 
--- nor is it behind the slashes
+-- nor is it after the slashes
 behind_lacks : (c : ℕ) → is_name_byte c ≡ false → 47 ≢ c → (names : Names) → are_names names ≡ true → Lacks c (behind_slashes names)
 behind_lacks c other slash [] valid = tt
 behind_lacks c other slash (name ∷ names) valid =
@@ -65,15 +66,18 @@ no_slash (x ∷ xs) all =
 -- the parts between the slashes are the names
 parts_joined : (name : List ℕ) (names : Names) → are_names (name ∷ names) ≡ true → slice_split is_slash (joined (name ∷ names)) ≡ name ∷ names
 parts_joined name [] valid =
-    ap (λ (l : List ℕ). slice_split is_slash l) (append-nil name) ∙ slice_split_none is_slash name (no_slash name (name_bytes name (and_parts (is_name name) true valid).0))
+    ap (λ (l : List ℕ). slice_split is_slash l) (append-nil name) ∙ slice_split_none is_slash name
+    (no_slash name (name_bytes name (and_parts (is_name name) true valid).0))
 parts_joined name (following ∷ names) valid =
     let parts = and_parts (is_name name) (are_names (following ∷ names)) valid in
-    slice_split_at is_slash name 47 (joined (following ∷ names)) (no_slash name (name_bytes name parts.0)) refl ∙ ap (λ (l : Names). name ∷ l) (parts_joined following names parts.1)
+    slice_split_at is_slash name 47 (joined (following ∷ names)) (no_slash name (name_bytes name parts.0)) refl
+    ∙ ap (λ (l : Names). name ∷ l) (parts_joined following names parts.1)
 
 -- a name is added where there is room
 added_name : (path : Names) (name : List ℕ) → is_name name ≡ true → nat_lt (length path) 40 ≡ true → added path name ≡ Ok (path ++ name ∷ [])
 added_name path name valid room =
-    ap (λ b. cond b (cond (nat_lt (length path) 40) (Ok (path ++ name ∷ [])) (Err TooDeep)) (Err BadName)) valid ∙ ap (λ b. cond b (Ok (path ++ name ∷ [])) (Err TooDeep)) room
+    ap (λ b. cond b (cond (nat_lt (length path) 40) (Ok (path ++ name ∷ [])) (Err TooDeep)) (Err BadName)) valid
+    ∙ ap (λ b. cond b (Ok (path ++ name ∷ [])) (Err TooDeep)) room
 
 -- so are all names
 with_names : (path names : Names) → are_names names ≡ true → length path + length names ≤ 40 → with_parts path names ≡ Ok (path ++ names)
@@ -106,7 +110,8 @@ bool_cases false = inr refl
 
 -- a path with a name more has names
 names_more : (path : Names) (name : List ℕ) → are_names path ≡ true → is_name name ≡ true → are_names (path ++ name ∷ []) ≡ true
-names_more path name named here = list_all-append is_name path (name ∷ []) ∙ and_from (are_names path) (is_name name && true) named (and_from (is_name name) true here refl)
+names_more path name named here = list_all-append is_name path (name ∷ []) ∙ and_from (are_names path) (is_name name && true) named
+    (and_from (is_name name) true here refl)
 
 -- two paths that are answered are one
 ok_same : (p q : Names) → Path (Result Names PathError) (Ok p) (Ok q) → p ≡ q
@@ -120,9 +125,12 @@ no_ok e p same = cc
 added_named : (path longer : Names) (name : List ℕ) → added path name ≡ Ok longer → (is_name name ≡ true) × (longer ≡ path ++ name ∷ [])
 added_named path longer name is = go (bool_cases (is_name name)) (bool_cases (nat_lt (length path) 40))
   where
-    go : (is_name name ≡ true) ⊎ (is_name name ≡ false) → (nat_lt (length path) 40 ≡ true) ⊎ (nat_lt (length path) 40 ≡ false) → (is_name name ≡ true) × (longer ≡ path ++ name ∷ [])
-    go (inr other) any = absurd (no_ok BadName longer (sym (ap (λ b. cond b (cond (nat_lt (length path) 40) (Ok (path ++ name ∷ [])) (Err TooDeep)) (Err BadName)) other) ∙ is))
-    go (inl here) (inr full) = absurd (no_ok TooDeep longer (sym (ap (λ b. cond b (cond (nat_lt (length path) 40) (Ok (path ++ name ∷ [])) (Err TooDeep)) (Err BadName)) here ∙ ap (λ b. cond b (Ok (path ++ name ∷ [])) (Err TooDeep)) full) ∙ is))
+    go : (is_name name ≡ true) ⊎ (is_name name ≡ false) → (nat_lt (length path) 40 ≡ true) ⊎ (nat_lt (length path) 40 ≡ false)
+        → (is_name name ≡ true) × (longer ≡ path ++ name ∷ [])
+    go (inr other) any = absurd (no_ok BadName longer (sym (ap (λ b. cond b (cond (nat_lt (length path) 40) (Ok (path ++ name ∷ [])) (Err TooDeep))
+        (Err BadName)) other) ∙ is))
+    go (inl here) (inr full) = absurd (no_ok TooDeep longer (sym (ap (λ b. cond b (cond (nat_lt (length path) 40) (Ok (path ++ name ∷ [])) (Err TooDeep))
+        (Err BadName)) here ∙ ap (λ b. cond b (Ok (path ++ name ∷ [])) (Err TooDeep)) full) ∙ is))
     go (inl here) (inl room) = (here, ok_same longer (path ++ name ∷ []) (sym is ∙ added_name path name here room))
 
 -- what is made of parts has names
@@ -130,7 +138,8 @@ parts_named : (path names found : Names) → with_parts path names ≡ Ok found 
 parts_named path [] found is named = ap are_names (ok_same found path (sym is)) ∙ named
 parts_named path (name ∷ names) found is named = go (added path name) refl is (λ longer more valid. parts_named longer names found more valid)
   where
-    go : (r : Result Names PathError) → added path name ≡ r → and_then r (λ longer. with_parts longer names) ≡ Ok found → ((longer : Names) → with_parts longer names ≡ Ok found → are_names longer ≡ true → are_names found ≡ true) → are_names found ≡ true
+    go : (r : Result Names PathError) → added path name ≡ r → and_then r (λ longer. with_parts longer names) ≡ Ok found
+        → ((longer : Names) → with_parts longer names ≡ Ok found → are_names longer ≡ true → are_names found ≡ true) → are_names found ≡ true
     go (Err e) made refused later = absurd (no_ok e found refused)
     go (Ok longer) made more later = let one = added_named path longer name made in later longer more (ap are_names one.1 ∙ names_more path name named one.0)
 
@@ -151,31 +160,37 @@ spelled path text is =
 
 -- a text is that of one path
 pub one_path : (p q : Names) → is_entry_path p ≡ true → is_entry_path q ≡ true → joined p ≡ joined q → p ≡ q
-one_path p q vp vq same = ok_same p q (sym (spelled p (joined p) (record { valid = vp; text_is = refl })) ∙ spelled q (joined p) (record { valid = vq; text_is = same }))
+one_path p q vp vq same = ok_same p q (sym (spelled p (joined p) (record { valid = vp; text_is = refl }))
+    ∙ spelled q (joined p) (record { valid = vq; text_is = same }))
 
 -- a text that spells no path
 pub path_none : (text : List ℕ) → ((path : Names) → path_of text ≢ Ok path) → (path : Names) → IsPathText path text → ⊥
 path_none text none path is = none path (spelled path text is)
 
 -- a path that no entry has
-pub path_refused : (text : List ℕ) (found : Names) → path_of text ≡ Ok found → (has_first_name found && nat_le (length found) 38) ≡ false → (path : Names) → IsPathText path text → ⊥
+pub path_refused : (text : List ℕ) (found : Names) → path_of text ≡ Ok found → (has_first_name found && nat_le (length found) 38) ≡ false → (path : Names)
+    → IsPathText path text → ⊥
 path_refused text found read other path is =
     let e : found ≡ path = ok_same found path (sym read ∙ spelled path text is) in
     let parts = and_parts (has_first_name path) (are_names path && nat_le (length path) 38) is.valid in
-    false≢true (sym other ∙ ap (λ (p : Names). has_first_name p && nat_le (length p) 38) e ∙ and_from (has_first_name path) (nat_le (length path) 38) parts.0 (and_parts (are_names path) (nat_le (length path) 38) parts.1).1)
+    false≢true (sym other ∙ ap (λ (p : Names). has_first_name p && nat_le (length p) 38) e
+    ∙ and_from (has_first_name path) (nat_le (length path) 38) parts.0 (and_parts (are_names path) (nat_le (length path) 38) parts.1).1)
 
 -- a path that is spelled in another way
-pub path_other : (text printed : List ℕ) (found : Names) → path_of text ≡ Ok found → printed ≡ joined found → bytes_eq printed text ≡ false → (path : Names) → IsPathText path text → ⊥
+pub path_other : (text printed : List ℕ) (found : Names) → path_of text ≡ Ok found → printed ≡ joined found → bytes_eq printed text ≡ false → (path : Names)
+    → IsPathText path text → ⊥
 path_other text printed found read is_printed other path is =
     let e : found ≡ path = ok_same found path (sym read ∙ spelled path text is) in
     false≢true (sym other ∙ (bytes_eq-Decides printed text).1 (is_printed ∙ ap joined e ∙ sym is.text_is))
 
 -- a path that is read
-pub path_made : (text printed : List ℕ) (found : Names) → path_of text ≡ Ok found → printed ≡ joined found → (has_first_name found && nat_le (length found) 38) ≡ true → bytes_eq printed text ≡ true → IsPathText found text
+pub path_made : (text printed : List ℕ) (found : Names) → path_of text ≡ Ok found → printed ≡ joined found
+    → (has_first_name found && nat_le (length found) 38) ≡ true → bytes_eq printed text ≡ true → IsPathText found text
 path_made text printed found read is_printed fits same =
     let parts = and_parts (has_first_name found) (nat_le (length found) 38) fits in
     record {
-      valid = and_from (has_first_name found) _ parts.0 (and_from (are_names found) (nat_le (length found) 38) (parts_named [] (parts_in (without_slash text)) found read refl) parts.1);
+      valid = and_from (has_first_name found) _ parts.0 (and_from (are_names found) (nat_le (length found) 38)
+          (parts_named [] (parts_in (without_slash text)) found read refl) parts.1);
       text_is = sym ((bytes_eq-Decides printed text).0 same) ∙ is_printed;
     }
 

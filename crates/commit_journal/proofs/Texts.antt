@@ -16,8 +16,9 @@ use Rattle.commit_journal.proofs.Cutting.{split_one, same_length, head_same}
 use Rattle.commit_journal.proofs.Numbers.{decimal_lacks}
 use Rattle.commit_journal.proofs.Spellings.{path_lacks, entry_names, one_path}
 
--- the parts of a valid entry, and the entries behind it
-pub valid_parts : (entry : Entry) (entries : List Entry) → list_all is_entry (entry ∷ entries) ≡ true → (is_entry entry ≡ true) × (is_entry_path entry.0 ≡ true) × (fits_memory entry.1 ≡ true) × (list_all is_entry entries ≡ true)
+-- the parts of a valid entry, and the entries after it
+pub valid_parts : (entry : Entry) (entries : List Entry) → list_all is_entry (entry ∷ entries) ≡ true
+    → (is_entry entry ≡ true) × (is_entry_path entry.0 ≡ true) × (fits_memory entry.1 ≡ true) × (list_all is_entry entries ≡ true)
 valid_parts entry entries valid =
     let all = and_parts (is_entry entry) (list_all is_entry entries) valid in
     let here = and_parts (is_entry_path entry.0) (fits_memory entry.1) all.0 in
@@ -39,7 +40,8 @@ pub removed_text : (path : Names) (rest : List ℕ) → entry_text (path, None) 
 removed_text path rest = ap (λ (l : List ℕ). codes "remove " ++ l) (append_assoc (joined path) (10 ∷ []) rest)
 
 -- an entry that sets a file, and what follows it
-pub written_text : (path : Names) (bytes rest : List ℕ) → entry_text (path, Some bytes) ++ rest ≡ codes "set " ++ (joined path ++ 32 ∷ (decimal (length bytes) ++ 10 ∷ (bytes ++ 10 ∷ rest)))
+pub written_text : (path : Names) (bytes rest : List ℕ) → entry_text (path, Some bytes) ++ rest ≡ codes "set "
+    ++ (joined path ++ 32 ∷ (decimal (length bytes) ++ 10 ∷ (bytes ++ 10 ∷ rest)))
 written_text path bytes rest = simp append_assoc
 
 -- the path of an entry has no line feed and no space
@@ -58,22 +60,26 @@ removals x y p q vx vy tail =
 writings : (x y : Names) (a b p q : List ℕ) → is_entry_path x ≡ true → is_entry_path y ≡ true → length a < 2 ^ 64 → length b < 2 ^ 64
     → joined x ++ 32 ∷ (decimal (length a) ++ 10 ∷ (a ++ 10 ∷ p)) ≡ joined y ++ 32 ∷ (decimal (length b) ++ 10 ∷ (b ++ 10 ∷ q)) → (x ≡ y) × (a ≡ b) × (p ≡ q)
 writings x y a b p q vx vy fa fb tail =
-    let cut = split_one 32 (joined x) (joined y) (decimal (length a) ++ 10 ∷ (a ++ 10 ∷ p)) (decimal (length b) ++ 10 ∷ (b ++ 10 ∷ q)) (entry_path_lacks x vx).1 (entry_path_lacks y vy).1 tail in
-    let line = split_one 10 (decimal (length a)) (decimal (length b)) (a ++ 10 ∷ p) (b ++ 10 ∷ q) (decimal_lacks (length a) fa) (decimal_lacks (length b) fb) cut.1 in
+    let cut = split_one 32 (joined x) (joined y) (decimal (length a) ++ 10 ∷ (a ++ 10 ∷ p)) (decimal (length b) ++ 10 ∷ (b ++ 10 ∷ q)) (entry_path_lacks x vx).1
+    (entry_path_lacks y vy).1 tail in
+    let line = split_one 10 (decimal (length a)) (decimal (length b)) (a ++ 10 ∷ p) (b ++ 10 ∷ q) (decimal_lacks (length a) fa) (decimal_lacks (length b) fb)
+    cut.1 in
     let body = same_length a b (10 ∷ p) (10 ∷ q) (decimal_injective (length a) (length b) fa fb line.0) line.1 in
     (one_path x y vx vy cut.0, body.0, append_cancel_left (10 ∷ []) p q body.1)
 
 -- a text begins with one entry at most
 pub one_entry : (a b : Entry) (p q : List ℕ) → is_entry a ≡ true → is_entry b ≡ true → entry_text a ++ p ≡ entry_text b ++ q → (a ≡ b) × (p ≡ q)
 one_entry (x, None) (y, None) p q va vb same =
-    let r = removals x y p q (and_parts (is_entry_path x) true va).0 (and_parts (is_entry_path y) true vb).0 (append_cancel_left (codes "remove ") (joined x ++ 10 ∷ p) (joined y ++ 10 ∷ q) (sym (removed_text x p) ∙ same ∙ removed_text y q)) in
+    let r = removals x y p q (and_parts (is_entry_path x) true va).0 (and_parts (is_entry_path y) true vb).0
+    (append_cancel_left (codes "remove ") (joined x ++ 10 ∷ p) (joined y ++ 10 ∷ q) (sym (removed_text x p) ∙ same ∙ removed_text y q)) in
     (ap (λ (k : Names). (k, None)) r.0, r.1)
 one_entry (x, None) (y, Some b) p q va vb same = absurd (omega (arith, head_same 114 115 _ _ same))
 one_entry (x, Some a) (y, None) p q va vb same = absurd (omega (arith, head_same 115 114 _ _ same))
 one_entry (x, Some a) (y, Some b) p q va vb same =
     let pa = and_parts (is_entry_path x) (fits_memory (Some a)) va in
     let pb = and_parts (is_entry_path y) (fits_memory (Some b)) vb in
-    let r = writings x y a b p q pa.0 pb.0 (fits_below_limit a pa.1) (fits_below_limit b pb.1) (append_cancel_left (codes "set ") _ _ (sym (written_text x a p) ∙ same ∙ written_text y b q)) in
+    let r = writings x y a b p q pa.0 pb.0 (fits_below_limit a pa.1) (fits_below_limit b pb.1)
+    (append_cancel_left (codes "set ") _ _ (sym (written_text x a p) ∙ same ∙ written_text y b q)) in
     (ap (λ (k : Names). (k, Some a)) r.0 ∙ ap (λ (l : List ℕ). (y, Some l)) r.1, r.2)
 
 -- no entry begins as the end does
@@ -82,14 +88,16 @@ not_end (x, None) p q same = absurd (omega (arith, head_same 101 114 _ _ same))
 not_end (x, Some a) p q same = absurd (omega (arith, head_same 101 115 _ _ same))
 
 -- a text begins with one journal at most
-one_text : (a b : List Entry) (p q : List ℕ) → list_all is_entry a ≡ true → list_all is_entry b ≡ true → journal_text a ++ p ≡ journal_text b ++ q → (a ≡ b) × (p ≡ q)
+one_text : (a b : List Entry) (p q : List ℕ) → list_all is_entry a ≡ true → list_all is_entry b ≡ true → journal_text a ++ p ≡ journal_text b ++ q
+    → (a ≡ b) × (p ≡ q)
 one_text [] [] p q first second same = (refl, append_cancel_left end_text p q same)
 one_text [] (y ∷ b) p q first second same = absurd (not_end y p (journal_text b ++ q) (same ∙ append_assoc (entry_text y) (journal_text b) q))
 one_text (x ∷ a) [] p q first second same = absurd (not_end x q (journal_text a ++ p) (sym same ∙ append_assoc (entry_text x) (journal_text a) p))
 one_text (x ∷ a) (y ∷ b) p q first second same =
     let vx = valid_parts x a first in
     let vy = valid_parts y b second in
-    let cut = one_entry x y (journal_text a ++ p) (journal_text b ++ q) vx.0 vy.0 (sym (append_assoc (entry_text x) (journal_text a) p) ∙ same ∙ append_assoc (entry_text y) (journal_text b) q) in
+    let cut = one_entry x y (journal_text a ++ p) (journal_text b ++ q) vx.0 vy.0
+    (sym (append_assoc (entry_text x) (journal_text a) p) ∙ same ∙ append_assoc (entry_text y) (journal_text b) q) in
     let rest = one_text a b p q vx.3 vy.3 cut.1 in
     (ap (λ (k : Entry). k ∷ a) cut.0 ∙ ap (λ (l : List Entry). y ∷ l) rest.0, rest.1)
 
@@ -101,7 +109,8 @@ one_journal a b first second same = (one_text a b [] [] (all_entries a first) (a
 pub of_one_batch : IsOfOneBatch
 of_one_batch one other text first second = one_journal one other first.valid second.valid (sym first.text_is ∙ second.text_is)
 
--- no journal goes on behind another
+-- no journal goes on after another
 pub no_prefix : HasNoJournalPrefix
 no_prefix one other text rest first second =
-    (one_text one other rest [] (all_entries one first.valid) (all_entries other second.valid) (ap (λ (l : List ℕ). l ++ rest) (sym first.text_is) ∙ second.text_is ∙ sym (append-nil (journal_text other)))).1
+    (one_text one other rest [] (all_entries one first.valid) (all_entries other second.valid)
+    (ap (λ (l : List ℕ). l ++ rest) (sym first.text_is) ∙ second.text_is ∙ sym (append-nil (journal_text other)))).1

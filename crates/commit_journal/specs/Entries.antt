@@ -50,7 +50,7 @@ fits_memory (Some bytes) = nat_lt (length bytes) (2 ^ 64)
 abbrev pub is_entry : Entry → Bool
 is_entry entry = is_entry_path entry.0 && fits_memory entry.1
 
--- The entries are those of a batch: each may stand in a journal, and their paths rise strictly.
+-- The entries are those of a batch: each may be in a journal, and their paths rise strictly.
 abbrev pub is_batch : List Entry → Bool
 is_batch entries = list_all is_entry entries && are_rising entries
 

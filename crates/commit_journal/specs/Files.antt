@@ -1,11 +1,11 @@
--- What stands below a directory, and entries laid over it.
+-- What is below a directory, and entries laid over it.
 use Rattle.std.specs.Prelude.{◌≡◌, ℕ, List, [], ◌∷◌, ◌++◌, Option, Some, None, if◌then◌else◌}
 use Rattle.std.specs.Ordering.{eq_by_cmp}
 use Rattle.outside.specs.Names.{Names, path_cmp}
 use Rattle.outside.specs.Tree.{Node, file, Tree, node_at}
 use Rattle.commit_journal.specs.Entries.{Entry}
 
--- Files are what stands below a directory, by the paths that begin there.
+-- Files are what is below a directory, by the paths that begin there.
 abbrev pub Files : Type 0
 Files = Names → Option Node
 

@@ -1,11 +1,11 @@
--- Laws of journals and of what a directory stands for.
+-- Laws of journals and of what a directory represents.
 use Rattle.std.specs.Prelude.{◌≡◌, ℕ, List, [], ◌++◌}
 use Rattle.commit_journal.specs.Entries.{Entry}
 use Rattle.commit_journal.specs.Files.{Files}
 use Rattle.commit_journal.specs.Journal.{IsJournal}
 use Rattle.commit_journal.specs.Stands.{StandsFor}
 
--- A directory stands for at most one choice of files.
+-- A directory represents at most one choice of files.
 abbrev pub StandsForOne : Type 0
 StandsForOne = (found one other : Files) → StandsFor found one → StandsFor found other → one ≡ other
 
@@ -13,6 +13,6 @@ StandsForOne = (found one other : Files) → StandsFor found one → StandsFor f
 abbrev pub IsOfOneBatch : Type 0
 IsOfOneBatch = (one other : List Entry) (text : List ℕ) → IsJournal one text → IsJournal other text → one ≡ other
 
--- What goes on behind a journal is no journal, so no journal is a proper prefix of another.
+-- What goes on after a journal is no journal, so no journal is a proper prefix of another.
 abbrev pub HasNoJournalPrefix : Type 0
 HasNoJournalPrefix = (one other : List Entry) (text rest : List ℕ) → IsJournal one text → IsJournal other (text ++ rest) → rest ≡ []

@@ -58,13 +58,13 @@ pub record HasEntry (text : List ℕ) (entry : Entry) (rest : List ℕ) : Type 0
 abbrev pub HasNoEntry : List ℕ → Type 0
 HasNoEntry text = (entry : Entry) (rest : List ℕ) → HasEntry text entry rest → ⊥
 
--- The entry that the text begins with is put behind the others.
+-- The entry that the text begins with is put after the others.
 pub record ReadsOne (text : List ℕ) (old new : List Entry) (rest : List ℕ) : Type 0 where
   pub entry : Entry
   pub read : HasEntry text entry rest
   pub new_is : new ≡ old ++ entry ∷ []
 
--- The texts of the entries, one behind another.
+-- The texts of the entries, one after another.
 abbrev pub texts_of : List Entry → List ℕ
 texts_of [] = []
 texts_of (entry ∷ entries) = entry_text entry ++ texts_of entries

@@ -23,7 +23,7 @@ IsBad dir tree = (text : List ℕ) × (journal_in dir tree ≡ Some text) × ((e
 abbrev pub FromSyncOn : (History → History → Type 0) → History → History → Type 0
 FromSyncOn R old new = (new ≡ old) ⊎ R (next synced old) new
 
--- The directory has the files that it stood for, on the disk, and is ready for a change.
+-- The directory has the files that it represented, on the disk, and is ready for a change.
 pub record IsRecovered (dir : Names) (files : Files) (new : History) : Type 0 where
   pub files_are : files_below dir (tree_of new) ≡ files
   pub ready : IsReady dir new
@@ -32,21 +32,21 @@ pub record IsRecovered (dir : Names) (files : Files) (new : History) : Type 0 wh
 pub record Recovers (dir : Names) (result : Result Bool JournalError) (old new : History) : Type 0 where
   -- Before the first sync nothing is written, and after it only paths below the directory are.
   pub sync_first : FromSyncOn (Touches (IsBelow dir)) old new
-  -- From that sync on a crash leaves what stands for the same files.
+  -- From that sync on a crash leaves what represents the same files.
   pub keeps : (files : Files) → TreeStandsFor dir files (tree_of old) → FromSyncOn (EachSince (TreeStandsFor dir files)) old new
-  -- The tree goes on to stand for the same files.
+  -- The tree goes on to represent the same files.
   pub stands : (files : Files) → TreeStandsFor dir files (tree_of old) → TreeStandsFor dir files (tree_of new)
   -- After Ok the disk is settled.
   pub settled : OnOk result (IsSettled new)
-  -- After Ok the directory has the files that it stood for.
+  -- After Ok the directory has the files that it represented.
   pub done : OnOk result ((files : Files) → TreeStandsFor dir files (tree_of old) → IsRecovered dir files new)
   -- Ok tells whether a journal was there, and where none was, only the sync was made.
   pub found : IfOk result (λ found. found ≡ is_some (journal_in dir (tree_of old)))
   pub none : IfOk result (λ found. found ≡ false → new ≡ next synced old)
-  -- After Ok the first sync was made, and since then only paths below the directory changed and a crash leaves what stands for the same files.
+  -- After Ok the first sync was made, and since then only paths below the directory changed and a crash leaves what represents the same files.
   pub first_synced : OnOk result (Touches (IsBelow dir) (next synced old) new)
   pub each_since : OnOk result ((files : Files) → TreeStandsFor dir files (tree_of old) → EachSince (TreeStandsFor dir files) (next synced old) new)
-  -- Ok comes only where the directory stood for some files, unless a link stands in the journal's place.
+  -- Ok comes only where the directory represented some files, unless a link is in the journal's place.
   pub stood : OnOk result (link_in (files_below dir (tree_of old) journal) ≡ None → (files : Files) × TreeStandsFor dir files (tree_of old))
   -- A bad journal is never carried out, and where it is answered, only the sync was made.
   pub good : OnOk result (IsBad dir (tree_of old) → ⊥)

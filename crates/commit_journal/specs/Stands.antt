@@ -1,4 +1,4 @@
--- What a directory stands for, with the journal that may be in it.
+-- What a directory represents, with the journal that may be in it.
 use Rattle.std.specs.Prelude.{◌≡◌, ◌⊎◌, List, [], ◌∷◌, ◌++◌, codes, IsTrue, Some, None}
 use Rattle.outside.specs.Names.{Names}
 use Rattle.outside.specs.Tree.{file, Tree, node_at}
@@ -21,12 +21,12 @@ pub record HasJournal (found : Files) (entries : List Entry) : Type 0 where
   pub there : found journal ≡ Some (file (journal_text entries))
   pub valid : IsTrue (is_batch entries)
 
--- What is found stands for itself where no journal is there, and else for the rest with the journal's entries laid over it.
+-- What is found represents itself where no journal is there, and else the rest with the journal's entries laid over it.
 abbrev pub StandsFor : Files → Files → Type 0
 StandsFor found files = ((found journal ≡ None) × (files ≡ found))
     ⊎ ((entries : List Entry) × HasJournal found entries × (files ≡ laid entries (without_journal found)))
 
--- The directory of this tree stands for these files.
+-- The directory of this tree represents these files.
 abbrev pub TreeStandsFor : Names → Files → Tree → Type 0
 TreeStandsFor dir files tree = StandsFor (files_below dir tree) files
 

@@ -41,7 +41,7 @@ impl Batch {
     /// new bytes of its file, or with None to take it away.
     ///
     /// The paths rise strictly, and each begins with `live`, `pending`, `owed`, `image` or `weak`. `TooDeep` exactly
-    /// where a path, joined to the directory's, has more than 40 names; `Memory` where memory is wanting.
+    /// where a path, joined to the directory's, has more than 40 names; `Memory` where it runs out of memory.
     #[tactic(auto, using(crate::proofs::Made::made))]
     pub fn of(
         alloc: Global,
@@ -69,7 +69,7 @@ impl Batch {
     }
 
     /// The change below a directory of two names whose journal this is, or None where it is the journal of none.
-    /// The only error is want of memory.
+    /// The only error is out of memory.
     #[tactic(auto, using(crate::proofs::Made::reads))]
     pub(crate) fn read(
         alloc: Global,

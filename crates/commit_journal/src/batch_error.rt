@@ -8,7 +8,7 @@ pub enum BatchError {
     /// A path of an entry, joined to the directory's, has more than 40 names.
     #[error("a joined path has more than 40 names")]
     TooDeep,
-    /// Want of memory.
+    /// Out of memory.
     #[error("out of memory")]
     Memory,
 }

@@ -54,7 +54,7 @@ pub fn carry_out<D: Disk>(disk: &mut D, batch: &Batch) -> Result<(), Failed>
 /// journal and syncs. One pass over the entries, and it takes no memory of its own.
 ///
 /// Where the directory has no journal and its paths are settled at the start, a crash at any moment leaves what
-/// stands for the files before the change or for those after it, and after Ok the files after it are on the disk,
+/// represents the files before the change or those after it, and after Ok the files after it are on the disk,
 /// without a journal. `Failed` where the disk failed; the next call on the directory is then
 /// [`recover`](crate::recover).
 pub fn change<D: Disk>(disk: &mut D, batch: &Batch) -> Result<(), Failed>

@@ -15,7 +15,7 @@ pub enum JournalError {
         /// Where the file is.
         path: Path,
     },
-    /// Want of memory.
+    /// Out of memory.
     #[error("out of memory")]
     Memory,
 }

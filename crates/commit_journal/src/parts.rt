@@ -64,7 +64,7 @@ fn number(digits: &[u8]) -> Option<usize>
     }
 }
 
-// The bytes behind their length, and what follows them.
+// The bytes after their length, and what follows them.
 #[tactic(auto, using(crate::proofs::Lines::bodies))]
 fn body_of(text: &[u8]) -> Option<(&[u8], &[u8])>
     ensures { MatchOption result ((bytes rest : List ℕ) → IsBody text.now bytes rest → ⊥)

@@ -22,7 +22,7 @@ pub struct PlacedEntry {
     pub bytes: Option<Bytes>,
 }
 
-/// The path of the journal in a directory, or want of memory.
+/// The path of the journal in a directory, or out of memory.
 pub fn journal_path(alloc: Global, dir: &Path) -> Result<Path, AllocError>
     requires { length dir.now < 40 }
     ensures { IfOk result (λ path. path ≡ dir.now ++ journal) }
@@ -30,7 +30,7 @@ pub fn journal_path(alloc: Global, dir: &Path) -> Result<Path, AllocError>
     dir.join(&Name::of(b"journal".to_vec(alloc)?))
 }
 
-// The directory's path with the names of the relative path behind it.
+// The directory's path with the names of the relative path after it.
 fn join(alloc: Global, dir: &Path, relative: &Path) -> Result<Path, AllocError>
     requires { length (dir.now ++ relative.now) ≤ 40 }
     ensures path { IfOk result (λ path. path ≡ dir.now ++ relative.now) }
@@ -47,7 +47,7 @@ fn join(alloc: Global, dir: &Path, relative: &Path) -> Result<Path, AllocError>
 
 /// The entries with their whole paths below a directory of two names.
 ///
-/// `TooDeep` exactly where one of these paths has more than 40 names, and `Memory` where memory is wanting.
+/// `TooDeep` exactly where one of these paths has more than 40 names, and `Memory` where it runs out of memory.
 pub fn place_all(
     alloc: Global,
     dir: &Path,

@@ -24,7 +24,7 @@ fn sync_first<D: Disk>(disk: &mut D) -> Result<(), Failed>
 /// before anything else, and may be cut off by a crash too. Linear in the journal's text.
 ///
 /// `BadJournal` exactly where the file `journal` is no journal, and nothing is changed then; `Failed` where the disk
-/// failed; `Memory` where memory is wanting, which may be found after the sync.
+/// failed; `Memory` where it runs out of memory, which may be found after the sync.
 pub fn recover<D: Disk>(alloc: Global, disk: &mut D, dir: &Path) -> Result<bool, JournalError>
     requires { length dir.now ≡ 2 }
     ensures recovers { Moves (D.told disk.old) (D.told disk.new) (Recovers dir.now result) }

@@ -35,7 +35,8 @@ asked-append [] ps = refl
 asked-append (q ∷ qs) ps = ap (λ (l : List Event). Asked q Answered ∷ l) (asked-append qs ps)
 
 -- One more request that is answered with success.
-succeed_more : (I : Image) (W : World) (qs : List Request) (q : Request) → AllSucceed I W qs → is_success (request_next I (after I W (asked_all qs)) q Answered).reply ≡ true
+succeed_more : (I : Image) (W : World) (qs : List Request) (q : Request) → AllSucceed I W qs
+    → is_success (request_next I (after I W (asked_all qs)) q Answered).reply ≡ true
     → AllSucceed I W (qs ++ q ∷ [])
 succeed_more I W [] q all is = (is, tt)
 succeed_more I W (p ∷ qs) q all is = (all.0, succeed_more I (next I W (Asked p Answered)) qs q all.1 is)
@@ -83,13 +84,14 @@ module _ {T : Type 0} (q : Request) (Of : Reply → T → Type 0) (c now : Core)
         let e : IsEvent I folder W V q (Err disk.Failed) old new (core_state c) (core_state now) = commits.event I good holds folder W V kept in record {
           outcome = e.outcome;
           opens = subst (λ (o : Outcome). Reopens false o []) (sym e.is.1) refl;
-          asks = subst (λ (o : Outcome). (is_success (request_next I W q o).reply ≡ false) × Tells (request_next I W q o).reply refused.Disk) (sym e.is.1) (refl, refl);
+          asks = subst (λ (o : Outcome). (is_success (request_next I W q o).reply ≡ false) × Tells (request_next I W q o).reply refused.Disk) (sym e.is.1)
+              (refl, refl);
           made = e.ran;
           holds = subst (HoldsImage I) (sym image) holds;
         };
   }
 
-  -- Memory was wanting.
+  -- It ran out of memory.
   pub asks_memory : Commits c q (Err disk.Memory) now old new → AsksFor q Of (Err refused.Memory) c now old new
   unfolding request_next
   asks_memory commits = record {
@@ -97,13 +99,14 @@ module _ {T : Type 0} (q : Request) (Of : Reply → T → Type 0) (c now : Core)
         let e : IsEvent I folder W V q (Err disk.Memory) old new (core_state c) (core_state now) = commits.event I good holds folder W V kept in record {
           outcome = e.outcome;
           opens = subst (λ (o : Outcome). Reopens false o []) (sym e.is) refl;
-          asks = subst (λ (o : Outcome). (is_success (request_next I W q o).reply ≡ false) × Tells (request_next I W q o).reply refused.Memory) (sym e.is) (refl, refl);
+          asks = subst (λ (o : Outcome). (is_success (request_next I W q o).reply ≡ false) × Tells (request_next I W q o).reply refused.Memory) (sym e.is)
+              (refl, refl);
           made = e.ran;
           holds = subst (HoldsImage I) (sym image) holds;
         };
   }
 
-  -- It was planned and committed, and this is told of its answer;
+  -- It was planned and committed, and this is reported of its answer;
   pub asks_told : (a : Answer) (result : Result T Refusal) → Replies c q a → TellsReply Of (reply_of a) result → Commits c q (Ok tt) now old new
       → AsksFor q Of result c now old new
   asks_told (answer.Said body) (Ok value) replies told commits = asks_done (answer.Said body) replies refl value told commits
@@ -120,8 +123,9 @@ module _ {T : Type 0} (q : Request) (Of : Reply → T → Type 0) (c now : Core)
   asks_uncommitted disk.Failed refusal is commits = subst (λ (x : Refusal). AsksFor q Of (Err x) c now old new) (sym is) (asks_failed commits)
   asks_uncommitted disk.Memory refusal is commits = subst (λ (x : Refusal). AsksFor q Of (Err x) c now old new) (sym is) (asks_memory commits)
 
--- It was not planned for want of memory.
-pub asks_unplanned : {T : Type 0} (q : Request) (Of : Reply → T → Type 0) (c : Core) (h : History) → c.faulted ≡ false → AsksFor q Of (Err refused.Memory) c c h h
+-- It was not planned, because it ran out of memory.
+pub asks_unplanned : {T : Type 0} (q : Request) (Of : Reply → T → Type 0) (c : Core) (h : History) → c.faulted ≡ false
+    → AsksFor q Of (Err refused.Memory) c c h h
 asks_unplanned q Of c h calm = asks_memory q Of c c h h calm refl (commits_undone c q calm c h h (record { core = refl; disk = refl }))
 
 -- ---- one after another
@@ -134,7 +138,8 @@ none_asked c old = record {
 }
 
 -- Requests, and one more.
-pub record OneMore {T : Type 0} (I : Image) (folder : Folder) (W V : World) (qs : List Request) (q : Request) (Of : Reply → T → Type 0) (result : Result T Refusal)
+pub record OneMore {T : Type 0} (I : Image) (folder : Folder) (W V : World) (qs : List Request) (q : Request) (Of : Reply → T → Type 0)
+    (result : Result T Refusal)
     (first now : Core) (old new : History) : Type 0 where
   pub events : List Event
   pub succeeds : Succeeds I W qs events
@@ -144,7 +149,8 @@ pub record OneMore {T : Type 0} (I : Image) (folder : Folder) (W V : World) (qs 
   pub made : Ran I folder W V (events ++ Asked q outcome ∷ []) old new (core_state first) (core_state now)
   pub holds : HoldsImage I now.image
 
-pub one_more : {T : Type 0} (qs : List Request) (q : Request) (Of : Reply → T → Type 0) (result : Result T Refusal) (first mid now : Core) (old between new : History)
+pub one_more : {T : Type 0} (qs : List Request) (q : Request) (Of : Reply → T → Type 0) (result : Result T Refusal) (first mid now : Core)
+    (old between new : History)
     → AsksEach qs (Ok tt) first mid old between → AsksFor q Of result mid now between new
     → (I : Image) → IsGood I → HoldsImage I first.image → (folder : Folder) (W V : World) → Kept I folder W V old (core_state first)
     → OneMore I folder W V qs q Of result first now old new
@@ -161,19 +167,22 @@ one_more qs q Of result first mid now old between new so_far asks I good holds f
       holds = o.holds;
     }
 
-module _ {T : Type 0} (I : Image) (W : World) (qs : List Request) (q : Request) (Of : Reply → T → Type 0) (events : List Event) (s : Succeeds I W qs events) (outcome : Outcome) where
+module _ {T : Type 0} (I : Image) (W : World) (qs : List Request) (q : Request) (Of : Reply → T → Type 0) (events : List Event) (s : Succeeds I W qs events)
+    (outcome : Outcome) where
   at_asked : after I W events ≡ after I W (asked_all qs)
   at_asked = ap (after I W) s.events_are
 
   -- The last one was answered with success.
   pub all_succeed : (value : T) → AsksOne I (after I W events) q Of (Ok value) outcome → Succeeds I W (qs ++ q ∷ []) (events ++ Asked q outcome ∷ [])
   all_succeed value asks = record {
-    events_are = ap (λ (o : Outcome). events ++ Asked q o ∷ []) asks.0 ∙ ap (λ (l : List Event). l ++ Asked q Answered ∷ []) s.events_are ∙ sym (asked-append qs (q ∷ []));
+    events_are = ap (λ (o : Outcome). events ++ Asked q o ∷ []) asks.0 ∙ ap (λ (l : List Event). l ++ Asked q Answered ∷ []) s.events_are
+        ∙ sym (asked-append qs (q ∷ []));
     answered = succeed_more I W qs q s.answered (subst (λ (X : World). is_success (request_next I X q Answered).reply ≡ true) at_asked asks.1);
   }
 
   -- It was not, and the others are not asked.
-  pub last_stops : (left all : List Request) → all ≡ qs ++ q ∷ left → Reopens false outcome [] → (refusal : Refusal) → AsksOne I (after I W events) q Of (Err refusal) outcome
+  pub last_stops : (left all : List Request) → all ≡ qs ++ q ∷ left → Reopens false outcome [] → (refusal : Refusal)
+      → AsksOne I (after I W events) q Of (Err refusal) outcome
       → Stops I W all (request_next I (after I W events) q outcome).reply (events ++ Asked q outcome ∷ [])
   last_stops left all whole opens refusal asks = record {
     first = qs;
@@ -191,7 +200,8 @@ module _ {T : Type 0} (I : Image) (W : World) (qs : List Request) (q : Request) 
 -- ---- the requests up to one of them
 
 -- One more,
-requests_more : (asks : List asked.Request) (i : ℕ) (d : asked.Request) → i < length asks → requests (take (i + 1) asks) ≡ requests (take i asks) ++ request_of (get_or asks i d) ∷ []
+requests_more : (asks : List asked.Request) (i : ℕ) (d : asked.Request) → i < length asks → requests (take (i + 1) asks) ≡ requests (take i asks) ++ request_of
+    (get_or asks i d) ∷ []
 requests_more asks i d below = ap requests (take_more asks i d below) ∙ map-append request_of (take i asks) (get_or asks i d ∷ [])
 
 -- and those after it.
@@ -202,7 +212,8 @@ requests_split asks i d below =
     ∙ map-append request_of (take i asks) (get_or asks i d ∷ drop (i + 1) asks)
 
 -- One more request of the list was answered with success.
-pub asked_more : {T : Type 0} (Of : Reply → T → Type 0) (value : T) (asks : List asked.Request) (i : ℕ) (ask : asked.Request) → i < length asks → ask ≡ get_or asks i ask
+pub asked_more : {T : Type 0} (Of : Reply → T → Type 0) (value : T) (asks : List asked.Request) (i : ℕ) (ask : asked.Request) → i < length asks
+    → ask ≡ get_or asks i ask
     → (first mid now : Core) (old between new : History) → AsksEach (requests (take i asks)) (Ok tt) first mid old between
     → AsksFor (request_of ask) Of (Ok value) mid now between new → AsksEach (requests (take (i + 1) asks)) (Ok tt) first now old new
 asked_more Of value asks i ask below is first mid now old between new so_far one =
@@ -220,7 +231,8 @@ asked_more Of value asks i ask below is first mid now old between new so_far one
     })
 
 -- One was not.
-pub asked_last : {T : Type 0} (Of : Reply → T → Type 0) (refusal : Refusal) (asks : List asked.Request) (i : ℕ) (ask : asked.Request) → i < length asks → ask ≡ get_or asks i ask
+pub asked_last : {T : Type 0} (Of : Reply → T → Type 0) (refusal : Refusal) (asks : List asked.Request) (i : ℕ) (ask : asked.Request) → i < length asks
+    → ask ≡ get_or asks i ask
     → (first mid now : Core) (old between new : History) → AsksEach (requests (take i asks)) (Ok tt) first mid old between
     → AsksFor (request_of ask) Of (Err refusal) mid now between new → AsksEach (requests asks) (Err refusal) first now old new
 asked_last Of refusal asks i ask below is first mid now old between new so_far one = record {

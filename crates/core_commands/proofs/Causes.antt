@@ -26,7 +26,8 @@ spawn_same {A = A} {B = B} e before now c = record {
 -- ---- what never tells of a door
 
 -- A refusal that is none of the door, where no program was run.
-pub quiet_spawn : {T : Type 0} (e : Refusal) (before now : ℕ) → now ≡ before → ((name : List ℕ) → e ≡ refused.Spawn name → ⊥) → (e ≡ refused.Door → ⊥) → HasSpawnCause {T = T} before now (Err e)
+pub quiet_spawn : {T : Type 0} (e : Refusal) (before now : ℕ) → now ≡ before → ((name : List ℕ) → e ≡ refused.Spawn name → ⊥) → (e ≡ refused.Door → ⊥)
+    → HasSpawnCause {T = T} before now (Err e)
 quiet_spawn {T = T} e before now same not_spawn not_door = record {
   later = omega (arith, same);
   failed = λ name is. absurd (not_spawn name (same_refusal {T = T} e (refused.Spawn name) is));
@@ -34,7 +35,7 @@ quiet_spawn {T = T} e before now same not_spawn not_door = record {
   no_door = λ is. not_door (same_refusal {T = T} e refused.Door is);
 }
 
--- Where nothing failed, and there is no other refusal than want of memory.
+-- Where nothing failed, and there is no other refusal than out of memory.
 pub quiet_cause : {T : Type 0} (r : Result T Refusal) (before now : ℕ) → now ≡ before → IfErr r (λ e. e ≡ refused.Memory) → HasCauseOf refused.Disk before now r
 quiet_cause (Ok said) before now same memory = record { later = omega (arith, same); failed = λ is. absurd (cc is); kept = same; other = λ err not. same }
 quiet_cause {T = T} (Err e) before now same memory = record {

@@ -1,5 +1,6 @@
 -- Commits of pairs: what they come to.
-use Rattle.std.proofs.Common.{arith, ◌≡◌, inl, inr, ◌++◌, ◌==◌, ℕ, true, false, length, List, [], ◌∷◌, Option, Some, None, Ok, Err, IfOk, IfErr, codes, refl, sym, ◌∙◌, ap, subst}
+use Rattle.std.proofs.Common.{arith, ◌≡◌, inl, inr, ◌++◌, ◌==◌, ℕ, true, false, length, List, [], ◌∷◌}
+use Rattle.std.proofs.Common.{Option, Some, None, Ok, Err, IfOk, IfErr, codes, refl, sym, ◌∙◌, ap, subst}
 use Rattle.std.specs.FinMap.{FinMap, get}
 use Rattle.std.proofs.lemmas.Bool.{eqb-true}
 use Rattle.outside.specs.History.{History}
@@ -35,7 +36,8 @@ use Rattle.core_commands.proofs.Stopping.{stops_before}
 -- ---- the reply to the commit
 
 -- A reply of success to a commit says its keys, and the line is their text.
-keys_replied : (I : Image) (X : World) (tx line : List ℕ) → is_success (request_next I X (Commit tx) Answered).reply ≡ true → IsBodyLine (request_next I X (Commit tx) Answered).reply line
+keys_replied : (I : Image) (X : World) (tx line : List ℕ) → is_success (request_next I X (Commit tx) Answered).reply ≡ true
+    → IsBodyLine (request_next I X (Commit tx) Answered).reply line
     → (keys : List Key) × ((request_next I X (Commit tx) Answered).reply ≡ Said (KeyList keys)) × (line ≡ compact_text (keys_data keys) ++ 10 ∷ [])
 unfolding request_next
 keys_replied I X tx line success says = by (get X.held.pending tx) success says where
@@ -48,7 +50,8 @@ keys_replied I X tx line success says = by (get X.held.pending tx) success says 
 
 module _ (I : Image) (W : World) (tx : List ℕ) (pairs : List (Key × Scalar)) (events : List Event) where
   -- A reply without success.
-  stops_come : (reply : Reply) → Stops I W (commit_requests tx pairs) reply events → (refusal : Refusal) → Tells reply refusal → ComesTo I W tx pairs (Err refusal) events
+  stops_come : (reply : Reply) → Stops I W (commit_requests tx pairs) reply events → (refusal : Refusal) → Tells reply refusal
+      → ComesTo I W tx pairs (Err refusal) events
   stops_come (machine.Refused r) stops refusal told = subst (λ (x : Refusal). ComesTo I W tx pairs (Err x) events) (sym told) stops
   stops_come machine.NoMemory stops refusal told = subst (λ (x : Refusal). ComesTo I W tx pairs (Err x) events) (sym told) (inr stops)
   stops_come machine.DiskFault stops refusal told = subst (λ (x : Refusal). ComesTo I W tx pairs (Err x) events) (sym told) stops
@@ -74,7 +77,7 @@ module _ (tx : List ℕ) (pairs : List (Key × Scalar)) (store : Opened) (c : Co
   whole : commit_requests tx pairs ≡ patch_requests tx pairs ++ Commit tx ∷ []
   whole = requests_are tx pairs (has_some pairs some)
 
-  -- The commit was asked behind the others.
+  -- The commit was asked after the others.
   pub commits_asked : (mid now : Core) (outcome : Ended) (old between new : History) → AsksEach (patch_requests tx pairs) (Ok tt) c mid old between
       → AsksFor (Commit tx) IsBodyLine outcome mid now between new → Commits tx pairs store outcome old new
   commits_asked mid now outcome old between new so_far asks = record { each = by } where
@@ -98,7 +101,8 @@ module _ (tx : List ℕ) (pairs : List (Key × Scalar)) (store : Opened) (c : Co
     by : (I : Image) → IsGood I → HoldsImage I store.image → (folder : Folder) (W V : World) → Kept I folder W V old (core_over store)
         → IsCommitted I folder W V tx pairs outcome (core_over store) old new
     by I good holds folder W V kept =
-        let m = one_more (patch_requests tx pairs) (Commit tx) IsBodyLine outcome c mid now old between new so_far asks I good (subst (HoldsImage I) (sym image_is) holds) folder W V
+        let m = one_more (patch_requests tx pairs) (Commit tx) IsBodyLine outcome c mid now old between new so_far asks I good
+        (subst (HoldsImage I) (sym image_is) holds) folder W V
         (subst (Kept I folder W V old) (sym before_is) kept) in record {
           events = m.events ++ Asked (Commit tx) m.outcome ∷ [];
           comes = comes outcome I W m.events m.succeeds m.outcome m.opens m.asks;
@@ -117,13 +121,14 @@ module _ (tx : List ℕ) (pairs : List (Key × Scalar)) (store : Opened) (c : Co
         asks.each I good (subst (HoldsImage I) (sym image_is) holds) folder W V (subst (Kept I folder W V old) (sym before_is) kept) in record {
           events = a.events;
           comes = stops_come I W tx pairs a.events a.asks.0
-              (subst (λ (qs : List Request). Stops I W qs a.asks.0 a.events) (sym whole) (stops_before I W (patch_requests tx pairs) (Commit tx) a.asks.0 a.events a.asks.2))
+              (subst (λ (qs : List Request). Stops I W qs a.asks.0 a.events) (sym whole)
+              (stops_before I W (patch_requests tx pairs) (Commit tx) a.asks.0 a.events a.asks.2))
               refusal a.asks.1;
           now = core_state now;
           made = subst (λ (s : CoreState). Ran I folder W V a.events old new s (core_state now)) before_is a.made;
         }
 
--- Nothing was asked: memory was wanting before,
+-- Nothing was asked: it ran out of memory before,
 pub commits_not : (tx : List ℕ) (pairs : List (Key × Scalar)) (store : Opened) (h : History) → Commits tx pairs store (Err refused.Memory) h h
 commits_not tx pairs store h = record {
   each = λ I good holds folder W V kept. record { events = []; comes = inl refl; now = core_over store; made = ran_none I folder W V h (core_over store) kept };
@@ -142,4 +147,5 @@ commits_none tx pairs store (Ok line) h none is memory = record {
         made = ran_none I folder W V h (core_over store) kept;
       };
 }
-commits_none tx pairs store (Err refusal) h none is memory = subst (λ (x : Refusal). Commits tx pairs store (Err x) h h) (sym memory) (commits_not tx pairs store h)
+commits_none tx pairs store (Err refusal) h none is memory = subst (λ (x : Refusal). Commits tx pairs store (Err x) h h) (sym memory)
+    (commits_not tx pairs store h)

@@ -1,4 +1,4 @@
--- What follows an opening: requests, turns, and what is told at the end.
+-- What follows an opening: requests, turns, and what is reported at the end.
 use Rattle.std.proofs.Common.{◌≡◌, inl, inr, false, List, [], ◌++◌, Option, Some, None, Result, Ok, Err, OnOk, refl, sym, ◌∙◌, ap, subst}
 use Rattle.std.proofs.lemmas.List.{append-nil}
 use Rattle.outside.specs.History.{History}
@@ -34,10 +34,14 @@ module _ {T : Type 0} (I : Image) (W : World) (qs : List Request) (Tells : World
   -- ---- what a refusal comes to
 
   -- A reply without success.
-  stops_come : (reply : Reply) (asked : List Event) → Stops I W qs reply asked → (refusal : Refusal) → told.Tells reply refusal → Comes I W qs Tells (Err refusal) asked []
-  stops_come (machine.Refused r) asked stops refusal told = subst (λ (x : Refusal). Comes I W qs Tells (Err x) asked []) (sym told) (record { stops = stops; no_turns = refl })
-  stops_come machine.NoMemory asked stops refusal told = subst (λ (x : Refusal). Comes I W qs Tells (Err x) asked []) (sym told) (inl (record { stops = stops; no_turns = refl }))
-  stops_come machine.DiskFault asked stops refusal told = subst (λ (x : Refusal). Comes I W qs Tells (Err x) asked []) (sym told) (inl (record { stops = stops; no_turns = refl }))
+  stops_come : (reply : Reply) (asked : List Event) → Stops I W qs reply asked → (refusal : Refusal) → told.Tells reply refusal
+      → Comes I W qs Tells (Err refusal) asked []
+  stops_come (machine.Refused r) asked stops refusal told = subst (λ (x : Refusal). Comes I W qs Tells (Err x) asked []) (sym told)
+      (record { stops = stops; no_turns = refl })
+  stops_come machine.NoMemory asked stops refusal told = subst (λ (x : Refusal). Comes I W qs Tells (Err x) asked []) (sym told)
+      (inl (record { stops = stops; no_turns = refl }))
+  stops_come machine.DiskFault asked stops refusal told = subst (λ (x : Refusal). Comes I W qs Tells (Err x) asked []) (sym told)
+      (inl (record { stops = stops; no_turns = refl }))
   stops_come (machine.Said body) asked stops refusal told = absurd told
   stops_come machine.Empty asked stops refusal told = absurd told
   stops_come (machine.NotOpened at) asked stops refusal told = absurd told
@@ -86,7 +90,8 @@ follows_stop {T = T} qs Tells store refusal c now ran_before ran_after old new b
       }
 
 -- All requests and all turns.
-pub record EndsAt (I : Image) (folder : Folder) (W V : World) (qs : List Request) (store : Opened) (before_turns : Job) (now : CoreState) (ran_before ran_after : Option (List Run)) (old new : History)
+pub record EndsAt (I : Image) (folder : Folder) (W V : World) (qs : List Request) (store : Opened) (before_turns : Job) (now : CoreState)
+    (ran_before ran_after : Option (List Run)) (old new : History)
     : Type 0 where
   pub asked : List Event
   pub turned : List Event
@@ -96,7 +101,8 @@ pub record EndsAt (I : Image) (folder : Folder) (W V : World) (qs : List Request
   pub holds : now.faulted ≡ false → (after I (after I W asked) turned).held ≡ now.held
   pub fresh : IsFresh before_turns
 
-pub record EndsFrom (qs : List Request) (store : Opened) (before_turns : Job) (now : CoreState) (ran_before ran_after : Option (List Run)) (old new : History) : Type 0 where
+pub record EndsFrom (qs : List Request) (store : Opened) (before_turns : Job) (now : CoreState) (ran_before ran_after : Option (List Run))
+    (old new : History) : Type 0 where
   pub each : (I : Image) → IsGood I → HoldsImage I store.image → (folder : Folder) (W V : World) → Kept I folder W V old (core_over store)
       → EndsAt I folder W V qs store before_turns now ran_before ran_after old new
 
@@ -120,7 +126,8 @@ ends_from qs store c mid now ran_before ran_mid ran_after old between new before
         made = subst (λ (s : CoreState). Ran I folder W V (a.events ++ e.events) old new s (core_state now)) before_is
             (ran_more I folder W V a.events e.events old between new (core_state c) (core_state mid) (core_state now) a.made e.ran);
         runs = subst (λ (r : Option (List Run)). RunsBy I W (a.events ++ e.events) r ran_after) same
-            (moves_map (λ r s f is. f (is ∙ sym (succeeds_runs I W qs a.events a.asks)) ∙ ap (λ (Y : World). Y.runs) (sym (after-append I W a.events e.events))) e.runs);
+            (moves_map (λ r s f is. f (is ∙ sym (succeeds_runs I W qs a.events a.asks)) ∙ ap (λ (Y : World). Y.runs) (sym (after-append I W a.events e.events)))
+            e.runs);
         holds = λ calm. core_holds I folder (after I X e.events) e.ran.other new (core_state now) last calm;
         fresh = subst IsFresh (sym a.made.kept.core.job) (subst (λ (es : List Event). IsFresh (after I W es).job) (sym a.asks.events_are)
             (asked_fresh I W qs (subst IsFresh kept.core.job tt)));
@@ -133,7 +140,15 @@ pub follows_failed : {T : Type 0} (qs : List Request) (Tells : World → T → T
 follows_failed qs Tells store refusal job now ran_before ran_after old new hands ends = record {
   each = λ I good holds folder W V kept.
       let e : EndsAt I folder W V qs store job now ran_before ran_after old new = ends.each I good holds folder W V kept in
-      record { asked = e.asked; turned = e.turned; comes = job_come I W qs Tells now.job e.asked e.turned e.ended refusal hands; now = now; made = e.made; runs = e.runs };
+      record {
+        asked = e.asked;
+        turned = e.turned;
+        comes = job_come I W qs Tells now.job e.asked e.turned e.ended refusal hands;
+        now = now;
+        made =
+            e.made;
+        runs = e.runs;
+      };
 }
 
 -- A fresh job that doesn't run is idle.
@@ -157,7 +172,11 @@ follows_done qs Tells store said job now ran_before ran_after old new drives cal
       record {
         asked = e.asked;
         turned = e.turned;
-        comes = (subst (λ (j : Job). HasEnded I W qs j e.asked e.turned) (done_idle job now.job drives e.fresh) e.ended, tells _ (e.holds calm) (e.ended.job_is ∙ done_idle job now.job drives e.fresh));
+        comes = (
+          subst (λ (j : Job). HasEnded I W qs j e.asked e.turned) (done_idle job now.job drives e.fresh) e.ended,
+          tells _ (e.holds calm)
+              (e.ended.job_is ∙ done_idle job now.job drives e.fresh),
+        );
         now = now;
         made = e.made;
         runs = e.runs;

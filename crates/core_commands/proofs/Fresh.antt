@@ -9,7 +9,8 @@ use Rattle.settings_machine.specs.World.{Key, Image, World, Job, Idle, Failed, R
 use Rattle.settings_machine.specs.Typed.{Wanted, first_wanted}
 use Rattle.settings_machine.specs.Requests.{Request, Root, OsNames, Settings, SettingsAt, SettingsBelow, Patch, Services, ConfigurationFiles}
 use Rattle.settings_machine.specs.Requests.{Affected, Pends, DropTx, TxList, Commit, Apply, CommitAndApply, JobNow}
-use Rattle.settings_machine.specs.Step.{Answered, noting, asked_for, applied, committed_world, patch_next, commit_next, commit_and_apply_next, answered, request_next}
+use Rattle.settings_machine.specs.Step.{Answered, noting, asked_for, applied, committed_world}
+use Rattle.settings_machine.specs.Step.{patch_next, commit_next, commit_and_apply_next, answered, request_next}
 use Rattle.settings_machine.specs.Events.{Asked, next, after}
 use Rattle.core_commands.specs.Asking.{asked_all}
 

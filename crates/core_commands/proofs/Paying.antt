@@ -88,9 +88,10 @@ turn_pays : (I : Image) (W : World) (a : Answer) → Pays W.job W.held.owed → 
 unfolding turn_next
 turn_pays I W a pays = job_pays I W W.job a refl pays
 
-turns_pay : (I : Image) (W : World) (events : List Event) → IsDriven I W events → Pays W.job W.held.owed → Pays (after I W events).job (after I W events).held.owed
+turns_pay : (I : Image) (W : World) (events : List Event) → IsDriven I W events → Pays W.job W.held.owed
+    → Pays (after I W events).job (after I W events).held.owed
 turns_pay I W [] driven pays = pays
-turns_pay I W (Turned a ∷ es) driven pays = turns_pay I (turn_next I W a) es driven.1 (turn_pays I W a pays)
+turns_pay I W (Turned a ∷ es) driven pays = turns_pay I (turn_next I W a) es driven.2 (turn_pays I W a pays)
 turns_pay I W (Opened boot o ∷ es) driven pays = absurd driven
 turns_pay I W (Asked q o ∷ es) driven pays = absurd driven
 turns_pay I W (Unread ∷ es) driven pays = absurd driven

@@ -5,7 +5,8 @@ use Rattle.settings_machine.specs.Requests.{Request, Reply}
 use Rattle.settings_machine.specs.Events.{Event}
 use Rattle.core_commands.specs.Asking.{Stops}
 
-pub stops_before : (I : Image) (W : World) (qs : List Request) (q : Request) (reply : Reply) (events : List Event) → Stops I W qs reply events → Stops I W (qs ++ q ∷ []) reply events
+pub stops_before : (I : Image) (W : World) (qs : List Request) (q : Request) (reply : Reply) (events : List Event) → Stops I W qs reply events
+    → Stops I W (qs ++ q ∷ []) reply events
 stops_before I W qs q reply events s = record {
   first = s.first;
   last = s.last;

@@ -21,14 +21,16 @@ use Rattle.core_commands.specs.declared.telling.Telling.{Telling}
 use Rattle.core_commands.proofs.Carryings.{carries_said, carries_lost}
 
 -- The keys of what is put are those of the pairs.
-pub settings_put : (pairs : List (Key × Scalar)) (puts : List (Key × Pending)) → puts ≡ puts_of pairs → All (λ pair. IsTrue (is_prefix settings_key pair.0)) pairs
+pub settings_put : (pairs : List (Key × Scalar)) (puts : List (Key × Pending)) → puts ≡ puts_of pairs
+    → All (λ pair. IsTrue (is_prefix settings_key pair.0)) pairs
     → All (λ pair. IsTrue (is_prefix settings_key pair.0)) puts
 settings_put pairs puts is all =
     subst (λ (l : List (Key × Pending)). All (λ pair. IsTrue (is_prefix settings_key pair.0)) l) (sym is)
     (All-map (λ (p : Key × Pending). IsTrue (is_prefix settings_key p.0)) (λ (p : Key × Scalar). (p.0, pending.Put p.1)) pairs all)
 
--- The line that tells of the last world, or want of memory for it.
-pub line_told : {A : Type 0} (qs : List Request) (P : World → A → Type 0) (said : A) (held : Held) (telling : Telling) (outcome : Outcome) (ran_before ran_after : Option (List Run))
+-- The line that tells of the last world, or out of memory for it.
+pub line_told : {A : Type 0} (qs : List Request) (P : World → A → Type 0) (said : A) (held : Held) (telling : Telling) (outcome : Outcome)
+    (ran_before ran_after : Option (List Run))
     (told_before told_after : Option History) → ((W : World) → P W said → (W.held ≡ held) × (W.job ≡ Idle))
     → IfOk outcome (λ line. (W : World) → W.held ≡ held → W.job ≡ Idle → Tells telling W line) → IfErr outcome (λ refusal. refusal ≡ refused.Memory)
     → CarriesOut qs P (Ok said) ran_before ran_after told_before told_after → CarriesOut qs (Tells telling) outcome ran_before ran_after told_before told_after

@@ -50,13 +50,14 @@ pub record Stops (I : Image) (W : World) (qs : List Request) (reply : Reply) (ev
   pub refused : is_success reply ≡ false
   pub events_are : events ≡ asked_all first ++ Asked last outcome ∷ []
 
--- All requests are answered with success, or one of them isn't, which is told so.
+-- All requests are answered with success, or one of them isn't, and that is reported.
 abbrev pub Asks : Image → World → List Request → Result Unit Refusal → List Event → Type 0
 Asks I W qs (Ok done) events = Succeeds I W qs events
 Asks I W qs (Err refusal) events = (reply : Reply) × Tells reply refusal × Stops I W qs reply events
 
 -- The requests are asked, by the machine, crash included, and the core holds the image still.
-pub record AskedBy (I : Image) (folder : Folder) (W V : World) (qs : List Request) (result : Result Unit Refusal) (c now : Core) (old new : History) : Type 0 where
+pub record AskedBy (I : Image) (folder : Folder) (W V : World) (qs : List Request) (result : Result Unit Refusal) (c now : Core) (old new : History) : Type
+    0 where
   pub events : List Event
   pub asks : Asks I W qs result events
   pub made : Ran I folder W V events old new (core_state c) (core_state now)
@@ -69,13 +70,15 @@ pub record AsksEach (qs : List Request) (result : Result Unit Refusal) (c now : 
 
 -- ---- one request
 
--- What one request comes to: it is answered with success, and this is told of the reply; or it isn't, which is told so.
+-- What one request comes to: it is answered with success, and this is reported of the reply; or it isn't, and that is reported.
 abbrev pub AsksOne : {T : Type 0} → Image → World → Request → (Reply → T → Type 0) → Result T Refusal → Outcome → Type 0
-AsksOne I W q Of (Ok value) outcome = (outcome ≡ Answered) × (is_success (request_next I W q Answered).reply ≡ true) × Of (request_next I W q Answered).reply value
+AsksOne I W q Of (Ok value) outcome = (outcome ≡ Answered) × (is_success (request_next I W q Answered).reply ≡ true)
+    × Of (request_next I W q Answered).reply value
 AsksOne I W q Of (Err refusal) outcome = (is_success (request_next I W q outcome).reply ≡ false) × Tells (request_next I W q outcome).reply refusal
 
 -- It is asked, by the machine, crash included, and the core holds the image still.
-pub record AskedOneBy {T : Type 0} (I : Image) (folder : Folder) (W V : World) (q : Request) (Of : Reply → T → Type 0) (result : Result T Refusal) (c now : Core) (old new : History)
+pub record AskedOneBy {T : Type 0} (I : Image) (folder : Folder) (W V : World) (q : Request) (Of : Reply → T → Type 0) (result : Result T Refusal)
+    (c now : Core) (old new : History)
     : Type 0 where
   pub outcome : Outcome
   pub opens : Reopens false outcome []
@@ -90,7 +93,7 @@ pub record AsksFor {T : Type 0} (q : Request) (Of : Reply → T → Type 0) (res
 
 -- ---- for private clauses
 
--- What a request comes to where the machine replies so: this is told of a reply of success, or why the machine refuses it.
+-- What a request comes to where the machine replies so: this is reported of a reply of success, or why the machine refuses it.
 abbrev pub TellsReply : {T : Type 0} → (Reply → T → Type 0) → Reply → Result T Refusal → Type 0
 TellsReply Of (machine.Said body) (Ok value) = Of (machine.Said body) value
 TellsReply Of machine.Empty (Ok value) = Of machine.Empty value

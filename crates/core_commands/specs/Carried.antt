@@ -56,11 +56,11 @@ pub record HasEnded (I : Image) (W : World) (qs : List Request) (job : Job) (ask
   pub driven : IsDriven I (after I W asked) turned
   pub job_is : (after I (after I W asked) turned).job ≡ job
 
--- Memory was wanting: for a request, for a turn, or to tell how the job ended.
+-- It ran out of memory: for a request, for a turn, or to tell how the job ended.
 abbrev pub LacksMemory : Image → World → List Request → List Event → List Event → Type 0
 LacksMemory I W qs asked turned = HasStopped I W qs NoMemory asked turned ⊎ ((job : Job) × HasEnded I W qs job asked turned)
 
--- What it comes to, by its events: all requests and all turns with an idle job at the end, which is told of the last world; or why not.
+-- What it comes to, by its events: all requests and all turns with an idle job at the end, and this is reported of the last world; or why not.
 abbrev pub Comes : {T : Type 0} → Image → World → List Request → (World → T → Type 0) → Result T Refusal → List Event → List Event → Type 0
 Comes I W qs Tells (Ok said) asked turned = HasEnded I W qs Idle asked turned × Tells (after I (after I W asked) turned) said
 Comes I W qs Tells (Err (refused.Refused refusal)) asked turned = HasStopped I W qs (machine.Refused refusal) asked turned
@@ -81,13 +81,14 @@ HoldsAll W c = (W.held ≡ (core_state c).held) × (W.job ≡ Idle)
 abbrev pub core_over : Opened → CoreState
 core_over store = record { place = store.place; held = store.held; job = Idle; faulted = false }
 
--- The core stands over this store, which was just opened.
+-- The core is over this store, which was just opened.
 pub record IsOver (c : Core) (store : Opened) : Type 0 where
   pub state : core_state c ≡ core_over store
   pub image : c.image ≡ store.image
 
 -- From W, where the store is open, requests are asked and turns made, crash included, and it comes to this.
-pub record Follows {T : Type 0} (I : Image) (folder : Folder) (W V : World) (qs : List Request) (Tells : World → T → Type 0) (result : Result T Refusal) (before : CoreState)
+pub record Follows {T : Type 0} (I : Image) (folder : Folder) (W V : World) (qs : List Request) (Tells : World → T → Type 0) (result : Result T Refusal)
+    (before : CoreState)
     (ran_before ran_after : Option (List Run)) (old new : History) : Type 0 where
   pub asked : List Event
   pub turned : List Event
@@ -97,16 +98,19 @@ pub record Follows {T : Type 0} (I : Image) (folder : Folder) (W V : World) (qs 
   pub runs : RunsBy I W (asked ++ turned) ran_before ran_after
 
 -- By each image that was read with the store, in each world at which the disk is with the store open.
-pub record GoesOn {T : Type 0} (qs : List Request) (Tells : World → T → Type 0) (store : Opened) (result : Result T Refusal) (ran_before ran_after : Option (List Run))
+pub record GoesOn {T : Type 0} (qs : List Request) (Tells : World → T → Type 0) (store : Opened) (result : Result T Refusal)
+    (ran_before ran_after : Option (List Run))
     (old new : History) : Type 0 where
   pub each : (I : Image) → IsGood I → HoldsImage I store.image → (folder : Folder) (W V : World) → Kept I folder W V old (core_over store)
       → Follows I folder W V qs Tells result (core_over store) ran_before ran_after old new
 
--- What comes after an opening: requests and turns where it succeeded; why it did not is told as it is, and then nothing more is done.
-abbrev pub FollowsOpening : {T : Type 0} → List Request → (World → T → Type 0) → Result Opened OpenError → Result T Refusal → Option (List Run) → Option (List Run)
+-- What comes after an opening: requests and turns where it succeeded; why it did not is reported as it is, and then nothing more is done.
+abbrev pub FollowsOpening : {T : Type 0} → List Request → (World → T → Type 0) → Result Opened OpenError → Result T Refusal → Option (List Run)
+    → Option (List Run)
     → Option History → Option History → Type 0
 FollowsOpening qs Tells (Ok store) result ran_before ran_after between told_after = Moves between told_after (GoesOn qs Tells store result ran_before ran_after)
-FollowsOpening qs Tells (Err e) result ran_before ran_after between told_after = (result ≡ Err (not_opened e)) × (told_after ≡ between) × (ran_after ≡ ran_before)
+FollowsOpening qs Tells (Err e) result ran_before ran_after between told_after = (result ≡ Err (not_opened e)) × (told_after ≡ between)
+    × (ran_after ≡ ran_before)
 
 -- The store is opened, without boot; requests are asked, and turns made until no job runs.
 pub record CarriesOut {T : Type 0} (qs : List Request) (Tells : World → T → Type 0) (result : Result T Refusal) (ran_before ran_after : Option (List Run))
@@ -116,13 +120,15 @@ pub record CarriesOut {T : Type 0} (qs : List Request) (Tells : World → T → 
   pub opens : Moves told_before between (Opens false opening)
   pub follows : FollowsOpening qs Tells opening result ran_before ran_after between told_after
 
--- Memory was wanting before it began.
-pub record HasNotBegun {T : Type 0} (result : Result T Refusal) (ran_before ran_after : Option (List Run)) (told_before told_after : Option History) : Type 0 where
+-- It ran out of memory before it began.
+pub record HasNotBegun {T : Type 0} (result : Result T Refusal) (ran_before ran_after : Option (List Run)) (told_before told_after : Option History) : Type
+    0 where
   pub result_is : result ≡ Err refused.Memory
   pub no_runs : ran_after ≡ ran_before
   pub same : told_after ≡ told_before
 
--- The command was carried out, or memory was wanting before it began.
-abbrev pub Carried : {T : Type 0} → List Request → (World → T → Type 0) → Result T Refusal → Option (List Run) → Option (List Run) → Option History → Option History → Type 0
+-- The command was carried out, or it ran out of memory before it began.
+abbrev pub Carried : {T : Type 0} → List Request → (World → T → Type 0) → Result T Refusal → Option (List Run) → Option (List Run) → Option History
+    → Option History → Type 0
 Carried qs Tells result ran_before ran_after told_before told_after =
     CarriesOut qs Tells result ran_before ran_after told_before told_after ⊎ HasNotBegun result ran_before ran_after told_before told_after

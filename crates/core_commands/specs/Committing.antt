@@ -31,12 +31,13 @@ abbrev pub commit_requests : List ℕ → List (Key × Scalar) → List Request
 commit_requests tx [] = []
 commit_requests tx (pair ∷ pairs) = patch_requests tx (pair ∷ pairs) ++ Commit tx ∷ []
 
--- ---- what is told of them
+-- ---- what is reported of them
 
 -- The machine replies these keys to the commit. Where there are no pairs, there are none.
 abbrev pub RepliesKeys : Image → World → List ℕ → List (Key × Scalar) → List Key → Type 0
 RepliesKeys I W tx [] keys = keys ≡ []
-RepliesKeys I W tx (pair ∷ pairs) keys = (request_next I (after I W (asked_all (patch_requests tx (pair ∷ pairs)))) (Commit tx) Answered).reply ≡ Said (KeyList keys)
+RepliesKeys I W tx (pair ∷ pairs) keys = (request_next I (after I W (asked_all (patch_requests tx (pair ∷ pairs)))) (Commit tx) Answered).reply ≡ Said
+    (KeyList keys)
 
 -- The line is the list of these keys, as compact JSON, and a line feed.
 pub record IsKeysLine (I : Image) (W : World) (tx : List ℕ) (pairs : List (Key × Scalar)) (line : List ℕ) : Type 0 where
@@ -46,11 +47,11 @@ pub record IsKeysLine (I : Image) (W : World) (tx : List ℕ) (pairs : List (Key
 
 -- ---- what it comes to
 
--- Memory was wanting: before the first request, or for one of them.
+-- It ran out of memory: before the first request, or for one of them.
 abbrev pub LacksRoom : Image → World → List Request → List Event → Type 0
 LacksRoom I W qs events = (events ≡ []) ⊎ Stops I W qs NoMemory events
 
--- What it comes to, by its events, from W: all requests are answered with success, and the keys are told; or why not.
+-- What it comes to, by its events, from W: all requests are answered with success, and the keys are reported; or why not.
 abbrev pub ComesTo : Image → World → List ℕ → List (Key × Scalar) → Outcome → List Event → Type 0
 ComesTo I W tx pairs (Ok line) events = Succeeds I W (commit_requests tx pairs) events × IsKeysLine I W tx pairs line
 ComesTo I W tx pairs (Err (refused.Refused refusal)) events = Stops I W (commit_requests tx pairs) (machine.Refused refusal) events
@@ -59,7 +60,8 @@ ComesTo I W tx pairs (Err refused.Memory) events = LacksRoom I W (commit_request
 ComesTo I W tx pairs (Err _) events = ⊥
 
 -- From W, where the store is open, the pairs are committed, crash included, and it comes to this.
-pub record IsCommitted (I : Image) (folder : Folder) (W V : World) (tx : List ℕ) (pairs : List (Key × Scalar)) (outcome : Outcome) (before : CoreState) (old new : History)
+pub record IsCommitted (I : Image) (folder : Folder) (W V : World) (tx : List ℕ) (pairs : List (Key × Scalar)) (outcome : Outcome) (before : CoreState)
+    (old new : History)
     : Type 0 where
   pub events : List Event
   pub comes : ComesTo I W tx pairs outcome events

@@ -23,7 +23,7 @@ not_opened (opening.IllTyped key) = refused.IllTyped key
 not_opened opening.Failed = refused.Disk
 not_opened opening.Memory = refused.Memory
 
--- How a reply that isn't of success is told.
+-- How a reply that isn't of success is reported.
 abbrev pub Tells : machine.Reply → Refusal → Type 0
 Tells (machine.Refused r) refusal = refusal ≡ refused.Refused r
 Tells machine.NoMemory refusal = refusal ≡ refused.Memory
@@ -38,14 +38,14 @@ failed_for (cause.Render file error) = refused.Render file error
 failed_for (cause.Status service number) = refused.Status service number
 failed_for cause.Memory = refused.Memory
 
--- A program could not be run only where the count rose, and, but for want of memory, the count rose only there. No door is told of.
+-- A program could not be run only where the count rose, and, unless it ran out of memory, the count rose only there. No door is reported.
 pub record HasSpawnCause {T : Type 0} (before now : ℕ) (result : Result T Refusal) : Type 0 where
   pub later : before ≤ now
   pub failed : (name : List ℕ) → IsErrOf result (refused.Spawn name) → Rose before now
   pub kept : ((name : List ℕ) → IsErrOf result (refused.Spawn name) → ⊥) → (IsErrOf result refused.Memory → ⊥) → now ≡ before
   pub no_door : IsErrOf result refused.Door → ⊥
 
--- Why a job failed is told; or memory was wanting for it, and the disk had not failed.
+-- Why a job failed is reported; or it ran out of memory for that, and the disk had not failed.
 abbrev pub HandsCause : Cause → Refusal → Type 0
 HandsCause c refusal = (refusal ≡ failed_for c) ⊎ ((refusal ≡ refused.Memory) × (c ≢ cause.Disk))
 
@@ -56,7 +56,7 @@ HandsJob (Failed c) (Some refusal) = HandsCause c refusal
 HandsJob (Running work) None = ⊤
 HandsJob _ _ = ⊥
 
--- What becomes of a job that is driven to its end: it is idle, or no job ran; or why it failed is told, or memory was wanting for that.
+-- What becomes of a job that is driven to its end: it is idle, or no job ran; or why it failed is reported, or it ran out of memory for that.
 abbrev pub Drives : Job → Job → Result Unit Refusal → Type 0
 Drives before now (Ok done) = ((is_running before ≡ false) × (now ≡ before)) ⊎ (now ≡ Idle)
 Drives before now (Err refusal) = HandsJob now (Some refusal)

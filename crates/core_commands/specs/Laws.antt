@@ -7,7 +7,8 @@ use Rattle.core_commands.specs.Carried.{HasEnded, set_requests, apply_requests}
 
 -- Where all requests of `set` were answered with success and the job has ended well, nothing is owed.
 abbrev pub SetPays : Type 0
-SetPays = (I : Image) (W : World) → W.job ≡ Idle → (pairs : List (Key × Scalar)) (asked turned : List Event) → HasEnded I W (set_requests pairs) Idle asked turned
+SetPays = (I : Image) (W : World) → W.job ≡ Idle → (pairs : List (Key × Scalar)) (asked turned : List Event)
+    → HasEnded I W (set_requests pairs) Idle asked turned
     → owes_none (after I (after I W asked) turned).held.owed ≡ true
 
 -- The same of `apply`.

@@ -18,7 +18,7 @@ pub record IsTreeLine (values : Values) (keys : List (List (List ℕ))) (line : 
 abbrev pub IsSettingsLine : World → List ℕ → Type 0
 IsSettingsLine W line = IsTreeLine W.held.live.values (settings_key ∷ []) line
 
--- The line is what a client is told of the world's job and of what is owed, and a line feed.
+-- The line is what a client learns of the world's job and of what is owed, and a line feed.
 pub record IsJobLine (W : World) (line : List ℕ) : Type 0 where
   pub text : List ℕ
   pub job : IsTextOf (JobIs (job_status W.job) W.held.owed) text

@@ -13,10 +13,10 @@ use settings_machine::Request;
 use std::alloc::Global;
 
 /// Applies what is owed: opens the store, without boot; asks for the job; makes turns until no job runs; and answers what a client
-/// of the socket is told of the job, as compact JSON (RFC 8259), and a line feed.
+/// of the socket learns of the job, as compact JSON (RFC 8259), and a line feed.
 ///
 /// Why the store can't be opened comes first; then `Spawn`, `Render` or `Status` where the job failed so. `Disk` where the disk
-/// failed; `Memory` where memory is wanting.
+/// failed; `Memory` where it runs out of memory.
 pub fn apply<D: Disk, S: Spawner>(
     alloc: Global,
     disk: &mut D,

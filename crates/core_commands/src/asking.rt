@@ -54,7 +54,7 @@ fn ask<D: Disk>(
 /// Asks one request after another, until one isn't answered with success. No call of the disk has failed since the store was opened,
 /// and each key of a `Patch` begins with `settings`.
 ///
-/// `Refused` comes exactly where the machine refuses a request, `Disk` where the disk failed, and `Memory` where memory was wanting.
+/// `Refused` comes exactly where the machine refuses a request, `Disk` where the disk failed, and `Memory` where it ran out of memory.
 pub(crate) fn ask_each<D: Disk>(
     alloc: Global,
     core: &mut Core,

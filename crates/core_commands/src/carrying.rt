@@ -49,7 +49,7 @@ fn once_done<T: Drop>(done: Result<(), Refusal>, value: T) -> Result<T, Refusal>
     done.and(Ok(value))
 }
 
-// The core over a store that was just opened, behind the requests and the turns.
+// The core over a store that was just opened, after the requests and the turns.
 fn go_on<D: Disk, S: Spawner>(
     alloc: Global,
     store: Opened,
@@ -74,7 +74,7 @@ fn go_on<D: Disk, S: Spawner>(
 /// holds what the world holds, and whose job is idle.
 ///
 /// Why the store can't be opened comes first; then `Refused` where the machine refuses a request, and none is asked after it; then
-/// `Spawn`, `Render` or `Status` where the job failed so. `Disk` where the disk failed; `Memory` where memory is wanting.
+/// `Spawn`, `Render` or `Status` where the job failed so. `Disk` where the disk failed; `Memory` where it runs out of memory.
 pub(crate) fn carry<D: Disk, S: Spawner>(
     alloc: Global,
     asks: &[Request],

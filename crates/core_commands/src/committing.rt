@@ -82,7 +82,7 @@ fn commit_by<D: Disk>(
 /// nothing is asked then. No job is begun.
 ///
 /// Each key begins with `settings`. `Refused` where the types refuse a value, and nothing is set then; `Disk` where the disk failed;
-/// `Memory` where memory is wanting.
+/// `Memory` where it runs out of memory.
 pub fn commit_pairs<D: Disk>(
     alloc: Global,
     store: Opened,

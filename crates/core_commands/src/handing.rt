@@ -38,7 +38,7 @@ fn of_cause(cause: Cause) -> Refusal
     }
 }
 
-// Why a job failed, or want of memory.
+// Why a job failed, or out of memory.
 fn failed_for(cause: &Cause) -> Refusal
     ensures { HandsCause cause.now result }
 {
@@ -48,7 +48,7 @@ fn failed_for(cause: &Cause) -> Refusal
     }
 }
 
-/// Why the last job failed, if it did, or want of memory.
+/// Why the last job failed, if it did, or out of memory.
 pub(crate) fn job_refusal(job: &JobState) -> Option<Refusal>
     ensures { HandsJob (job_of job.now) result }
 {

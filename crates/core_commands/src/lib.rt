@@ -1,5 +1,5 @@
 //! The commands over an open store: requests are asked of the core, the job is driven to its end, and what the last world holds is
-//! told.
+//! reported.
 #![tactic(auto)]
 
 mod applying;

@@ -6,7 +6,7 @@ use key_names::{Bytes, Key, Text};
 use settings_tree::{Content, tree_below};
 use std::alloc::{AllocError, Global};
 
-/// The text and a line feed. The only error is want of memory.
+/// The text and a line feed. The only error is out of memory.
 pub fn line_of(alloc: Global, text: &Text) -> Result<Bytes, AllocError>
     ensures { IfOk result (λ line. line ≡ text.now ++ 10 ∷ []) }
 {
@@ -15,7 +15,7 @@ pub fn line_of(alloc: Global, text: &Text) -> Result<Bytes, AllocError>
     Ok(Bytes::of(line))
 }
 
-/// The tree of the values at the keys and below them, as compact JSON (RFC 8259), and a line feed. The only error is want of memory.
+/// The tree of the values at the keys and below them, as compact JSON (RFC 8259), and a line feed. The only error is out of memory.
 /// It takes one pass over all values.
 pub fn tree_line(alloc: Global, live: &Content, keys: &[Key]) -> Result<Bytes, AllocError>
     ensures { IfOk result (IsTreeLine live.now.values keys.now) }

@@ -28,7 +28,7 @@ fn set_tx(alloc: Global) -> Result<TxName, AllocError>
     }
 }
 
-/// Each value is to be set. The only error is want of memory.
+/// Each value is to be set. The only error is out of memory.
 pub(crate) fn puts_of(
     alloc: Global,
     pairs: &[(Key, Scalar)],
@@ -65,7 +65,7 @@ fn set_asks(alloc: Global, pairs: &[(Key, Scalar)]) -> Result<[Request; 3], Allo
 ///
 /// Each key begins with `settings`. Why the store can't be opened comes first; then `Refused` where the types refuse a value, and
 /// nothing is set then; then `Spawn`, `Render` or `Status` where the job failed so, and the values are set all the same. `Disk` where
-/// the disk failed; `Memory` where memory is wanting.
+/// the disk failed; `Memory` where it runs out of memory.
 pub fn set<D: Disk, S: Spawner>(
     alloc: Global,
     pairs: &[(Key, Scalar)],

@@ -1,4 +1,4 @@
-//! What commands tell behind their requests.
+//! What commands tell after their requests.
 ghost use Rattle.std.specs.Prelude.{◌≡◌, ◌∷◌, [], All, IfErr, IfOk};
 ghost use Rattle.outside.specs.Faults.{HasCauseOf};
 ghost use Rattle.settings_tree.specs.Content.{settings_key};
@@ -41,7 +41,7 @@ fn settings_line(alloc: Global, live: &Content) -> Result<Bytes, Refusal>
     Ok(tree_line(alloc, live, &[settings])?)
 }
 
-// What a client is told of an idle job and of what is owed, as a line.
+// What a client learns of an idle job and of what is owed, as a line.
 fn idle_line(alloc: Global, owed: &Owed) -> Result<Bytes, Refusal>
     ensures ok { IfOk result (λ line. (W : World) → W.held.owed ≡ owed.now → W.job ≡ Idle → IsJobLine W line) }
     ensures memory { IfErr result (λ refusal. refusal ≡ Refusal.Memory) }

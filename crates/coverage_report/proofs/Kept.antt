@@ -20,7 +20,8 @@ lacks : {A : Type 0} (o : Option A) → IsSome o → o ≡ None → ⊥
 lacks None some none = absurd (cc some)
 lacks (Some a) some none = cc none
 
-pub is_kept : (model : Model) (manifest : Manifest) (templates : Templates) (text file : List ℕ) → ∥ IsImage model manifest templates text ∥₁ → IsSome (get manifest.files file) → source_of templates file ≡ None → ⊥
+pub is_kept : (model : Model) (manifest : Manifest) (templates : Templates) (text file : List ℕ) → ∥ IsImage model manifest templates text ∥₁
+    → IsSome (get manifest.files file) → source_of templates file ≡ None → ⊥
 is_kept model manifest templates text file whole there none = ∥∥₁_elim whole (λ a b. absurd a) (λ image. made image.text image.sources image.made) where
   made : (text_of : List ℕ) (sources : FinMap path_cmp (List ℕ)) → IsMadeOf text_of sources model manifest templates text → ⊥
   made text_of sources m = by (get manifest.files file) refl there where
@@ -34,4 +35,5 @@ is_kept model manifest templates text file whole there none = ∥∥₁_elim who
 -- Each name of a file of the manifest has a row.
 pub all_known : (manifest : Manifest) (names : List (List ℕ)) → names ≡ keys manifest.files → All (λ file. IsSome (get manifest.files file)) names
 all_known manifest names same = subst (All (λ file. IsSome (get manifest.files file))) (sym same)
-    (λ i d within. contains_key-keys manifest.files (get_or (keys manifest.files) i d) ∙ list_any_at (eq_by_cmp bytes_cmp (get_or (keys manifest.files) i d)) (keys manifest.files) i d within (ap is_eq (tied_itself bytes_total (get_or (keys manifest.files) i d))))
+    (λ i d within. contains_key-keys manifest.files (get_or (keys manifest.files) i d) ∙ list_any_at (eq_by_cmp bytes_cmp (get_or (keys manifest.files) i d))
+    (keys manifest.files) i d within (ap is_eq (tied_itself bytes_total (get_or (keys manifest.files) i d))))

@@ -5,7 +5,7 @@ use Rattle.depend_check.specs.declared.coverage.Coverage.{Coverage}
 use Rattle.depend_check.specs.declared.coverage.Coverage.TheVariants.{Covered, NoService, NotInModel, Uncovered}
 use Rattle.coverage_report.specs.declared.file_coverage.FileCoverage.{FileCoverage}
 
--- What is told of a file behind its name.
+-- What is said of a file after its name.
 abbrev pub told : Coverage → List ℕ
 told Covered = codes " covered"
 told NoService = codes " no service"

@@ -46,7 +46,7 @@ fn check_each(alloc: Global, image: &Image, files: &[Text]) -> Result<Vec<FileCo
 }
 
 /// Whether each configuration file of the image is covered, files by name, also those that no service lists. The only error is
-/// want of memory. It takes the time of `covered` for each file, and a logarithmic step to find its template, which is not
+/// out of memory. It takes the time of `covered` for each file, and a logarithmic step to find its template, which is not
 /// read again.
 pub fn check_files(alloc: Global, image: &Image) -> Result<Vec<FileCoverage>, AllocError>
     ensures files { IfOk result (λ checks. map file_in checks.items ≡ finite.keys image.now.manifest.files) }

@@ -16,7 +16,7 @@ fn push_key(text: &mut Vec<u8>, key: &Key) -> Result<(), AllocError>
     text.extend_from_slice(key.print()?.as_str().as_bytes())
 }
 
-// What is told of the file behind its name.
+// What is said of the file after its name.
 fn push_told(text: &mut Vec<u8>, coverage: &Coverage) -> Result<(), AllocError>
     ensures { OnOk result (text.new.items ≡ text.old.items ++ told coverage.now) }
 {
@@ -47,7 +47,7 @@ fn push_line(text: &mut Vec<u8>, check: &FileCoverage) -> Result<(), AllocError>
 }
 
 /// The lines that tell of these files, one for each: `FILE covered`, `FILE no service`, `FILE not in model PATH`, or
-/// `FILE uncovered PATH AT SERVICE`, each with a line feed. The only error is want of memory.
+/// `FILE uncovered PATH AT SERVICE`, each with a line feed. The only error is out of memory.
 pub fn lines_of(alloc: Global, checks: &[FileCoverage]) -> Result<Vec<u8>, AllocError>
     ensures { IfOk result (λ text. text.items ≡ flat_map line checks.now) }
 {

@@ -81,8 +81,10 @@ fold_old done (name ∷ names) file among = fold_old (with_name done name) names
 pub in_fold : (done names : List (List ℕ)) (file : List ℕ) → Contains names file → Contains (fold with_name done names) file
 in_fold done [] file among = absurd (no_member file among)
 in_fold done (name ∷ names) file among = by (member_cases name file names among) (in_fold (with_name done name) names file) where
-  by : (name ≡ file) ⊎ Contains names file → (Contains names file → Contains (fold with_name (with_name done name) names) file) → Contains (fold with_name (with_name done name) names) file
-  by (inl one) rest = fold_old (with_name done name) names file (subst (λ z. Contains (with_name done name) z) one (with_new (list_any (bytes_eq name) done) done name refl))
+  by : (name ≡ file) ⊎ Contains names file → (Contains names file → Contains (fold with_name (with_name done name) names) file)
+      → Contains (fold with_name (with_name done name) names) file
+  by (inl one) rest = fold_old (with_name done name) names file (subst (λ z. Contains (with_name done name) z) one
+      (with_new (list_any (bytes_eq name) done) done name refl))
   by (inr later) rest = rest later
 
 pub of_fold : (done names : List (List ℕ)) (file : List ℕ) → Contains (fold with_name done names) file → Contains done file ⊎ Contains names file
@@ -142,23 +144,29 @@ rendered_key m file owed among = by (of_fold [] (listed m (aff m.index owed) ++ 
 -- And what is so for one of them is so for all.
 pub key_rendered : (m : Manifest) (file : List ℕ) (owed : List Path) → IsRenderedFor m file owed → Contains (files_of m (Keys owed)) file
 key_rendered m file owed r =
-    let affects : Contains (aff m.index owed) r.service = in_rising (flat_map (λ k. near m.index k) owed) r.service (in_flat (λ k. near m.index k) owed r.key r.service r.owes r.named) in
-    let is_listed : Contains (listed m (aff m.index owed)) file = in_flat (λ name. (service_named m name).files) (aff m.index owed) r.service file affects r.lists in
+    let affects : Contains (aff m.index owed) r.service = in_rising (flat_map (λ k. near m.index k) owed) r.service
+    (in_flat (λ k. near m.index k) owed r.key r.service r.owes r.named) in
+    let is_listed : Contains (listed m (aff m.index owed)) file = in_flat (λ name. (service_named m name).files) (aff m.index owed) r.service file affects
+    r.lists in
     in_fold [] (listed m (aff m.index owed) ++ []) file (Contains-append_left (listed m (aff m.index owed)) [] file is_listed)
 
 -- So more keys render no file less.
-pub rendered_more : (m : Manifest) (file : List ℕ) (owed more : List Path) → ((key : Path) → Contains owed key → Contains more key) → Contains (files_of m (Keys owed)) file → Contains (files_of m (Keys more)) file
+pub rendered_more : (m : Manifest) (file : List ℕ) (owed more : List Path) → ((key : Path) → Contains owed key → Contains more key)
+    → Contains (files_of m (Keys owed)) file → Contains (files_of m (Keys more)) file
 rendered_more m file owed more each among =
     let r = rendered_key m file owed among in
     key_rendered m file more (record { key = r.key; service = r.service; owes = each r.key r.owes; named = r.named; lists = r.lists })
 
 -- A file is rendered again for a key where a service that lists it is in the list nearest to the key.
-pub rendered_for : (m : Manifest) (file service : List ℕ) (key : Path) (owed : List Path) → Contains owed key → Contains (near m.index key) service → Contains (services_of m file) service → Contains (files_of m (Keys owed)) file
-rendered_for m file service key owed owes named lists = key_rendered m file owed (record { key = key; service = service; owes = owes; named = named; lists = service_lists m file service lists })
+pub rendered_for : (m : Manifest) (file service : List ℕ) (key : Path) (owed : List Path) → Contains owed key → Contains (near m.index key) service
+    → Contains (services_of m file) service → Contains (files_of m (Keys owed)) file
+rendered_for m file service key owed owes named lists = key_rendered m file owed
+    (record { key = key; service = service; owes = owes; named = named; lists = service_lists m file service lists })
 
 -- Where all is owed, each file that some service lists is rendered.
 pub rendered_all : (m : Manifest) (file service : List ℕ) → Contains (services_of m file) service → Contains (files_of m All) file
 rendered_all m file service lists =
     let service_is : Contains (keys m.services) service = known_service m file service lists in
-    let is_listed : Contains (listed m (keys m.services)) file = in_flat (λ name. (service_named m name).files) (keys m.services) service file service_is (service_lists m file service lists) in
+    let is_listed : Contains (listed m (keys m.services)) file = in_flat (λ name. (service_named m name).files) (keys m.services) service file service_is
+    (service_lists m file service lists) in
     in_fold [] (listed m (keys m.services) ++ keys m.files) file (Contains-append_left (listed m (keys m.services)) (keys m.files) file is_listed)

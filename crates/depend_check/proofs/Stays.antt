@@ -50,7 +50,8 @@ module _ (m : Manifest) (table : List Row) (t : Tree) (file : List ℕ) (c : IsC
   alike_or_rendered (Keys owed) one other differ = changes_seen m table t file c owed one other (record { same = differ.same })
 
   -- What is so of the render before the change, unless the file was to be rendered again, is so of the render after it, unless it is.
-  pub stays : (P : Rendered → Type 0) (owed more : Owed) (one other : Contents) (os : List OsName) (source : List ℕ) → OwesMore owed more → DifferWithin more one other
+  pub stays : (P : Rendered → Type 0) (owed more : Owed) (one other : Contents) (os : List OsName) (source : List ℕ) → OwesMore owed more
+      → DifferWithin more one other
       → P (render one os source t None) ⊎ Contains (files_of m owed) file → P (render other os source t None) ⊎ Contains (files_of m more) file
   stays P owed more one other os source within differ (inr among) = inr (files_more m file owed more within among)
   stays P owed more one other os source within differ (inl holds) = by (alike_or_rendered more one other differ) where

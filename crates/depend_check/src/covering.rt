@@ -73,7 +73,7 @@ fn first_failure(
 /// lists the file is in the list nearest to the path and in that of each longer key that begins with
 /// the path and has one. Else the first failure: `NoService`; then by path, rising, `NotInModel`, and
 /// then `Uncovered` at the path itself and at the longer keys, rising, by service. The only error is
-/// want of memory.
+/// out of memory.
 ///
 /// It takes one pass over the template and over the services' lists of files, and for each path read
 /// one pass over the rows of the types, a logarithmic search for the keys below the path that have a

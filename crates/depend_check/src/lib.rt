@@ -1,4 +1,4 @@
-//! The paths that a template reads, and whether each change of one of them concerns each service that
+//! The paths that a template reads, and whether each change of one of them affects each service that
 //! lists the template's file.
 #![tactic(auto)]
 

@@ -8,7 +8,8 @@ use Rattle.outside.specs.Told.{Moves}
 use Rattle.disk_memory.specs.Crash.{MayTear}
 
 -- a write that failed has left what was there
-pub torn_write : {E : Type 0} (path : Names) (bytes : List ℕ) (e : E) (old new : History) → MayTear path old new → Moves (Some old) (Some new) (Writes {E = E} path bytes (Err e))
+pub torn_write : {E : Type 0} (path : Names) (bytes : List ℕ) (e : E) (old new : History) → MayTear path old new
+    → Moves (Some old) (Some new) (Writes {E = E} path bytes (Err e))
 torn_write path bytes e old new tears = record {
   told = elim tears.torn [
     | inl same ↦ inl same
@@ -16,8 +17,9 @@ torn_write path bytes e old new tears = record {
   ];
 }
 
--- what stands there was put once more, in place
-pub may_tear-put : (path : Names) (old new : History) (node : Option Node) → node ≡ node_at (tree_of old) path → new ≡ next (scribbled path node) old → MayTear path old new
+-- what is there was put once more, in place
+pub may_tear-put : (path : Names) (old new : History) (node : Option Node) → node ≡ node_at (tree_of old) path → new ≡ next (scribbled path node) old
+    → MayTear path old new
 may_tear-put path old new copy is put = record { torn = inr (put ∙ ap (λ n. next (scribbled path n) old) is) }
 
 -- nothing was noted

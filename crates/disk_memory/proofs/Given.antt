@@ -15,22 +15,26 @@ use Rattle.disk_memory.specs.declared.node.Node.{Node}
 use Rattle.disk_memory.proofs.Keys.{get-seen, found}
 
 -- a look-up in a list with one entry more at its end
-lookup-push : (q : Names) (es : List (Names × Node)) (e : Names × Node) → lookup (eq_by_cmp path_cmp q) (es ++ e ∷ []) ≡ option_or (lookup (eq_by_cmp path_cmp q) es) (cond (eq_by_cmp path_cmp q e.0) (Some e.1) None)
+lookup-push : (q : Names) (es : List (Names × Node)) (e : Names × Node) → lookup (eq_by_cmp path_cmp q) (es ++ e ∷ []) ≡ option_or
+    (lookup (eq_by_cmp path_cmp q) es) (cond (eq_by_cmp path_cmp q e.0) (Some e.1) None)
 lookup-push q [] e = refl
 lookup-push q (d ∷ es) e =
-    elim (eq_by_cmp path_cmp q d.0) as (λ b. cond b (Some d.1) (lookup (eq_by_cmp path_cmp q) (es ++ e ∷ [])) ≡ option_or (cond b (Some d.1) (lookup (eq_by_cmp path_cmp q) es)) (cond (eq_by_cmp path_cmp q e.0) (Some e.1) None)) [
+    elim (eq_by_cmp path_cmp q d.0) as (λ b. cond b (Some d.1) (lookup (eq_by_cmp path_cmp q) (es ++ e ∷ [])) ≡ option_or
+    (cond b (Some d.1) (lookup (eq_by_cmp path_cmp q) es)) (cond (eq_by_cmp path_cmp q e.0) (Some e.1) None)) [
       | true ↦ refl
       | false ↦ lookup-push q es e
     ]
 
 -- an entry counts where no later one does
-one_more : (later : Option Node) (b : Bool) (node : Node) (before : Option Node) → option_or later (cond b (Some node) before) ≡ option_or (option_or later (cond b (Some node) None)) before
+one_more : (later : Option Node) (b : Bool) (node : Node) (before : Option Node) → option_or later (cond b (Some node) before) ≡ option_or
+    (option_or later (cond b (Some node) None)) before
 one_more (Some x) b node before = refl
 one_more None true node before = refl
 one_more None false node before = refl
 
 -- the last entry counts
-last_counts : (es : List (Names × Node)) (before : Names → Option Node) (q : Names) → update_all (eq_by_cmp path_cmp) before es q ≡ option_or (lookup (eq_by_cmp path_cmp q) (reverse es)) (before q)
+last_counts : (es : List (Names × Node)) (before : Names → Option Node) (q : Names) → update_all (eq_by_cmp path_cmp) before es q ≡ option_or
+    (lookup (eq_by_cmp path_cmp q) (reverse es)) (before q)
 last_counts [] before q = refl
 last_counts (e ∷ es) before q =
     last_counts es (update (eq_by_cmp path_cmp) before e.0 (Some e.1)) q
@@ -39,7 +43,7 @@ last_counts (e ∷ es) before q =
     ∙ ap (λ t. option_or t (before q)) (sym (lookup-push q (reverse es) e))
     ∙ ap (λ (l : List (Names × Node)). option_or (lookup (eq_by_cmp path_cmp q) l) (before q)) (sym (reverse-append (e ∷ []) es))
 
--- nothing stands behind it
+-- nothing is after it
 or_none : (t : Option Node) → option_or t None ≡ t
 or_none None = refl
 or_none (Some x) = refl

@@ -29,16 +29,21 @@ may_leave_torn (begun tree) p found any torn = absurd (false≢true (ap (λ t. u
 may_leave_torn (next (replaced at now) h) p found any torn = inl (may_leave_torn h p found any (before (path_cases p at)))
   where
     before : (p ≡ at) ⊎ (eq_by_cmp path_cmp p at ≡ false) → is_torn h p ≡ true
-    before (inl same) = ap (is_torn h) same ∙ ap (λ b. unwrap_or (cond b (Some (is_torn h at)) (get (touched h) p)) false) (sym (ap (λ q. eq_by_cmp path_cmp p q) (sym same) ∙ path_itself p)) ∙ ap (λ t. unwrap_or t false) (sym (get-insert-cases (touched h) at (is_torn h at) p)) ∙ torn
-    before (inr other) = ap (λ b. unwrap_or (cond b (Some (is_torn h at)) (get (touched h) p)) false) (sym other) ∙ ap (λ t. unwrap_or t false) (sym (get-insert-cases (touched h) at (is_torn h at) p)) ∙ torn
+    before (inl same) = ap (is_torn h) same ∙ ap (λ b. unwrap_or (cond b (Some (is_torn h at)) (get (touched h) p)) false)
+        (sym (ap (λ q. eq_by_cmp path_cmp p q) (sym same) ∙ path_itself p))
+        ∙ ap (λ t. unwrap_or t false) (sym (get-insert-cases (touched h) at (is_torn h at) p)) ∙ torn
+    before (inr other) = ap (λ b. unwrap_or (cond b (Some (is_torn h at)) (get (touched h) p)) false) (sym other)
+        ∙ ap (λ t. unwrap_or t false) (sym (get-insert-cases (touched h) at (is_torn h at) p)) ∙ torn
 may_leave_torn (next (scribbled at now) h) p found any torn = elim (path_cases p at) [
   | inl same ↦ inr (same, inl any)
-  | inr other ↦ inl (may_leave_torn h p found any (ap (λ b. unwrap_or (cond b (Some true) (get (touched h) p)) false) (sym other) ∙ ap (λ t. unwrap_or t false) (sym (get-insert-cases (touched h) at true p)) ∙ torn))
+  | inr other ↦ inl (may_leave_torn h p found any (ap (λ b. unwrap_or (cond b (Some true) (get (touched h) p)) false) (sym other)
+      ∙ ap (λ t. unwrap_or t false) (sym (get-insert-cases (touched h) at true p)) ∙ torn))
 ]
 may_leave_torn (next synced h) p found any torn = absurd (false≢true (ap (λ t. unwrap_or t false) (sym (get-empty path_cmp p)) ∙ torn))
 
 -- so it may leave either, by whether the path is torn
-may_leave_if_torn : (h : History) (p : Names) (found : Option Node) (torn : Bool) → IsFileOrNone found → is_torn h p ≡ torn → MayLeave h p (cond torn found (node_at (synced_tree h) p))
+may_leave_if_torn : (h : History) (p : Names) (found : Option Node) (torn : Bool) → IsFileOrNone found → is_torn h p ≡ torn
+    → MayLeave h p (cond torn found (node_at (synced_tree h) p))
 may_leave_if_torn h p found true any is = may_leave_torn h p found any is
 may_leave_if_torn h p found false any is = may_leave_old h p
 

@@ -43,7 +43,8 @@ module _ {A B : Type 0} (f : A → B) where
   pub found : (q : Names) (es : List (Names × A)) → find path_cmp q (seen es) ≡ option_map f (lookup (tree.is_at (path_cmp q)) es)
   found q [] = refl
   found q (e ∷ es) =
-      elim (eq_by_cmp path_cmp q e.0) as (λ b. cond b (Some (f e.1)) (find path_cmp q (seen es)) ≡ option_map f (cond b (Some e.1) (lookup (tree.is_at (path_cmp q)) es))) [
+      elim (eq_by_cmp path_cmp q e.0) as (λ b. cond b (Some (f e.1)) (find path_cmp q (seen es)) ≡ option_map f
+      (cond b (Some e.1) (lookup (tree.is_at (path_cmp q)) es))) [
         | true ↦ refl
         | false ↦ found q es
       ]
@@ -61,5 +62,7 @@ module _ {A B : Type 0} (f : A → B) where
   pub keys_same : (told : FinMap path_cmp B) (kept : tree.BTreeMap Names A) → Mirrors f told kept → tree.IsOrdered path_cmp kept → keys told ≡ tree.keys kept
   keys_same told kept mirrors ordered =
       let rises = rising kept.entries ordered in
-      let same : from_sorted {R = path_cmp} (seen kept.entries) ≡ told = same_map path_total path_same _ told (λ q. get-from_sorted path_cmp (seen kept.entries) q rises ∙ found q kept.entries ∙ mirrors q) in
-      ap (λ t. keys t) (sym same) ∙ ap (λ (es : List (Names × B)). map (λ e. e.0) es) (entries-from_sorted path_cmp (seen kept.entries) rises) ∙ firsts kept.entries
+      let same : from_sorted {R = path_cmp} (seen kept.entries) ≡ told =
+      same_map path_total path_same _ told (λ q. get-from_sorted path_cmp (seen kept.entries) q rises ∙ found q kept.entries ∙ mirrors q) in
+      ap (λ t. keys t) (sym same) ∙ ap (λ (es : List (Names × B)). map (λ e. e.0) es) (entries-from_sorted path_cmp (seen kept.entries) rises)
+      ∙ firsts kept.entries

@@ -1,7 +1,9 @@
 -- Bytes in pieces: the place goes on.
-use Rattle.std.proofs.Common.{◌≡◌, ◌↔◌, inl, inr, ◌⊎◌, ◌<◌, ◌≤◌, ◌+◌, ℕ, suc, List, [], ◌∷◌, ◌++◌, length, take, drop, map, get_or, Vec, Global, refl, sym, ◌∙◌, ap, subst, arith}
+use Rattle.std.proofs.Common.{◌≡◌, ◌↔◌, inl, inr, ◌⊎◌, ◌<◌, ◌≤◌, ◌+◌, ℕ, suc, List, [], ◌∷◌}
+use Rattle.std.proofs.Common.{◌++◌, length, take, drop, map, get_or, Vec, Global, refl, sym, ◌∙◌, ap, subst, arith}
 use Rattle.std.specs.Prelude.{min}
-use Rattle.std.proofs.lemmas.List.{take-append-drop, take_more, append-nil, append_assoc, length-append, length-drop, length-take, drop-append-le, take-append-le, drop-drop}
+use Rattle.std.proofs.lemmas.List.{take-append-drop, take_more, append-nil, append_assoc, length-append}
+use Rattle.std.proofs.lemmas.List.{length-drop, length-take, drop-append-le, take-append-le, drop-drop}
 use Rattle.std.proofs.lemmas.Grind.{flat_map-append}
 use Rattle.std.proofs.Math.Seq.{drop-cons, drop-nil, drop-append_seam, take-append_seam, take-add, drop-length}
 use Rattle.std.proofs.Math.ListN.{drop_of_length-le}
@@ -48,14 +50,15 @@ module _ (pieces : Pieces) (i : ℕ) (p : Piece) (here : i < length pieces) (is 
       drop-none (joined (drop (i + 1) pieces)) ∙ sym (drop-append_seam p.items (joined (drop (i + 1) pieces)))
       ∙ ap (drop (length p.items)) (sym all_from_here) ∙ ap (λ n. drop n (joined (drop i pieces))) (sym whole)
 
-  -- the same bytes stand before the next place
+  -- the same bytes are before the next place
   passed_before : (offset : ℕ) → offset ≡ length p.items → before_place pieces (i + 1) 0 ≡ before_place pieces i offset
   passed_before offset whole =
       let given : joined (take (i + 1) pieces) ≡ joined (take i pieces) ++ p.items =
       ap (λ (ps : Pieces). joined ps) (take_more pieces i p here ∙ ap (λ (q : Piece). take i pieces ++ q ∷ []) (sym is))
       ∙ flat_map-append (λ (q : Piece). q.items) (take i pieces) (p ∷ []) ∙ ap (λ (l : List ℕ). joined (take i pieces) ++ l) (append-nil p.items) in
       ap (λ (l : List ℕ). joined (take (i + 1) pieces) ++ l) (take-none (joined (drop (i + 1) pieces))) ∙ append-nil (joined (take (i + 1) pieces)) ∙ given
-      ∙ ap (λ (l : List ℕ). joined (take i pieces) ++ l) (sym (take-append_seam p.items (joined (drop (i + 1) pieces))) ∙ ap (take (length p.items)) (sym all_from_here) ∙ ap (λ n. take n (joined (drop i pieces))) (sym whole))
+      ∙ ap (λ (l : List ℕ). joined (take i pieces) ++ l) (sym (take-append_seam p.items (joined (drop (i + 1) pieces)))
+      ∙ ap (take (length p.items)) (sym all_from_here) ∙ ap (λ n. take n (joined (drop i pieces))) (sym whole))
 
   -- and the next piece is the same
   passed_next : (offset : ℕ) → offset ≡ length p.items → next_piece pieces (i + 1) 0 ≡ next_piece pieces i offset
@@ -73,16 +76,19 @@ module _ (pieces : Pieces) (i : ℕ) (p : Piece) (here : i < length pieces) (is 
       ∙ take-append-le count (drop offset p.items) (joined (drop (i + 1) pieces)) long
 
   -- they come off what is left
-  given_left : (offset count : ℕ) → offset + count ≤ length p.items → from_place pieces i offset ≡ take count (drop offset p.items) ++ from_place pieces i (offset + count)
+  given_left : (offset count : ℕ) → offset + count ≤ length p.items → from_place pieces i offset ≡ take count (drop offset p.items)
+      ++ from_place pieces i (offset + count)
   given_left offset count fits =
       sym (take-append-drop count (drop offset (joined (drop i pieces))))
       ∙ ap (λ (l : List ℕ). l ++ drop count (drop offset (joined (drop i pieces)))) (of_piece offset count fits)
       ∙ ap (λ (l : List ℕ). take count (drop offset p.items) ++ l) (drop-drop count offset (joined (drop i pieces)))
 
-  -- and stand at the end of what was given
-  given_before : (offset count : ℕ) → offset + count ≤ length p.items → before_place pieces i (offset + count) ≡ before_place pieces i offset ++ take count (drop offset p.items)
+  -- and are at the end of what was given
+  given_before : (offset count : ℕ) → offset + count ≤ length p.items → before_place pieces i (offset + count) ≡ before_place pieces i offset
+      ++ take count (drop offset p.items)
   given_before offset count fits =
-      ap (λ (l : List ℕ). joined (take i pieces) ++ l) (take-add offset count (joined (drop i pieces)) ∙ ap (λ (l : List ℕ). take offset (joined (drop i pieces)) ++ l) (of_piece offset count fits))
+      ap (λ (l : List ℕ). joined (take i pieces) ++ l) (take-add offset count (joined (drop i pieces))
+      ∙ ap (λ (l : List ℕ). take offset (joined (drop i pieces)) ++ l) (of_piece offset count fits))
       ∙ sym (append_assoc (joined (take i pieces)) (take offset (joined (drop i pieces))) (take count (drop offset p.items)))
 
   -- at a byte of it, it is the next piece
@@ -94,7 +100,8 @@ module _ (pieces : Pieces) (i : ℕ) (p : Piece) (here : i < length pieces) (is 
 -- ---- the same, with the piece by its number
 
 -- there is a piece with this number, or none
-piece_cases : (pieces : Pieces) (i : ℕ) → ((p : Piece) × (i < length pieces) × (p ≡ get_or pieces i p) × (piece_at pieces i ≡ p.items)) ⊎ ((piece_at pieces i ≡ []) × (length pieces ≤ i))
+piece_cases : (pieces : Pieces) (i : ℕ) → ((p : Piece) × (i < length pieces) × (p ≡ get_or pieces i p) × (piece_at pieces i ≡ p.items))
+    ⊎ ((piece_at pieces i ≡ []) × (length pieces ≤ i))
 piece_cases pieces i = elim (slice_get_cases pieces i).1 [
   | inl some ↦ inl (some.0, some.1, sym some.3, ap bytes_in some.2)
   | inr none ↦ inr (ap bytes_in none.1, none.0)
@@ -126,7 +133,8 @@ module _ (pieces : Pieces) (i offset : ℕ) where
   -- at a byte, what is left of its piece is the next piece
   pub next_is : AtByte pieces i offset → next_piece pieces i offset ≡ drop offset (piece_at pieces i)
   next_is there = elim (piece_cases pieces i) [
-    | inl some ↦ next_here pieces i some.0 some.1 some.2 offset (subst (λ (l : List ℕ). offset < length l) some.3 (there.there some.1)) ∙ ap (drop offset) (sym some.3)
+    | inl some ↦ next_here pieces i some.0 some.1 some.2 offset (subst (λ (l : List ℕ). offset < length l) some.3 (there.there some.1))
+        ∙ ap (drop offset) (sym some.3)
     | inr none ↦ ap (λ (ps : Pieces). first_filled (cut offset ps)) (drop_of_length-le pieces none.1) ∙ sym (drop-nil offset) ∙ ap (drop offset) (sym none.0)
   ]
 
@@ -134,22 +142,26 @@ module _ (pieces : Pieces) (i offset : ℕ) where
   module _ (count : ℕ) (fits : offset + count ≤ length (piece_at pieces i)) where
     pub on_left : from_place pieces i offset ≡ take count (drop offset (piece_at pieces i)) ++ from_place pieces i (offset + count)
     on_left = elim (piece_cases pieces i) [
-      | inl some ↦ given_left pieces i some.0 some.1 some.2 offset count (subst (λ (l : List ℕ). offset + count ≤ length l) some.3 fits) ∙ ap (λ (l : List ℕ). take count (drop offset l) ++ from_place pieces i (offset + count)) (sym some.3)
+      | inl some ↦ given_left pieces i some.0 some.1 some.2 offset count (subst (λ (l : List ℕ). offset + count ≤ length l) some.3 fits)
+          ∙ ap (λ (l : List ℕ). take count (drop offset l) ++ from_place pieces i (offset + count)) (sym some.3)
       | inr none ↦
           let nothing : count ≡ 0 = omega (arith, ap length none.0) in
           let still : offset + count ≡ offset = omega arith in
-          ap (λ n. from_place pieces i n) (sym still) ∙ ap (λ (l : List ℕ). l ++ from_place pieces i (offset + count)) (sym (take-none (drop offset (piece_at pieces i))) ∙ ap (λ n. take n (drop offset (piece_at pieces i))) (sym nothing))
+          ap (λ n. from_place pieces i n) (sym still) ∙ ap (λ (l : List ℕ). l ++ from_place pieces i (offset + count))
+          (sym (take-none (drop offset (piece_at pieces i))) ∙ ap (λ n. take n (drop offset (piece_at pieces i))) (sym nothing))
     ]
 
-    -- they stand at the end of what was given
+    -- they are at the end of what was given
     pub on_before : before_place pieces i (offset + count) ≡ before_place pieces i offset ++ take count (drop offset (piece_at pieces i))
     on_before = elim (piece_cases pieces i) [
-      | inl some ↦ given_before pieces i some.0 some.1 some.2 offset count (subst (λ (l : List ℕ). offset + count ≤ length l) some.3 fits) ∙ ap (λ (l : List ℕ). before_place pieces i offset ++ take count (drop offset l)) (sym some.3)
+      | inl some ↦ given_before pieces i some.0 some.1 some.2 offset count (subst (λ (l : List ℕ). offset + count ≤ length l) some.3 fits)
+          ∙ ap (λ (l : List ℕ). before_place pieces i offset ++ take count (drop offset l)) (sym some.3)
       | inr none ↦
           let nothing : count ≡ 0 = omega (arith, ap length none.0) in
           let still : offset + count ≡ offset = omega arith in
           ap (λ n. before_place pieces i n) still ∙ sym (append-nil (before_place pieces i offset))
-          ∙ ap (λ (l : List ℕ). before_place pieces i offset ++ l) (sym (take-none (drop offset (piece_at pieces i))) ∙ ap (λ n. take n (drop offset (piece_at pieces i))) (sym nothing))
+          ∙ ap (λ (l : List ℕ). before_place pieces i offset ++ l) (sym (take-none (drop offset (piece_at pieces i)))
+          ∙ ap (λ n. take n (drop offset (piece_at pieces i))) (sym nothing))
     ]
 
 -- nothing is left of a list, or something
@@ -192,9 +204,11 @@ next_end pieces i offset within = elim (piece_cases pieces i) [
   | inl some ↦
       let p = some.0 in
       let others = drop (i + 1) pieces in
-      let next : next_piece pieces i offset ≡ first_filled (drop offset p.items ∷ map (λ q. q.items) others) = ap (λ (ps : Pieces). first_filled (cut offset ps)) (from_here pieces i p some.1 some.2) in
+      let next : next_piece pieces i offset ≡ first_filled (drop offset p.items ∷ map (λ q. q.items) others) =
+      ap (λ (ps : Pieces). first_filled (cut offset ps)) (from_here pieces i p some.1 some.2) in
       let left : from_place pieces i offset ≡ drop offset p.items ++ joined others =
-      ap (drop offset) (all_from_here pieces i p some.1 some.2) ∙ drop-append-le offset p.items (joined others) (subst (λ (l : List ℕ). offset ≤ length l) some.3 within) in
+      ap (drop offset) (all_from_here pieces i p some.1 some.2) ∙ drop-append-le offset p.items (joined others)
+      (subst (λ (l : List ℕ). offset ≤ length l) some.3 within) in
       let both = first_none (drop offset p.items) others in
       (λ e. left ∙ both.0 (sym next ∙ e), λ e. next ∙ both.1 (sym left ∙ e))
   | inr none ↦
@@ -203,7 +217,8 @@ next_end pieces i offset within = elim (piece_cases pieces i) [
 ]
 
 -- no byte is read exactly at the end
-pub end_heard : (room next left : List ℕ) (count : ℕ) → 0 < length room → count ≡ min (length room) (length next) → ((next ≡ []) ↔ (left ≡ [])) → (take count room ≡ []) ↔ (left ≡ [])
+pub end_heard : (room next left : List ℕ) (count : ℕ) → 0 < length room → count ≡ min (length room) (length next) → ((next ≡ []) ↔ (left ≡ []))
+    → (take count room ≡ []) ↔ (left ≡ [])
 end_heard room next left count some most both = (
   λ none. let no_count : min count (length room) ≡ 0 = sym (length-take count room) ∙ ap length none in
       both.0 (no_bytes next (omega arith)),

@@ -1,5 +1,6 @@
 -- What is kept of a history to crash it: one change more.
-use Rattle.std.proofs.Common.{◌≡◌, ◌<◌, ◌+◌, inl, inr, ℕ, List, [], ◌∷◌, ◌++◌, length, take, get_or, Option, Some, None, Bool, cond, false, true, ◌||◌, refl, sym, ◌∙◌, ap, subst}
+use Rattle.std.proofs.Common.{◌≡◌, ◌<◌, ◌+◌, inl, inr, ℕ, List, [], ◌∷◌, ◌++◌, length, take, get_or}
+use Rattle.std.proofs.Common.{Option, Some, None, Bool, cond, false, true, ◌||◌, refl, sym, ◌∙◌, ap, subst}
 use Rattle.std.specs.Prelude.{option_map, unwrap_or}
 use Rattle.std.proofs.lemmas.List.{take_more}
 use Rattle.std.specs.Ordering.{eq_by_cmp}
@@ -26,13 +27,16 @@ pub some≢none : {A : Type 0} (x : A) → Some x ≡ None → ⊥
 some≢none x e = cc
 
 -- what is put at a path of a finite map, at each path
-pub get-insert-cases : {A : Type 0} (m : map.FinMap path_cmp A) (at : Names) (v : A) (q : Names) → map.get (map.insert m at v) q ≡ cond (eq_by_cmp path_cmp q at) (Some v) (map.get m q)
+pub get-insert-cases : {A : Type 0} (m : map.FinMap path_cmp A) (at : Names) (v : A) (q : Names)
+    → map.get (map.insert m at v) q ≡ cond (eq_by_cmp path_cmp q at) (Some v) (map.get m q)
 get-insert-cases m at v q = map.get-insert path_total m at v q
 
 -- a path that is absent after one was put is another one, and was absent
-absent : {A : Type 0} (m : map.FinMap path_cmp A) (at : Names) (v : A) (q : Names) → map.get (map.insert m at v) q ≡ None → (eq_by_cmp path_cmp q at ≡ false) × (map.get m q ≡ None)
+absent : {A : Type 0} (m : map.FinMap path_cmp A) (at : Names) (v : A) (q : Names) → map.get (map.insert m at v) q ≡ None
+    → (eq_by_cmp path_cmp q at ≡ false) × (map.get m q ≡ None)
 absent m at v q none = elim (path_cases q at) [
-  | inl same ↦ absurd (some≢none v (ap (λ b. cond b (Some v) (map.get m q)) (sym (ap (λ p. eq_by_cmp path_cmp q p) (sym same) ∙ path_itself q)) ∙ sym (get-insert-cases m at v q) ∙ none))
+  | inl same ↦ absurd (some≢none v (ap (λ b. cond b (Some v) (map.get m q)) (sym (ap (λ p. eq_by_cmp path_cmp q p) (sym same) ∙ path_itself q))
+      ∙ sym (get-insert-cases m at v q) ∙ none))
   | inr other ↦ (other, ap (λ b. cond b (Some v) (map.get m q)) (sym other) ∙ sym (get-insert-cases m at v q) ∙ none)
 ]
 
@@ -58,9 +62,12 @@ or_true true = refl
 or_true false = refl
 
 -- the touches after a put
-touched-put : (in_place : Bool) (at : Names) (now : Option tree.Node) (h : History) (q : Names) → map.get (touched (next (put in_place at now) h)) q ≡ cond (eq_by_cmp path_cmp q at) (Some (is_torn h at || in_place)) (map.get (touched h) q)
-touched-put true at now h q = get-insert-cases (touched h) at true q ∙ ap (λ b. cond (eq_by_cmp path_cmp q at) (Some b) (map.get (touched h) q)) (or_true (is_torn h at))
-touched-put false at now h q = get-insert-cases (touched h) at (is_torn h at) q ∙ ap (λ b. cond (eq_by_cmp path_cmp q at) (Some b) (map.get (touched h) q)) (or_false (is_torn h at))
+touched-put : (in_place : Bool) (at : Names) (now : Option tree.Node) (h : History) (q : Names)
+    → map.get (touched (next (put in_place at now) h)) q ≡ cond (eq_by_cmp path_cmp q at) (Some (is_torn h at || in_place)) (map.get (touched h) q)
+touched-put true at now h q = get-insert-cases (touched h) at true q ∙ ap (λ b. cond (eq_by_cmp path_cmp q at) (Some b) (map.get (touched h) q))
+    (or_true (is_torn h at))
+touched-put false at now h q = get-insert-cases (touched h) at (is_torn h at) q ∙ ap (λ b. cond (eq_by_cmp path_cmp q at) (Some b) (map.get (touched h) q))
+    (or_false (is_torn h at))
 
 -- a put is no sync
 synced_tree-put : (in_place : Bool) (at : Names) (now : Option tree.Node) (h : History) → synced_tree (next (put in_place at now) h) ≡ synced_tree h
@@ -68,22 +75,26 @@ synced_tree-put true at now h = refl
 synced_tree-put false at now h = refl
 
 -- a path that is touched once more was written in place if it was so once
-again : (found : Option Touch) (node : Option Node) (in_place : Bool) → (touched_again found node in_place).in_place ≡ (unwrap_or (option_map (λ touch. touch.in_place) found) false || in_place)
+again : (found : Option Touch) (node : Option Node) (in_place : Bool) → (touched_again found node in_place).in_place ≡
+    (unwrap_or (option_map (λ touch. touch.in_place) found) false || in_place)
 again None stood in_place = refl
 again (Some touch) stood in_place = refl
 
-module _ (h : History) (nodes later_nodes : BTreeMap Names Node) (touches later_touches : BTreeMap Names Touch) (path : Names) (node : Option Node) (in_place : Bool) (kept : IsKept h nodes touches) where
+module _ (h : History) (nodes later_nodes : BTreeMap Names Node) (touches later_touches : BTreeMap Names Touch) (path : Names) (node : Option Node)
+    (in_place : Bool) (kept : IsKept h nodes touches) where
   -- the touch of the path
   abbrev noted : Touch
   noted = touched_again (get path_cmp touches path) (get path_cmp nodes path) in_place
 
   -- it has from before what the last sync had
-  noted_before : (found : Option Touch) → get path_cmp touches path ≡ found → option_map node_of (touched_again found (get path_cmp nodes path) in_place).before ≡ tree.node_at (synced_tree h) path
+  noted_before : (found : Option Touch) → get path_cmp touches path ≡ found → option_map node_of (touched_again found (get path_cmp nodes path) in_place).before
+      ≡ tree.node_at (synced_tree h) path
   noted_before (Some touch) is = kept.before path touch is
   noted_before None is = kept.node_at path ∙ untouched h path (sym (kept.touch_at path) ∙ ap (option_map (λ touch. touch.in_place)) is)
 
   -- the touches are those after the put
-  still_touched : IsUpdated touches later_touches path (Some noted) → Mirrors (λ touch. touch.in_place) (touched (next (put in_place path (option_map node_of node)) h)) later_touches
+  still_touched : IsUpdated touches later_touches path (Some noted) → Mirrors (λ touch. touch.in_place)
+      (touched (next (put in_place path (option_map node_of node)) h)) later_touches
   still_touched updated q =
       let torn : noted.in_place ≡ (is_torn h path || in_place) =
       again (get path_cmp touches path) (get path_cmp nodes path) in_place ∙ ap (λ t. unwrap_or t false || in_place) (kept.touch_at path) in
@@ -95,26 +106,33 @@ module _ (h : History) (nodes later_nodes : BTreeMap Names Node) (touches later_
       ∙ sym (touched-put in_place path (option_map node_of node) h q)
 
   -- and what they have from before is what the last sync had
-  still_before : IsUpdated touches later_touches path (Some noted) → (q : Names) (touch : Touch) → get path_cmp later_touches q ≡ Some touch → option_map node_of touch.before ≡ tree.node_at (synced_tree h) q
+  still_before : IsUpdated touches later_touches path (Some noted) → (q : Names) (touch : Touch) → get path_cmp later_touches q ≡ Some touch
+      → option_map node_of touch.before ≡ tree.node_at (synced_tree h) q
   still_before updated q touch is = elim (path_cases path q) [
     | inl same ↦
         let first : Some noted ≡ Some touch =
-        ap (λ b. cond b (Some noted) (get path_cmp touches q)) (sym (ap (λ p. eq_by_cmp path_cmp path p) (sym same) ∙ path_itself path)) ∙ sym (updated.at q) ∙ is in
+        ap (λ b. cond b (Some noted) (get path_cmp touches q)) (sym (ap (λ p. eq_by_cmp path_cmp path p) (sym same) ∙ path_itself path)) ∙ sym (updated.at q)
+        ∙ is in
         let one : noted ≡ touch = cc in
         ap (λ t. option_map node_of t.before) (sym one) ∙ noted_before (get path_cmp touches path) refl ∙ ap (λ p. tree.node_at (synced_tree h) p) same
     | inr other ↦ kept.before q touch (ap (λ b. cond b (Some noted) (get path_cmp touches q)) (sym other) ∙ sym (updated.at q) ∙ is)
   ]
 
   -- all is kept after the put
-  kept_after_put : Updates path_cmp nodes later_nodes path node → IsUpdated touches later_touches path (Some noted) → IsKept (next (put in_place path (option_map node_of node)) h) later_nodes later_touches
+  kept_after_put : Updates path_cmp nodes later_nodes path node → IsUpdated touches later_touches path (Some noted)
+      → IsKept (next (put in_place path (option_map node_of node)) h) later_nodes later_touches
   kept_after_put updates updated = record {
-    node_at = subst (λ t. Mirrors node_of t later_nodes) (sym (tree_of-put in_place path (option_map node_of node) h)) (mirrors_put (tree_of h) nodes later_nodes path node kept.node_at updates);
+    node_at = subst (λ t. Mirrors node_of t later_nodes) (sym (tree_of-put in_place path (option_map node_of node) h))
+        (mirrors_put (tree_of h) nodes later_nodes path node kept.node_at updates);
     touch_at = still_touched updated;
     before = λ q touch is. still_before updated q touch is ∙ ap (λ t. tree.node_at t q) (sym (synced_tree-put in_place path (option_map node_of node) h));
   }
 
 -- the path is put and noted, with copies of what the change names
-pub kept_put : (path : Names) (node copy was : Option Node) (in_place : Bool) (nodes later_nodes : BTreeMap Names Node) (touches later_touches : BTreeMap Names Touch) → copy ≡ node → was ≡ get path_cmp nodes path → Updates path_cmp nodes later_nodes path copy → IsUpdated touches later_touches path (Some (touched_again (get path_cmp touches path) was in_place)) → StaysKept (Put path node in_place ∷ []) nodes later_nodes touches later_touches
+pub kept_put : (path : Names) (node copy was : Option Node) (in_place : Bool) (nodes later_nodes : BTreeMap Names Node)
+    (touches later_touches : BTreeMap Names Touch) → copy ≡ node → was ≡ get path_cmp nodes path → Updates path_cmp nodes later_nodes path copy
+    → IsUpdated touches later_touches path (Some (touched_again (get path_cmp touches path) was in_place))
+    → StaysKept (Put path node in_place ∷ []) nodes later_nodes touches later_touches
 kept_put path node copy was in_place nodes later_nodes touches later_touches same is updates updated = record {
   stays = λ h kept. kept_after_put h nodes later_nodes touches later_touches path node in_place kept
       (subst (λ n. Updates path_cmp nodes later_nodes path n) same updates)
@@ -126,7 +144,8 @@ no_entry : (touches : BTreeMap Names Touch) (q : Names) → touches.entries ≡ 
 no_entry touches q none = ap (λ (es : List (Names × Touch)). lookup (is_at (path_cmp q)) es) none
 
 -- nothing is touched after a sync
-pub kept_synced : (nodes : BTreeMap Names Node) (touches later_touches : BTreeMap Names Touch) → later_touches.entries ≡ [] → StaysKept (Synced ∷ []) nodes nodes touches later_touches
+pub kept_synced : (nodes : BTreeMap Names Node) (touches later_touches : BTreeMap Names Touch) → later_touches.entries ≡ []
+    → StaysKept (Synced ∷ []) nodes nodes touches later_touches
 kept_synced nodes touches later_touches none = record {
   stays = λ h kept. record {
     node_at = kept.node_at;
@@ -136,7 +155,8 @@ kept_synced nodes touches later_touches none = record {
 }
 
 -- nothing is touched at the start
-pub kept_begun : (began nodes : BTreeMap Names Node) (touches : BTreeMap Names Touch) → IsCopy began nodes → touches.entries ≡ [] → IsKept (begun (tree_in began)) nodes touches
+pub kept_begun : (began nodes : BTreeMap Names Node) (touches : BTreeMap Names Touch) → IsCopy began nodes → touches.entries ≡ []
+    → IsKept (begun (tree_in began)) nodes touches
 kept_begun began nodes touches copy none = record {
   node_at = λ q. ap (option_map node_of) (copy q) ∙ sym (get-seen node_of began q);
   touch_at = λ q. ap (option_map (λ touch. touch.in_place)) (no_entry touches q none) ∙ sym (map.get-empty path_cmp q);
@@ -148,7 +168,9 @@ pub kept_nothing : (nodes : BTreeMap Names Node) (touches : BTreeMap Names Touch
 kept_nothing nodes touches = record { stays = λ h kept. kept }
 
 -- one change more
-pub kept_more : (changes : List Change) (i : ℕ) (change : Change) (n0 n1 n2 : BTreeMap Names Node) (t0 t1 t2 : BTreeMap Names Touch) → i < length changes → change ≡ get_or changes i change → StaysKept (take i changes) n0 n1 t0 t1 → StaysKept (change ∷ []) n1 n2 t1 t2 → StaysKept (take (i + 1) changes) n0 n2 t0 t2
+pub kept_more : (changes : List Change) (i : ℕ) (change : Change) (n0 n1 n2 : BTreeMap Names Node) (t0 t1 t2 : BTreeMap Names Touch) → i < length changes
+    → change ≡ get_or changes i change → StaysKept (take i changes) n0 n1 t0 t1 → StaysKept (change ∷ []) n1 n2 t1 t2
+    → StaysKept (take (i + 1) changes) n0 n2 t0 t2
 kept_more changes i change n0 n1 n2 t0 t1 t2 here is so_far more = record {
   stays = λ h kept. subst (λ k. IsKept k n2 t2)
       (sym (ap (after_all h) (take_more changes i change here ∙ ap (λ c. take i changes ++ c ∷ []) (sym is)) ∙ after_all-push h (take i changes) change))

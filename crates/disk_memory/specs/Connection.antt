@@ -55,7 +55,7 @@ pub record GivesNext {E : Type 0} (room : List ℕ) (c : Connection) (result : R
   pub failed : IsErr result ↔ IsTrue (is_read_failing c)
   pub count : IfOk result (λ count. count ≡ min (length room) (length (next_of c.incoming)))
 
--- The write fails where it was set to, or for want of memory, and else takes the whole piece.
+-- The write fails where it was set to, or because it runs out of memory, and else takes the whole piece.
 pub record TakesAll {E : Type 0} (piece : List ℕ) (c : Connection) (result : Result ℕ E) : Type 0 where
   pub failed : IsTrue (is_write_failing c) → IsErr result
   pub count : IfOk result (λ count. count ≡ length piece)

@@ -38,7 +38,8 @@ left_of (Torn bytes) before torn now = if torn then Some (file bytes) else befor
 
 -- Each unsettled path has what its pick leaves, in the order of paths, New where picks are missing; each other path is as it was.
 pub record IsPicked (history : History) (picks : List Pick) (image : Tree) : Type 0 where
-  pub unsettled : (k : ℕ) (path : Names) → slice_get (unsettled history) k ≡ Some path → node_at image path ≡ left_of (unwrap_or (slice_get picks k) New) (node_at (synced_tree history) path) (is_torn history path) (node_at (tree_of history) path)
+  pub unsettled : (k : ℕ) (path : Names) → slice_get (unsettled history) k ≡ Some path → node_at image path ≡ left_of (unwrap_or (slice_get picks k) New)
+      (node_at (synced_tree history) path) (is_torn history path) (node_at (tree_of history) path)
   pub settled : (path : Names) → get (touched history) path ≡ None → node_at image path ≡ node_at (tree_of history) path
 
 -- The tree stays, and from now on a crash may tear the path; or nothing has changed.

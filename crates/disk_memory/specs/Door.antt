@@ -51,7 +51,8 @@ pub record TakesInput (old new : MemoryDoor) (result : Result Bool Failed) : Typ
   pub counted : new.accepts ≡ one_more old.accepts
   pub failed : IsTrue (is_accept_failing old) → IsErr result
   pub failing : new.accept_fails ≡ old.accept_fails
-  pub next : result ≡ Ok true → (input : Input) × (connection : Connection) × (inputs_of old ≡ input ∷ inputs_of new) × (new.last ≡ Some connection) × IsPlanned input connection
+  pub next : result ≡ Ok true → (input : Input) × (connection : Connection) × (inputs_of old ≡ input ∷ inputs_of new) × (new.last ≡ Some connection)
+      × IsPlanned input connection
       × (exchanges_of new ≡ fresh (joined input.pieces.items) ∷ exchanges_of old)
   pub none : result ≡ Ok false → inputs_of old ≡ []
   pub same : result ≢ Ok true → inputs_of new ≡ inputs_of old

@@ -1,4 +1,4 @@
--- What stands at a path of a disk in memory, and its changes, in the words of `outside`.
+-- What is at a path of a disk in memory, and its changes, in the words of `outside`.
 use Rattle.std.specs.Prelude.{List, map, reverse, Option, option_map, Bool, true, false}
 use Rattle.std.specs.FinMap.{from_entries}
 use Rattle.std.specs.BTreeMap.{BTreeMap}

@@ -1,5 +1,6 @@
 -- Which calls of a disk in memory fail.
-use Rattle.std.specs.Prelude.{◌≡◌, ◌↔◌, ℕ, ◌+◌, ◌-◌, ◌^◌, ◌==◌, ◌||◌, nat_lt, min, Bool, false, IsTrue, Option, Some, None, Result, IsErr, is_err, IsErrOf, if◌then◌else◌}
+use Rattle.std.specs.Prelude.{◌≡◌, ◌↔◌, ℕ, ◌+◌, ◌-◌, ◌^◌, ◌==◌, ◌||◌, nat_lt, min}
+use Rattle.std.specs.Prelude.{Bool, false, IsTrue, Option, Some, None, Result, IsErr, is_err, IsErrOf, if◌then◌else◌}
 use Rattle.std.specs.List.{list_any}
 use Rattle.outside.specs.declared.disk_error.DiskErr.{DiskErr}
 use Rattle.outside.specs.declared.disk_error.DiskErr.TheVariants.{Failed}
@@ -35,7 +36,7 @@ pub record CountsRead {T : Type 0} (old new : Plan) (result : Result T DiskErr) 
   pub failed : IsErrOf result Failed ↔ IsTrue (fails_at old (next_call old))
   pub counted : new ≡ counted (fails_at old (next_call old)) old
 
--- A call that writes failed where it was set to fail, or for want of memory, and each failure raised the count.
+-- A call that writes failed where it was set to fail, or because it ran out of memory, and each failure raised the count.
 pub record CountsWrite {T E : Type 0} (old new : Plan) (result : Result T E) : Type 0 where
   pub failed : IsTrue (fails_at old (next_call old)) → IsErr result
   pub counted : new ≡ counted (is_err result) old

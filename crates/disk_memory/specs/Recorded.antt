@@ -34,7 +34,8 @@ IsCopy nodes copy = (path : Names) → get path_cmp copy path ≡ get path_cmp n
 pub record IsKept (history : History) (nodes : BTreeMap Names Node) (touches : BTreeMap Names Touch) : Type 0 where
   pub node_at : Mirrors node_of (tree_of history) nodes
   pub touch_at : Mirrors (λ touch. touch.in_place) (touched history) touches
-  pub before : (path : Names) (touch : Touch) → get path_cmp touches path ≡ Some touch → option_map node_of touch.before ≡ tree.node_at (synced_tree history) path
+  pub before : (path : Names) (touch : Touch) → get path_cmp touches path ≡ Some touch → option_map node_of touch.before ≡ tree.node_at (synced_tree history)
+      path
 
 -- What was kept of a history is kept of it with these changes more.
 pub record StaysKept (changes : List Change) (nodes later_nodes : BTreeMap Names Node) (touches later_touches : BTreeMap Names Touch) : Type 0 where
@@ -42,7 +43,8 @@ pub record StaysKept (changes : List Change) (nodes later_nodes : BTreeMap Names
 
 -- Nodes that were those of the tree are so once more, with the changes.
 pub record StaysAgreed (changes later : List Change) (nodes later_nodes : BTreeMap Names Node) : Type 0 where
-  pub stays : (history : History) → Mirrors node_of (tree_of (after_all history changes)) nodes → Mirrors node_of (tree_of (after_all history later)) later_nodes
+  pub stays : (history : History) → Mirrors node_of (tree_of (after_all history changes)) nodes
+      → Mirrors node_of (tree_of (after_all history later)) later_nodes
 
 -- The second map has the value at the path, or none, and elsewhere what the first has.
 pub record IsUpdated {A : Type 0} (old new : BTreeMap Names A) (path : Names) (value : Option A) : Type 0 where
@@ -55,7 +57,8 @@ touched_again (Some touch) stood in_place = record { before = touch.before; in_p
 
 -- The path has what the pick leaves of it, and the others are as they were.
 pub record LaysPick (path : Names) (touch : Touch) (pick : Pick) (nodes later : BTreeMap Names Node) : Type 0 where
-  pub at : (q : Names) → option_map node_of (get path_cmp later q) ≡ (if eq_by_cmp path_cmp path q then left_of pick (option_map node_of touch.before) touch.in_place (option_map node_of (get path_cmp nodes path)) else option_map node_of (get path_cmp nodes q))
+  pub at : (q : Names) → option_map node_of (get path_cmp later q) ≡ (if eq_by_cmp path_cmp path q then left_of pick (option_map node_of touch.before)
+      touch.in_place (option_map node_of (get path_cmp nodes path)) else option_map node_of (get path_cmp nodes q))
 
 -- Nodes that were those of the tree are those of the image that the picks name.
 pub record LaysPicks (picks : List Pick) (touches : BTreeMap Names Touch) (nodes later : BTreeMap Names Node) : Type 0 where

@@ -48,7 +48,7 @@ status_at (Some (Some status)) = Some (min status 256)
 abbrev pub planned_status : MemorySpawner → Option ℕ
 planned_status spawner = status_at (slice_get spawner.statuses.items spawner.run_calls)
 
--- The answer at a place of the list, cut after so many bytes, None where the ask is to fail, and status 0 with no output past the list.
+-- The answer at a place of the list, cut after so many bytes, None where the ask is to fail, and exit status 0 with no output past the list.
 abbrev pub answer_at : ℕ → Option (Option Answer) → Option (ℕ × List ℕ)
 answer_at most None = Some (0, [])
 answer_at most (Some None) = None
@@ -63,7 +63,7 @@ pub record KeepsPlans (old new : MemorySpawner) : Type 0 where
   pub statuses : statuses_of new ≡ statuses_of old
   pub answers : answers_of new ≡ answers_of old
 
--- The run was counted, and no ask; it failed where it was to fail, or for want of memory, and else answered as planned.
+-- The run was counted, and no ask; it failed where it was to fail, or because it ran out of memory, and else answered as planned.
 pub record RunsAsPlanned {E : Type 0} (old new : MemorySpawner) (result : Result ℕ E) : Type 0 where
   pub counted : new.run_calls ≡ one_more old.run_calls
   pub asks : new.ask_calls ≡ old.ask_calls
@@ -71,7 +71,7 @@ pub record RunsAsPlanned {E : Type 0} (old new : MemorySpawner) (result : Result
   pub failed : planned_status old ≡ None → IsErr result
   pub status : IfOk result (λ status. planned_status old ≡ Some status)
 
--- The ask was counted, and no run; it failed where it was to fail, or for want of memory, and else answered as planned.
+-- The ask was counted, and no run; it failed where it was to fail, or because it ran out of memory, and else answered as planned.
 pub record AsksAsPlanned (most : ℕ) (old new : MemorySpawner) (result : Result Answer AskErr) : Type 0 where
   pub counted : new.ask_calls ≡ one_more old.ask_calls
   pub runs : new.run_calls ≡ old.run_calls

@@ -55,7 +55,7 @@ impl Connection {
         Ok(self.incoming.read(room))
     }
 
-    /// Takes the whole piece, or fails; so it does where memory is wanting.
+    /// Takes the whole piece, or fails; so it does where it runs out of memory.
     pub fn write(&mut self, piece: &[u8]) -> Result<usize, Failed>
         ensures said { Says piece.now result (exchange_of self.old) (exchange_of self.new) }
         ensures all { TakesAll piece.now self.old result }

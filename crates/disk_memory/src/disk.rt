@@ -39,7 +39,7 @@ impl MemoryDisk {
         })
     }
 
-    /// A disk on which nothing stands and no call fails, or want of memory.
+    /// A disk with nothing on it, on which no call fails, or out of memory.
     pub fn new(alloc: Global) -> Result<MemoryDisk, AllocError>
         ensures history { IfOk result (λ disk. history_of disk ≡ begun empty) }
         ensures plan { IfOk result (λ disk. IsFresh (plan_of disk)) }
@@ -47,10 +47,10 @@ impl MemoryDisk {
         MemoryDisk::over(alloc, BTreeMap::new(alloc))
     }
 
-    /// A disk on which exactly these nodes stand, synced, and no call fails; of a path that is named twice the last
+    /// A disk with exactly these nodes, synced, on which no call fails; of a path that is named twice the last
     /// entry counts.
     ///
-    /// Its only error is want of memory.
+    /// Its only error is out of memory.
     pub fn of_tree(alloc: Global, nodes: Vec<(Path, Node)>) -> Result<MemoryDisk, AllocError>
         ensures history { IfOk result (λ disk. history_of disk ≡ begun (tree_of_last nodes.items)) }
         ensures plan { IfOk result (λ disk. IsFresh (plan_of disk)) }
@@ -83,7 +83,7 @@ impl MemoryDisk {
         self.plan.calls
     }
 
-    /// What stands at the path now, or None exactly where nothing does.
+    /// What is at the path now, or None exactly where nothing is.
     pub fn node(&self, path: &Path) -> Option<&Node>
         ensures { option_map (λ node. node_of node.now) result ≡ node_at (tree_of (history_of self.now)) path.now }
     {
@@ -93,7 +93,7 @@ impl MemoryDisk {
     /// A fresh disk over what a crash at this moment leaves, by one pick for each path that was touched since the last
     /// sync, in the order of paths. Where picks are missing the present node is left. No call of it fails.
     ///
-    /// Its only error is want of memory. It goes through all changes since the disk began, each in logarithmic time.
+    /// Its only error is out of memory. It goes through all changes since the disk began, each in logarithmic time.
     #[tactic(auto, using(crate::proofs::Images::picked_image))]
     pub fn crash(&self, picks: &[Pick]) -> Result<MemoryDisk, AllocError>
         ensures settled { IfOk result (λ disk. history_of disk ≡ begun (tree_of (history_of disk))) }

@@ -1,4 +1,4 @@
-//! What stands at a path.
+//! What is at a path.
 ghost use Rattle.std.specs.Prelude.{◌≡◌, IfOk};
 
 use key_names::Bytes;
@@ -14,7 +14,7 @@ pub enum Node {
 }
 
 impl Node {
-    /// The same node once more, or want of memory.
+    /// The same node once more, or out of memory.
     pub fn copy(&self) -> Result<Node, AllocError>
         ensures { IfOk result (λ copy. copy ≡ self.now) }
     {

@@ -15,7 +15,7 @@ use outside::Path;
 use std::alloc::{AllocError, Global};
 use std::collections::BTreeMap;
 
-/// The changes of a disk over what stood on it first, and beside them what stands there now.
+/// The changes of a disk over what was on it first, and with them what is there now.
 #[derive(Drop)]
 pub struct Record {
     began: BTreeMap<Path, Node>,
@@ -66,7 +66,7 @@ impl Record {
         })
     }
 
-    /// What stands at the path.
+    /// What is at the path.
     pub fn node(&self, path: &Path) -> Option<&Node>
         ensures { option_map (λ node. node_of node.now) result ≡ node_at (tree_of (told_by self.now)) path.now }
     {
@@ -99,7 +99,7 @@ impl Record {
         self.put(path, Some(Node::Link(copy)), false)
     }
 
-    /// Leaves what stands at the path, so that a crash may tear it. Where memory is wanting nothing is noted.
+    /// Leaves what is at the path, so that a crash may tear it. Where it runs out of memory nothing is noted.
     pub fn tear(&mut self, path: &Path)
         ensures { MayTear path.now (told_by self.old) (told_by self.new) }
     {
@@ -108,7 +108,7 @@ impl Record {
         }
     }
 
-    // What stands at the path, once more.
+    // What is at the path, once more.
     fn copy_at(&self, path: &Path) -> Result<Option<Node>, AllocError>
         ensures { IfOk result (λ node. option_map node_of node ≡ node_at (tree_of (told_by self.now)) path.now) }
     {

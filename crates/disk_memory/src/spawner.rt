@@ -13,7 +13,7 @@ use std::alloc::{AllocError, Global};
 pub struct Run {
     /// Its words.
     pub words: Vec<String>,
-    /// What it was told to answer.
+    /// What it was set to answer.
     pub status: u16,
 }
 
@@ -28,7 +28,7 @@ pub struct Question {
     pub answer: Answer,
 }
 
-/// Child programs in memory, which answer what they were told to. A status above 256, which no program has, is 256.
+/// Child programs in memory, which answer what they were set to. A status above 256, which no program has, is 256.
 ///
 /// It keeps what was run and asked. What finds no memory to be kept is a fault of its call.
 #[derive(Drop)]
@@ -82,7 +82,8 @@ fn keep_question(
     input: &[u8],
     answer: &Answer,
 ) -> Result<(), AllocError>
-    ensures ok { OnOk result (map question_of asked.new.items ≡ map question_of asked.old.items ++ record { words = texts words.now; input = input.now; status = answer.now.status; output = answer.now.output.items } ∷ []) }
+    ensures ok { OnOk result (map question_of asked.new.items ≡ map question_of asked.old.items
+        ++ record { words = texts words.now; input = input.now; status = answer.now.status; output = answer.now.output.items } ∷ []) }
     ensures err { OnErr result (asked.new.items ≡ asked.old.items) }
 {
     let alloc = *asked.allocator();
@@ -121,7 +122,7 @@ impl MemorySpawner {
         }
     }
 
-    /// The k-th run answers the k-th of these, None being a failure, and past them 0. Each ask answers status 0 and no
+    /// The k-th run answers the k-th of these, None being a failure, and past them 0. Each ask answers exit status 0 and no
     /// output.
     pub fn of_statuses(alloc: Global, answers: Vec<Option<u16>>) -> MemorySpawner
         ensures statuses { statuses_of result ≡ answers.items }
@@ -133,7 +134,7 @@ impl MemorySpawner {
         MemorySpawner::planned(alloc, answers, Vec::new(alloc))
     }
 
-    /// The k-th ask answers the k-th of these, None being a failure, and past them status 0 and no output. Output beyond
+    /// The k-th ask answers the k-th of these, None being a failure, and past them exit status 0 and no output. Output beyond
     /// `most + 1` bytes is cut. Each run answers 0.
     pub fn of_answers(alloc: Global, answers: Vec<Option<Answer>>) -> MemorySpawner
         ensures statuses { statuses_of result ≡ [] }

@@ -55,7 +55,7 @@ sync /store
 sync /store/b
 ";
 
-// What the next program puts down first.
+// What the next program flushes first.
 const ALL_THAT_IS_THERE: &str =
     "sync /\nsync /.links\nsync /.links/store\nsync /.links/store/a\nsync /store\nsync /store/b\nsync /store/w\n";
 

@@ -1,4 +1,4 @@
-//! A file system that writes down what it is asked to change or to put on the disk, and fails where it is told to.
+//! A file system that writes down what it is asked to change or to put on the disk, and fails where it is set to.
 use outside_real::{Lock, RealDisk};
 use std::alloc::{Alloc, AllocError, Allocator, Global};
 use std::cell::Cell;

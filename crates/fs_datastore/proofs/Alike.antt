@@ -1,4 +1,4 @@
--- Files that are alike stand for the same, and have no journal where they stand for something.
+-- Files that are alike represent the same, and have no journal where they represent something.
 use Rattle.std.proofs.Common.{◌≡◌, inl, inr, ℕ, [], ◌∷◌, codes, cond, Option, Some, None, IsSome, refl, sym, ◌∙◌, ap, subst, arith}
 use Rattle.outside.specs.Names.{Names}
 use Rattle.outside.specs.Tree.{Node}
@@ -19,14 +19,15 @@ at_place one other same TheOwed = same _ _
 at_place one other same TheImage = same _ _
 at_place one other same TheWeak = same _ _
 
--- They stand for the same.
+-- They represent the same.
 pub stand_alike : StandAlike
 stand_alike one other held format same s = record {
   told = s.told;
   listed = s.listed;
   shows = record {
     named = λ name rest there. s.shows.named name rest (subst IsSome (sym (same name rest)) there);
-    places = λ p. subst (IsFileOf (value_in held s.listed p)) (ap (λ (n : Option Node). cond (is_place p) n None) (at_place one other same p)) (s.shows.places p);
+    places = λ p. subst (IsFileOf (value_in held s.listed p)) (ap (λ (n : Option Node). cond (is_place p) n None) (at_place one other same p))
+        (s.shows.places p);
     format = sym (same _ _) ∙ s.shows.format;
   };
   format_is = s.format_is;
@@ -57,7 +58,7 @@ unfolding first_byte
 not_named (inl is) = let same : ◌≡◌ {A = ℕ} 106 102 = ap first_byte is in absurd (omega arith)
 not_named (inr (p, valid, is)) = no_place p is
 
--- Files that stand for something have no journal among them.
+-- Files that represent something have no journal among them.
 pub stands_without_journal : StandsWithoutJournal
 stands_without_journal files held format stands = by (files journal) refl where
   by : (o : Option Node) → files journal ≡ o → o ≡ None

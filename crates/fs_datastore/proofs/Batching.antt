@@ -1,5 +1,6 @@
 -- The entries of a batch that writes a change down.
-use Rattle.std.proofs.Common.{arith, ◌≡◌, ◌≤◌, ℕ, suc, List, [], ◌∷◌, ◌++◌, length, length-append, Option, Some, IsSome, Bool, true, cond, inl, inr, refl, sym, ap, ◌∙◌, subst}
+use Rattle.std.proofs.Common.{arith, ◌≡◌, ◌≤◌, ℕ, suc, List, [], ◌∷◌, ◌++◌, length, length-append, Option}
+use Rattle.std.proofs.Common.{Some, IsSome, Bool, true, cond, inl, inr, refl, sym, ap, ◌∙◌, subst}
 use Rattle.std.specs.Prelude.{IsTrue, All, Contains}
 use Rattle.std.specs.List.{list_all, AllByRecursion}
 use Rattle.std.specs.List.Sorted.{IsStrictlySortedBy}
@@ -33,10 +34,13 @@ Written = BTreeMap Names (Option (List ℕ))
 -- ---- lists of entries by their paths
 
 -- in a list that rises each entry is found at its path
-later_found : (e : journal.Entry) (es all : List journal.Entry) → AllByRecursion (λ k. path_cmp e.0 k ≡ Less) (keys_of es) → AllByRecursion (λ f. lookup (λ k. is_eq (path_cmp f.0 k)) all ≡ Some f.1) es → AllByRecursion (λ f. lookup (λ k. is_eq (path_cmp f.0 k)) (e ∷ all) ≡ Some f.1) es
+later_found : (e : journal.Entry) (es all : List journal.Entry) → AllByRecursion (λ k. path_cmp e.0 k ≡ Less) (keys_of es)
+    → AllByRecursion (λ f. lookup (λ k. is_eq (path_cmp f.0 k)) all ≡ Some f.1) es
+    → AllByRecursion (λ f. lookup (λ k. is_eq (path_cmp f.0 k)) (e ∷ all) ≡ Some f.1) es
 later_found e [] all low found = tt
 later_found e (f ∷ es) all low found = (
-  ap (λ (b : Bool). cond b (Some e.1) (lookup (λ k. is_eq (path_cmp f.0 k)) all)) (ap is_eq (path_total.antisymm f.0 e.0 ∙ ap ordering_reverse low.0)) ∙ found.0,
+  ap (λ (b : Bool). cond b (Some e.1) (lookup (λ k. is_eq (path_cmp f.0 k)) all)) (ap is_eq (path_total.antisymm f.0 e.0 ∙ ap ordering_reverse low.0))
+      ∙ found.0,
   later_found e es all low.1 found.1,
 )
 
@@ -94,19 +98,23 @@ few_names TheWeak valid = omega arith
 among : {X : Type 0} (P : X → Type 0) (xs : List X) (x : X) → All P xs → Contains xs x → P x
 among P xs x all (i, low, is) = subst P is (all i x low)
 
-module _ (change : List Entry) (m : Written) (entries : List journal.Entry) (files_of : AreFilesOf change m) (same : entries ≡ m.entries) (ordered : IsOrdered path_cmp m) where
+module _ (change : List Entry) (m : Written) (entries : List journal.Entry) (files_of : AreFilesOf change m) (same : entries ≡ m.entries)
+    (ordered : IsOrdered path_cmp m) where
   in_map : AllByRecursion (IsFileIn change) m.entries
-  in_map = AllByRecursion-weaker (λ f. lookup (λ k. is_eq (path_cmp f.0 k)) m.entries ≡ Some f.1) (IsFileIn change) m.entries (λ f is. files_of.only f.0 f.1 is) (each_found m.entries ordered)
+  in_map = AllByRecursion-weaker (λ f. lookup (λ k. is_eq (path_cmp f.0 k)) m.entries ≡ Some f.1) (IsFileIn change) m.entries (λ f is. files_of.only f.0 f.1 is)
+      (each_found m.entries ordered)
 
   pub in_change : AllByRecursion (IsFileIn change) entries
   in_change = subst (λ (l : List journal.Entry). AllByRecursion (IsFileIn change) l) (sym same) in_map
 
   pub first_names : list_all (λ e. journal.has_first_name e.0) entries ≡ true
-  first_names = each_test (λ e. journal.has_first_name e.0) (IsFileIn change) entries (λ e is. subst (λ (p : Names). journal.has_first_name p ≡ true) (sym is.path_is) (begins (place is.entry))) in_change
+  first_names = each_test (λ e. journal.has_first_name e.0) (IsFileIn change) entries
+      (λ e is. subst (λ (p : Names). journal.has_first_name p ≡ true) (sym is.path_is) (begins (place is.entry))) in_change
 
   fits_one : (dir : Names) → length dir ≡ 2 → (e : journal.Entry) → IsFileIn change e → journal.fits_below dir e ≡ true
   fits_one dir two e is =
-      let few : length e.0 ≤ 34 = subst (λ (p : Names). length p ≤ 34) (sym is.path_is) (few_names (place is.entry) (among (λ f. IsTrue (is_place (place f))) change is.entry files_of.valid is.among)) in
+      let few : length e.0 ≤ 34 = subst (λ (p : Names). length p ≤ 34) (sym is.path_is)
+      (few_names (place is.entry) (among (λ f. IsTrue (is_place (place f))) change is.entry files_of.valid is.among)) in
       le-leb (length (dir ++ e.0)) 40 (omega (arith, length-append dir e.0, few, two))
 
   pub all_fit : (dir : Names) → length dir ≡ 2 → list_all (journal.fits_below dir) entries ≡ true
@@ -114,7 +122,8 @@ module _ (change : List Entry) (m : Written) (entries : List journal.Entry) (fil
 
   pub writes_down : (batch : List journal.Entry) → batch ≡ entries → WritesDown change batch
   writes_down batch is = subst (WritesDown change) (sym is) (record {
-    each = λ e has. subst (λ (l : List journal.Entry). journal.IsNamed l (path_of (place e))) (sym same) (found_named m.entries (path_of (place e)) (files_of.each e has));
+    each = λ e has. subst (λ (l : List journal.Entry). journal.IsNamed l (path_of (place e))) (sym same)
+        (found_named m.entries (path_of (place e)) (files_of.each e has));
     only = All-from (IsFileIn change) entries in_change;
   })
 
@@ -124,5 +133,6 @@ module _ (change : List Entry) (m : Written) (entries : List journal.Entry) (fil
   pub follows : (batch : List journal.Entry) → batch ≡ entries → IsTrue (list_all has_bare_name change) → Follows change batch
   follows batch is bare = subst (Follows change) (sym is) (record {
     stands = λ files held format s rule names tells. stands_laid files (laid entries files) held format change s bare rule names tells
-        (λ what told shows. shows_below (overlaid m files) (laid entries files) (with_entries what change) told (λ name rest. laid_is files (name ∷ rest)) (files_of.shows files what told shows));
+        (λ what told shows. shows_below (overlaid m files) (laid entries files) (with_entries what change) told (λ name rest. laid_is files (name ∷ rest))
+        (files_of.shows files what told shows));
   })

@@ -33,7 +33,8 @@ listed_one listed (OwedSet o) = listed
 listed_one listed (ImageSet t) = listed
 
 -- one entry
-one_laid : (h : Held) (listed : Keys) (e : Entry) (p : Place) → with_value (value_in h listed) (place e) (new_value e) p ≡ value_in (laid_one h e) (listed_one listed e) p
+one_laid : (h : Held) (listed : Keys) (e : Entry) (p : Place) → with_value (value_in h listed) (place e) (new_value e) p ≡ value_in (laid_one h e)
+    (listed_one listed e) p
 one_laid h listed (LiveSet k v) (Live q) = sym (put_at key_total live h.live.values k q v)
 one_laid h listed (LiveSet k v) (Meta q n) = refl
 one_laid h listed (LiveSet k v) (Pend t q) = refl
@@ -95,7 +96,8 @@ with_alike a b same at v p = ap (λ (o : Option Value). cond (is_same p at) v o)
 
 entries_alike : (a b : Place → Option Value) → ((p : Place) → a p ≡ b p) → (es : List Entry) (p : Place) → with_entries a es p ≡ with_entries b es p
 entries_alike a b same [] p = same p
-entries_alike a b same (e ∷ es) p = entries_alike (with_value a (place e) (new_value e)) (with_value b (place e) (new_value e)) (with_alike a b same (place e) (new_value e)) es p
+entries_alike a b same (e ∷ es) p = entries_alike (with_value a (place e) (new_value e)) (with_value b (place e) (new_value e))
+    (with_alike a b same (place e) (new_value e)) es p
 
 -- the values after all entries, and what `weak` lists then
 record AllLaid (h : Held) (told : Bool) (listed : Keys) (es : List Entry) : Type 0 where
@@ -103,7 +105,8 @@ record AllLaid (h : Held) (told : Bool) (listed : Keys) (es : List Entry) : Type
   values : (p : Place) → with_entries (value_in h listed) es p ≡ value_in (laid h es) now p
   weak_is : IsListed told now (laid h es).live.weak
 
-weak_one : (h : Held) (told : Bool) (listed : Keys) (e : Entry) → IsListed told listed h.live.weak → IsListed told (listed_one listed e) (laid_one h e).live.weak
+weak_one : (h : Held) (told : Bool) (listed : Keys) (e : Entry) → IsListed told listed h.live.weak
+    → IsListed told (listed_one listed e) (laid_one h e).live.weak
 weak_one h told listed (WeakIs ks) is = refl
 weak_one h told listed (LiveSet k v) is = is
 weak_one h told listed (LiveGone k) is = is
@@ -120,19 +123,22 @@ all_laid h told listed (e ∷ es) is =
     let rest = all_laid (laid_one h e) told (listed_one listed e) es (weak_one h told listed e is) in
     record {
       now = rest.now;
-      values = λ p. entries_alike (with_value (value_in h listed) (place e) (new_value e)) (value_in (laid_one h e) (listed_one listed e)) (one_laid h listed e) es p ∙ rest.values p;
+      values = λ p. entries_alike (with_value (value_in h listed) (place e) (new_value e)) (value_in (laid_one h e) (listed_one listed e)) (one_laid h listed e)
+          es p ∙ rest.values p;
       weak_is = rest.weak_is;
     }
 
--- files that show the values after all entries stand for what is held with the change laid
-pub stands_laid : (files others : Files) (h : Held) (format : ℕ) (es : List Entry) → Stands files h format → IsTrue (list_all has_bare_name es) → KeepsPrefixRule (laid h es) → NamesWeak h es → TellsWeak h es
+-- files that show the values after all entries represent what is held with the change laid
+pub stands_laid : (files others : Files) (h : Held) (format : ℕ) (es : List Entry) → Stands files h format → IsTrue (list_all has_bare_name es)
+    → KeepsPrefixRule (laid h es) → NamesWeak h es → TellsWeak h es
     → ((what : Place → Option Value) (told : Bool) → Shows files what told → Shows others (with_entries what es) told) → Stands others (laid h es) format
 stands_laid files others h format es s bare rule names tells shows =
     let all = all_laid h s.told s.listed es s.weak_is in
     record {
       told = s.told;
       listed = all.now;
-      shows = shows_alike others (with_entries (value_in h s.listed) es) (value_in (laid h es) all.now) s.told all.values (shows (value_in h s.listed) s.told s.shows);
+      shows = shows_alike others (with_entries (value_in h s.listed) es) (value_in (laid h es) all.now) s.told all.values
+          (shows (value_in h s.listed) s.told s.shows);
       format_is = s.format_is;
       weak_is = all.weak_is;
       content = content_after {T = Unit {0}} {E = Unit {0}} (Ok tt) h h (laid h es) es es refl refl refl tt s.content s.pending rule bare names tells;

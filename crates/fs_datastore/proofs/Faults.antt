@@ -1,4 +1,4 @@
--- Files have at most one fault, and none where they stand for something.
+-- Files have at most one fault, and none where they represent something.
 use Rattle.std.proofs.Common.{◌≡◌, ℕ, List, Option, Some, None, IsSome, Bool, true, false, refl, sym, ap, ◌∙◌}
 use Rattle.std.specs.Prelude.{IsTrue}
 use Rattle.std.specs.declared.cmp.Ordering.{Ordering}
@@ -26,7 +26,8 @@ missing : (o : Option Node) → o ≡ None → IsSome o → ⊥
 missing None none some = false≢true some
 missing (Some n) none some = cc none
 
-first_damaged : (files : Files) (one other : Names) → IsDamaged files one → ((q : Names) → IsTrue (is_lt (path_cmp q one)) → IsDamaged files q → ⊥) → IsDamaged files other → ((q : Names) → IsTrue (is_lt (path_cmp q other)) → IsDamaged files q → ⊥) → one ≡ other
+first_damaged : (files : Files) (one other : Names) → IsDamaged files one → ((q : Names) → IsTrue (is_lt (path_cmp q one)) → IsDamaged files q → ⊥)
+    → IsDamaged files other → ((q : Names) → IsTrue (is_lt (path_cmp q other)) → IsDamaged files q → ⊥) → one ≡ other
 first_damaged files one other d least e also = by (path_cmp one other) refl where
   by : (r : Ordering) → path_cmp one other ≡ r → one ≡ other
   by Less is = absurd (also one (ap is_lt is) d)
@@ -60,17 +61,23 @@ told_format : (told : Bool) (node : Option Node) → node ≡ format_node told �
 told_format true node is some = refl
 told_format false node is some = absurd (missing node is some)
 
-listed_where_told : (told : Bool) (listed : Option (List (List (List ℕ)))) (keys : List (List (List ℕ))) → IsListed told listed keys → told ≡ true → IsSome listed
+listed_where_told : (told : Bool) (listed : Option (List (List (List ℕ)))) (keys : List (List (List ℕ))) → IsListed told listed keys → told ≡ true
+    → IsSome listed
 listed_where_told told None keys is so = absurd (false≢true (sym is.0 ∙ so))
 listed_where_told told (Some ks) keys is so = refl
 
-weak_there : (h : Held) (listed : Option (List (List (List ℕ)))) (node : Option Node) → IsFileOf (value_in h listed TheWeak) node → IsSome listed → node ≡ None → ⊥
+weak_there : (h : Held) (listed : Option (List (List (List ℕ)))) (node : Option Node) → IsFileOf (value_in h listed TheWeak) node → IsSome listed → node ≡ None
+    → ⊥
 weak_there h None node is some none = false≢true some
 weak_there h (Some ks) node is some none = cc (is.1, none)
 
 pub faultless : StandsFaultless
-faultless files held format path s (damaged d least) = sound files (value_in held s.listed) s.told s.shows (held_rules held s.told s.listed s.content s.pending s.weak_is) path d
-faultless files held format path s (no_owed none is gone) = gone_none (owed held.owed) (files (path_of TheOwed)) (s.shows.places TheOwed) (ap files (sym is) ∙ gone)
-faultless files held format path s (no_image none is gone o) = gone_none (image held.image) (files (path_of TheImage)) (s.shows.places TheImage) (ap files (sym is) ∙ gone)
+faultless files held format path s (damaged d least) = sound files (value_in held s.listed) s.told s.shows
+    (held_rules held s.told s.listed s.content s.pending s.weak_is) path d
+faultless files held format path s (no_owed none is gone) = gone_none (owed held.owed) (files (path_of TheOwed)) (s.shows.places TheOwed)
+    (ap files (sym is) ∙ gone)
+faultless files held format path s (no_image none is gone o) = gone_none (image held.image) (files (path_of TheImage)) (s.shows.places TheImage)
+    (ap files (sym is) ∙ gone)
 faultless files held format path s (no_weak none is gone o i f) =
-    weak_there held s.listed (files (path_of TheWeak)) (s.shows.places TheWeak) (listed_where_told s.told s.listed held.live.weak s.weak_is (told_format s.told (files format_path) s.shows.format f)) (ap files (sym is) ∙ gone)
+    weak_there held s.listed (files (path_of TheWeak)) (s.shows.places TheWeak)
+    (listed_where_told s.told s.listed held.live.weak s.weak_is (told_format s.told (files format_path) s.shows.format f)) (ap files (sym is) ∙ gone)

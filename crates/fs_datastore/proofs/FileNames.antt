@@ -1,5 +1,6 @@
 -- The names of files as names of a path, and what they tell of the segments and names that they are made of.
-use Rattle.std.proofs.Common.{arith, ◌≡◌, ◌<◌, ◌≤◌, ◌+◌, ℕ, zero, suc, List, [], ◌∷◌, ◌++◌, length, length-append, append-nil, map, Bool, true, false, not, ◌&&◌, ◌==◌, nat_le, nat_lt, if◌then◌else◌, cond, inl, inr, refl, sym, ap, ◌∙◌, subst}
+use Rattle.std.proofs.Common.{arith, ◌≡◌, ◌<◌, ◌≤◌, ◌+◌, ℕ, zero, suc, List, [], ◌∷◌, ◌++◌, length, length-append, append-nil, map}
+use Rattle.std.proofs.Common.{Bool, true, false, not, ◌&&◌, ◌==◌, nat_le, nat_lt, if◌then◌else◌, cond, inl, inr, refl, sym, ap, ◌∙◌, subst}
 use Rattle.std.specs.Prelude.{IsTrue}
 use Rattle.std.specs.List.{list_all, flat_map}
 use Rattle.std.proofs.lemmas.Bool.{false≢true, and_parts, leb-true, le-leb, cases_eq}
@@ -93,8 +94,9 @@ not_is : (b : Bool) → not b ≡ true → b ≡ false
 not_is true e = absurd (false≢true e)
 not_is false e = refl
 
--- a name of such bytes, with bytes of a name behind it
-pub is_name-from : (s t : List ℕ) → list_all is_file_byte s ≡ true → list_all is_name_byte t ≡ true → 0 < length s → length s + length t ≤ 255 → IsTrue (is_name (s ++ t))
+-- a name of such bytes, with bytes of a name after it
+pub is_name-from : (s t : List ℕ) → list_all is_file_byte s ≡ true → list_all is_name_byte t ≡ true → 0 < length s → length s + length t ≤ 255
+    → IsTrue (is_name (s ++ t))
 is_name-from [] t good rest some short = absurd (omega arith)
 is_name-from (b ∷ s) t good rest some short =
     let p = and_parts (is_file_byte b) (list_all is_file_byte s) good in
@@ -102,7 +104,8 @@ is_name-from (b ∷ s) t good rest some short =
     let whole : length (b ∷ (s ++ t)) ≡ length (b ∷ s) + length t = length-append (b ∷ s) t in
     both (nat_le 1 (length (b ∷ s ++ t)) && nat_le (length (b ∷ s ++ t)) 255 && list_all is_name_byte (b ∷ s ++ t)) (not (is_dots (b ∷ s ++ t)))
     (both (nat_le 1 (length (b ∷ s ++ t)) && nat_le (length (b ∷ s ++ t)) 255) (list_all is_name_byte (b ∷ s ++ t))
-    (both (nat_le 1 (length (b ∷ s ++ t))) (nat_le (length (b ∷ s ++ t)) 255) (le-leb 1 (length (b ∷ s ++ t)) (omega arith)) (le-leb (length (b ∷ s ++ t)) 255 (omega (arith, whole))))
+    (both (nat_le 1 (length (b ∷ s ++ t))) (nat_le (length (b ∷ s ++ t)) 255) (le-leb 1 (length (b ∷ s ++ t)) (omega arith))
+    (le-leb (length (b ∷ s ++ t)) 255 (omega (arith, whole))))
     (list_all-append is_name_byte (b ∷ s) t ∙ both (list_all is_name_byte (b ∷ s)) (list_all is_name_byte t) (name_bytes (b ∷ s) good) rest))
     (ap not (no_dots b (s ++ t) (not_is (b == 46) q.1)))
 
@@ -129,7 +132,8 @@ segment_bytes s valid = file_bytes s (and_parts (nat_lt 0 (length s)) (list_all 
 pub file_name-is_name : (s : List ℕ) → IsTrue (is_segment s) → IsTrue (has_short_name s) → IsTrue (is_name (file_name s))
 file_name-is_name s valid short =
     let named = file_named s valid short in
-    subst (λ (l : List ℕ). IsTrue (is_name l)) (append-nil (file_name s)) (is_name-from (file_name s) [] (segment_bytes s valid) refl named.some (omega (arith, named.short)))
+    subst (λ (l : List ℕ). IsTrue (is_name l)) (append-nil (file_name s))
+    (is_name-from (file_name s) [] (segment_bytes s valid) refl named.some (omega (arith, named.short)))
 
 -- ---- bare names
 
@@ -150,8 +154,9 @@ bare-is_name most name is bound =
     let b = IsBare-from most name is in
     subst (λ (l : List ℕ). IsTrue (is_name l)) (append-nil name) (is_name-from name [] (bare_bytes name b.bare) refl b.some (omega (arith, b.short)))
 
--- so is a file name with a dot and a bare name behind it
-pub dotted-is_name : (s name : List ℕ) → IsTrue (is_segment s) → IsTrue (has_short_name s) → IsTrue (is_bare_name 127 name) → IsTrue (is_name (file_name s ++ 46 ∷ name))
+-- so is a file name with a dot and a bare name after it
+pub dotted-is_name : (s name : List ℕ) → IsTrue (is_segment s) → IsTrue (has_short_name s) → IsTrue (is_bare_name 127 name)
+    → IsTrue (is_name (file_name s ++ 46 ∷ name))
 dotted-is_name s name valid short is =
     let named = file_named s valid short in
     let b = IsBare-from 127 name is in
@@ -168,7 +173,8 @@ pub key_length : (key : List (List ℕ)) → IsTrue (is_key key) → (0 < length
 key_length key valid = let k = IsKey-from key valid in (k.some, k.fits.few)
 
 -- names are the file names of one list of segments
-pub names_one : (key other : List (List ℕ)) → IsTrue (list_all is_segment key) → IsTrue (list_all has_short_name key) → IsTrue (list_all is_segment other) → IsTrue (list_all has_short_name other) → map file_name key ≡ map file_name other → key ≡ other
+pub names_one : (key other : List (List ℕ)) → IsTrue (list_all is_segment key) → IsTrue (list_all has_short_name key) → IsTrue (list_all is_segment other)
+    → IsTrue (list_all has_short_name other) → map file_name key ≡ map file_name other → key ≡ other
 names_one [] [] v s w t is = refl
 names_one [] (y ∷ ys) v s w t is = absurd (cc is)
 names_one (x ∷ xs) [] v s w t is = absurd (cc is)

@@ -1,5 +1,6 @@
 -- Keys that are read from the names of their files.
-use Rattle.std.proofs.Common.{arith, ◌≡◌, ◌<◌, ◌+◌, ℕ, zero, suc, List, [], ◌∷◌, ◌++◌, length, take, get_or, append_assoc, append-nil, Option, Some, None, Result, Ok, Err, Bool, true, false, inl, refl, sym, ap, ◌∙◌, subst}
+use Rattle.std.proofs.Common.{arith, ◌≡◌, ◌<◌, ◌+◌, ℕ, zero, suc, List, [], ◌∷◌, ◌++◌, length, take, get_or, append_assoc}
+use Rattle.std.proofs.Common.{append-nil, Option, Some, None, Result, Ok, Err, Bool, true, false, inl, refl, sym, ap, ◌∙◌, subst}
 use Rattle.std.specs.Prelude.{IsTrue}
 use Rattle.std.specs.List.{list_all, flat_map}
 use Rattle.std.proofs.lemmas.Bool.{false≢true, and_parts}
@@ -28,8 +29,9 @@ in_quotes x valid = record { valid = valid; form = inl refl }
 cut_first : (s : List ℕ) (rest q : List ℕ) → ((quoted s ++ 46 ∷ []) ++ rest) ++ q ≡ quoted s ++ 46 ∷ (rest ++ q)
 cut_first s rest q = append_assoc (quoted s ++ 46 ∷ []) rest q ∙ append_assoc (quoted s) (46 ∷ []) (rest ++ q)
 
--- segments with dots behind them and a last one are spelled by their quoted texts
-spells_quoted : (segments : List (List ℕ)) (x : List ℕ) → IsTrue (list_all is_segment segments) → IsTrue (is_segment x) → Spells (behind segments ++ quoted x) (segments ++ x ∷ [])
+-- segments with dots after them and a last one are spelled by their quoted texts
+spells_quoted : (segments : List (List ℕ)) (x : List ℕ) → IsTrue (list_all is_segment segments) → IsTrue (is_segment x)
+    → Spells (behind segments ++ quoted x) (segments ++ x ∷ [])
 unfolding Joins
 spells_quoted [] x valid last = in_quotes x last
 spells_quoted (s ∷ []) x valid last = (quoted s, quoted x, cut_first s [] (quoted x), in_quotes s (and_parts (is_segment s) true valid).0, in_quotes x last)
@@ -67,7 +69,8 @@ names_are (n ∷ names) (x ∷ xs) a =
     λ i. first i ∷ rest i
 
 -- one more name
-pub file_names_more : (names : Names) (segments : List (List ℕ)) (name segment : List ℕ) → AreFileNames names segments → IsFileNameOf name segment → AreFileNames (names ++ name ∷ []) (segments ++ segment ∷ [])
+pub file_names_more : (names : Names) (segments : List (List ℕ)) (name segment : List ℕ) → AreFileNames names segments → IsFileNameOf name segment
+    → AreFileNames (names ++ name ∷ []) (segments ++ segment ∷ [])
 file_names_more [] [] name segment a is = (is, tt)
 file_names_more [] (x ∷ xs) name segment a is = absurd a
 file_names_more (n ∷ names) [] name segment a is = absurd a
@@ -75,18 +78,24 @@ file_names_more (n ∷ names) (x ∷ xs) name segment a is = (a.0, file_names_mo
 
 flat_more : (segments : List (List ℕ)) (segment : List ℕ) → behind (segments ++ segment ∷ []) ≡ behind segments ++ (quoted segment ++ 46 ∷ [])
 flat_more [] segment = append-nil (quoted segment ++ 46 ∷ [])
-flat_more (s ∷ segments) segment = ap (λ (l : List ℕ). (quoted s ++ 46 ∷ []) ++ l) (flat_more segments segment) ∙ sym (append_assoc (quoted s ++ 46 ∷ []) (behind segments) (quoted segment ++ 46 ∷ []))
+flat_more (s ∷ segments) segment = ap (λ (l : List ℕ). (quoted s ++ 46 ∷ []) ++ l) (flat_more segments segment)
+    ∙ sym (append_assoc (quoted s ++ 46 ∷ []) (behind segments) (quoted segment ++ 46 ∷ []))
 
--- one more name in quotes, with a dot behind it
-pub quotes_more : (names : Names) (i : ℕ) (name segment text added now : List ℕ) → i < length names → name ≡ get_or names i name → Quotes (take i names) text → IsFileNameOf name segment → added ≡ text ++ quoted segment → now ≡ added ++ 46 ∷ [] → Quotes (take (i + 1) names) now
+-- one more name in quotes, with a dot after it
+pub quotes_more : (names : Names) (i : ℕ) (name segment text added now : List ℕ) → i < length names → name ≡ get_or names i name → Quotes (take i names) text
+    → IsFileNameOf name segment → added ≡ text ++ quoted segment → now ≡ added ++ 46 ∷ [] → Quotes (take (i + 1) names) now
 quotes_more names i name segment text added now low at q is was dotted = record {
   segments = q.segments ++ segment ∷ [];
-  named = subst (λ (p : Names). AreFileNames p (q.segments ++ segment ∷ [])) (sym (take_more names i name low ∙ ap (λ (n : List ℕ). take i names ++ n ∷ []) (sym at))) (file_names_more (take i names) q.segments name segment q.named is);
-  text_is = dotted ∙ ap (λ (l : List ℕ). l ++ 46 ∷ []) was ∙ append_assoc text (quoted segment) (46 ∷ []) ∙ ap (λ (l : List ℕ). l ++ (quoted segment ++ 46 ∷ [])) q.text_is ∙ sym (flat_more q.segments segment);
+  named = subst (λ (p : Names). AreFileNames p (q.segments ++ segment ∷ []))
+      (sym (take_more names i name low ∙ ap (λ (n : List ℕ). take i names ++ n ∷ []) (sym at)))
+      (file_names_more (take i names) q.segments name segment q.named is);
+  text_is = dotted ∙ ap (λ (l : List ℕ). l ++ 46 ∷ []) was ∙ append_assoc text (quoted segment) (46 ∷ [])
+      ∙ ap (λ (l : List ℕ). l ++ (quoted segment ++ 46 ∷ [])) q.text_is ∙ sym (flat_more q.segments segment);
 }
 
 -- a name that is that of no segment
-pub no_names : (names : Names) (i : ℕ) (name : List ℕ) → i < length names → name ≡ get_or names i name → ((segment : List ℕ) → IsFileNameOf name segment → ⊥) → (segments : List (List ℕ)) → AreFileNames names segments → ⊥
+pub no_names : (names : Names) (i : ℕ) (name : List ℕ) → i < length names → name ≡ get_or names i name → ((segment : List ℕ) → IsFileNameOf name segment → ⊥)
+    → (segments : List (List ℕ)) → AreFileNames names segments → ⊥
 no_names [] i name low at none segments a = omega arith
 no_names (n ∷ names) i name low at none [] a = a
 no_names (n ∷ names) zero name low at none (x ∷ xs) a = none x (subst (λ (l : List ℕ). IsFileNameOf l x) (sym at) a.0)
@@ -105,9 +114,11 @@ segments_named (x ∷ key) v s =
 pub key_named : (names : Names) (key : List (List ℕ)) → IsKeyOf names key → AreFileNames names key
 key_named names key is = let v = key_segments key is.valid in subst (λ (p : Names). AreFileNames p key) (sym is.names_are) (segments_named key v.0 v.1)
 
-module _ (names : Names) (last : List ℕ) (text whole segment : List ℕ) (q : Quotes names text) (is : IsFileNameOf last segment) (text_is : whole ≡ text ++ quoted segment) where
+module _ (names : Names) (last : List ℕ) (text whole segment : List ℕ) (q : Quotes names text) (is : IsFileNameOf last segment)
+    (text_is : whole ≡ text ++ quoted segment) where
   spells_whole : Spells whole (q.segments ++ segment ∷ [])
-  spells_whole = subst (λ (l : List ℕ). Spells l (q.segments ++ segment ∷ [])) (sym (text_is ∙ ap (λ (l : List ℕ). l ++ quoted segment) q.text_is)) (spells_quoted q.segments segment (segments_valid names q.segments q.named) is.valid)
+  spells_whole = subst (λ (l : List ℕ). Spells l (q.segments ++ segment ∷ [])) (sym (text_is ∙ ap (λ (l : List ℕ). l ++ quoted segment) q.text_is))
+      (spells_quoted q.segments segment (segments_valid names q.segments q.named) is.valid)
 
   named_whole : AreFileNames (names ++ last ∷ []) (q.segments ++ segment ∷ [])
   named_whole = file_names_more names q.segments last segment q.named is
@@ -116,24 +127,32 @@ module _ (names : Names) (last : List ℕ) (text whole segment : List ℕ) (q : 
   pub key_read : (key : List (List ℕ)) → SpellsKey whole key → IsKeyOf (names ++ last ∷ []) key
   key_read key spells = record {
     valid = spelled_key whole key spells;
-    names_are = names_are (names ++ last ∷ []) (q.segments ++ segment ∷ []) named_whole ∙ ap names_of (one_joined IsSpelling 46 one_segment (q.segments ++ segment ∷ []) key whole spells_whole spells.spells);
+    names_are = names_are (names ++ last ∷ []) (q.segments ++ segment ∷ []) named_whole
+        ∙ ap names_of (one_joined IsSpelling 46 one_segment (q.segments ++ segment ∷ []) key whole spells_whole spells.spells);
   }
 
   -- and where it spells none, no key has them
   pub no_key_read : ((key : List (List ℕ)) → SpellsKey whole key → ⊥) → (key : List (List ℕ)) → IsKeyOf (names ++ last ∷ []) key → ⊥
   no_key_read none key of =
-      let same : key ≡ q.segments ++ segment ∷ [] = names_alike (names ++ last ∷ []) key (q.segments ++ segment ∷ []) (key_named (names ++ last ∷ []) key of) named_whole in
-      none key (record { spells = subst (λ (k : List (List ℕ)). Spells whole k) (sym same) spells_whole; within = fits-from key (IsKey-from key of.valid).fits })
+      let same : key ≡ q.segments ++ segment ∷ [] = names_alike (names ++ last ∷ []) key (q.segments ++ segment ∷ []) (key_named (names ++ last ∷ []) key of)
+      named_whole in
+      none key (record {
+        spells = subst (λ (k : List (List ℕ)). Spells whole k) (sym same) spells_whole;
+        within =
+            fits-from key (IsKey-from key of.valid).fits;
+      })
 
 -- no key has names of which the first or the last are those of no segments
-pub no_first : (names : Names) (last : List ℕ) → ((segments : List (List ℕ)) → AreFileNames names segments → ⊥) → (key : List (List ℕ)) → IsKeyOf (names ++ last ∷ []) key → ⊥
+pub no_first : (names : Names) (last : List ℕ) → ((segments : List (List ℕ)) → AreFileNames names segments → ⊥) → (key : List (List ℕ))
+    → IsKeyOf (names ++ last ∷ []) key → ⊥
 no_first names last none key of = cut names key (key_named (names ++ last ∷ []) key of) none where
   cut : (names : Names) (key : List (List ℕ)) → AreFileNames (names ++ last ∷ []) key → ((segments : List (List ℕ)) → AreFileNames names segments → ⊥) → ⊥
   cut [] key a none = none [] tt
   cut (n ∷ names) [] a none = a
   cut (n ∷ names) (x ∷ xs) a none = cut names xs a.1 (λ segments b. none (x ∷ segments) (a.0, b))
 
-pub no_last : (names : Names) (last : List ℕ) → ((segment : List ℕ) → IsFileNameOf last segment → ⊥) → (key : List (List ℕ)) → IsKeyOf (names ++ last ∷ []) key → ⊥
+pub no_last : (names : Names) (last : List ℕ) → ((segment : List ℕ) → IsFileNameOf last segment → ⊥) → (key : List (List ℕ)) → IsKeyOf (names ++ last ∷ []) key
+    → ⊥
 no_last names last none key of = cut names key (key_named (names ++ last ∷ []) key of) where
   cut : (names : Names) (key : List (List ℕ)) → AreFileNames (names ++ last ∷ []) key → ⊥
   cut [] [] a = a
@@ -147,27 +166,36 @@ pub quotes_false : (name old now : List ℕ) (b : Bool) → QuotesOne name old n
 quotes_false name old now false none is = none
 quotes_false name old now true some is = absurd (false≢true (sym is))
 
-pub no_names_at : (names : Names) (i : ℕ) (item name old now : List ℕ) (b : Bool) → i < length names → item ≡ get_or names i item → name ≡ item → QuotesOne name old now b → b ≡ false → (segments : List (List ℕ)) → AreFileNames names segments → ⊥
+pub no_names_at : (names : Names) (i : ℕ) (item name old now : List ℕ) (b : Bool) → i < length names → item ≡ get_or names i item → name ≡ item
+    → QuotesOne name old now b → b ≡ false → (segments : List (List ℕ)) → AreFileNames names segments → ⊥
 no_names_at names i item name old now b low at same one is =
     no_names names i item low at (λ segment of. quotes_false name old now b one is segment (subst (λ (l : List ℕ). IsFileNameOf l segment) (sym same) of))
 
-pub quotes_step : (names : Names) (i : ℕ) (item name text added now : List ℕ) (b : Bool) → i < length names → item ≡ get_or names i item → name ≡ item → Quotes (take i names) text → QuotesOne name text added b → b ≡ true → now ≡ added ++ 46 ∷ [] → Quotes (take (i + 1) names) now
-quotes_step names i item name text added now true low at same q (segment, is, was) so dotted = quotes_more names i item segment text added now low at q (subst (λ (l : List ℕ). IsFileNameOf l segment) same is) was dotted
+pub quotes_step : (names : Names) (i : ℕ) (item name text added now : List ℕ) (b : Bool) → i < length names → item ≡ get_or names i item → name ≡ item
+    → Quotes (take i names) text → QuotesOne name text added b → b ≡ true → now ≡ added ++ 46 ∷ [] → Quotes (take (i + 1) names) now
+quotes_step names i item name text added now true low at same q (segment, is, was) so dotted =
+    quotes_more names i item segment text added now low at q (subst (λ (l : List ℕ). IsFileNameOf l segment) same is) was dotted
 quotes_step names i item name text added now false low at same q none so dotted = absurd (false≢true so)
 
 -- ---- what is found
 
-pub finds_map : {X E : Type 0} (R Q : X → Type 0) (r : Result (Option X) E) → ((x : X) → R x → Q x) → (((x : X) → R x → ⊥) → (x : X) → Q x → ⊥) → Finds R r → Finds Q r
+pub finds_map : {X E : Type 0} (R Q : X → Type 0) (r : Result (Option X) E) → ((x : X) → R x → Q x) → (((x : X) → R x → ⊥) → (x : X) → Q x → ⊥) → Finds R r
+    → Finds Q r
 finds_map R Q (Ok None) to none f = record { found = none f.found }
 finds_map R Q (Ok (Some x)) to none f = record { found = to x f.found }
 finds_map R Q (Err e) to none f = record { found = tt }
 
-pub key_found : {E : Type 0} (names : Names) (last text whole read : List ℕ) (b : Bool) (r : Result (Option (List (List ℕ))) E) → Quotes names text → QuotesOne last text whole b → b ≡ true → read ≡ whole → Finds (SpellsKey read) r → Finds (IsKeyOf (names ++ last ∷ [])) r
-key_found names last text whole read true r q (segment, is, was) so same f = finds_map (SpellsKey read) (IsKeyOf (names ++ last ∷ [])) r (key_read names last text read segment q is (same ∙ was)) (no_key_read names last text read segment q is (same ∙ was)) f
+pub key_found : {E : Type 0} (names : Names) (last text whole read : List ℕ) (b : Bool) (r : Result (Option (List (List ℕ))) E) → Quotes names text
+    → QuotesOne last text whole b → b ≡ true → read ≡ whole → Finds (SpellsKey read) r → Finds (IsKeyOf (names ++ last ∷ [])) r
+key_found names last text whole read true r q (segment, is, was) so same f =
+    finds_map (SpellsKey read) (IsKeyOf (names ++ last ∷ [])) r (key_read names last text read segment q is (same ∙ was))
+    (no_key_read names last text read segment q is (same ∙ was)) f
 key_found names last text whole read false r q none so same f = absurd (false≢true so)
 
-pub no_key_last : {E : Type 0} (names : Names) (last text whole : List ℕ) (b : Bool) → QuotesOne last text whole b → b ≡ false → Finds {E = E} (IsKeyOf (names ++ last ∷ [])) (Ok None)
+pub no_key_last : {E : Type 0} (names : Names) (last text whole : List ℕ) (b : Bool) → QuotesOne last text whole b → b ≡ false
+    → Finds {E = E} (IsKeyOf (names ++ last ∷ [])) (Ok None)
 no_key_last names last text whole b one is = record { found = no_last names last (quotes_false last text whole b one is) }
 
-pub no_key_first : {E : Type 0} (names : Names) (last : List ℕ) → ((segments : List (List ℕ)) → AreFileNames names segments → ⊥) → Finds {E = E} (IsKeyOf (names ++ last ∷ [])) (Ok None)
+pub no_key_first : {E : Type 0} (names : Names) (last : List ℕ) → ((segments : List (List ℕ)) → AreFileNames names segments → ⊥)
+    → Finds {E = E} (IsKeyOf (names ++ last ∷ [])) (Ok None)
 no_key_first names last none = record { found = no_first names last none }

@@ -1,5 +1,6 @@
 -- Keys written as items of a list, and read back.
-use Rattle.std.proofs.Common.{arith, ◌≡◌, ◌<◌, ◌+◌, ℕ, zero, suc, List, [], ◌∷◌, ◌++◌, length, take, get_or, Option, Some, None, Result, Ok, Err, true, refl, sym, ap, ◌∙◌, subst}
+use Rattle.std.proofs.Common.{arith, ◌≡◌, ◌<◌, ◌+◌, ℕ, zero, suc, List, [], ◌∷◌, ◌++◌, length, take}
+use Rattle.std.proofs.Common.{get_or, Option, Some, None, Result, Ok, Err, true, refl, sym, ap, ◌∙◌, subst}
 use Rattle.std.specs.Prelude.{IsTrue, IfOk}
 use Rattle.std.specs.List.{list_all}
 use Rattle.std.proofs.lemmas.Bool.{and_parts}
@@ -26,14 +27,18 @@ use Rattle.fs_datastore.specs.Texts.{key_items}
 use Rattle.key_names.proofs.SpelledKeys.{spelled_key, printed_key}
 
 -- one more key
-pub items_more : (keys : List (List (List ℕ))) (i : ℕ) (key : List (List ℕ)) (items now : List Item) (text : List ℕ) → i < length keys → key ≡ get_or keys i key → items ≡ key_items (take i keys) → text ≡ printed key → now ≡ items ++ item.Text text ∷ [] → now ≡ key_items (take (i + 1) keys)
+pub items_more : (keys : List (List (List ℕ))) (i : ℕ) (key : List (List ℕ)) (items now : List Item) (text : List ℕ) → i < length keys → key ≡ get_or keys i key
+    → items ≡ key_items (take i keys) → text ≡ printed key → now ≡ items ++ item.Text text ∷ [] → now ≡ key_items (take (i + 1) keys)
 items_more keys i key items now text low at so_far is pushed =
     pushed ∙ ap (λ (l : List Item). l ++ item.Text text ∷ []) so_far ∙ ap (λ (t : List ℕ). key_items (take i keys) ++ item.Text t ∷ []) is
-    ∙ sym (ap key_items (take_more keys i key low ∙ ap (λ (k : List (List ℕ)). take i keys ++ k ∷ []) (sym at)) ∙ map-append (λ (k : List (List ℕ)). item.Text (printed k)) (take i keys) (key ∷ []))
+    ∙ sym (ap key_items (take_more keys i key low ∙ ap (λ (k : List (List ℕ)). take i keys ++ k ∷ []) (sym at))
+    ∙ map-append (λ (k : List (List ℕ)). item.Text (printed k)) (take i keys) (key ∷ []))
 
-pub valid_more : (keys : List (List (List ℕ))) (i : ℕ) (key : List (List ℕ)) (text : List ℕ) → i < length keys → key ≡ get_or keys i key → IsTrue (list_all is_key (take i keys)) → SpellsKey text key → IsTrue (list_all is_key (take (i + 1) keys))
+pub valid_more : (keys : List (List (List ℕ))) (i : ℕ) (key : List (List ℕ)) (text : List ℕ) → i < length keys → key ≡ get_or keys i key
+    → IsTrue (list_all is_key (take i keys)) → SpellsKey text key → IsTrue (list_all is_key (take (i + 1) keys))
 valid_more keys i key text low at so_far spells =
-    ap (list_all is_key) (take_more keys i key low ∙ ap (λ (k : List (List ℕ)). take i keys ++ k ∷ []) (sym at)) ∙ list_all-append is_key (take i keys) (key ∷ [])
+    ap (list_all is_key) (take_more keys i key low ∙ ap (λ (k : List (List ℕ)). take i keys ++ k ∷ []) (sym at))
+    ∙ list_all-append is_key (take i keys) (key ∷ [])
     ∙ both (list_all is_key (take i keys)) (list_all is_key (key ∷ [])) so_far (both (is_key key) true (spelled_key text key spells) refl)
 
 pub whole : {X : Type 0} (xs : List X) (n : ℕ) → n ≡ length xs → take n xs ≡ xs
@@ -48,20 +53,27 @@ whole xs n is = ap (λ (m : ℕ). take m xs) is ∙ all xs where
 abbrev pub SoFar : List Item → ℕ → List (List (List ℕ)) → Type 0
 SoFar items i done = (keys : List (List (List ℕ))) → IsTrue (list_all is_key keys) → items ≡ key_items keys → done ≡ take i keys
 
-pub key_at : (keys : List (List (List ℕ))) (items : List Item) (i : ℕ) (found : Item) → IsTrue (list_all is_key keys) → items ≡ key_items keys → i < length items → found ≡ get_or items i found
+pub key_at : (keys : List (List (List ℕ))) (items : List Item) (i : ℕ) (found : Item) → IsTrue (list_all is_key keys) → items ≡ key_items keys
+    → i < length items → found ≡ get_or items i found
     → (i < length keys) × IsTrue (is_key (get_or keys i [])) × (found ≡ item.Text (printed (get_or keys i [])))
-key_at keys items i found valid is low at = go keys i valid (subst (λ (l : List Item). i < length l) is low) (at ∙ ap (λ (l : List Item). get_or l i found) is) where
-  go : (keys : List (List (List ℕ))) (i : ℕ) → IsTrue (list_all is_key keys) → i < length (key_items keys) → found ≡ get_or (key_items keys) i found → (i < length keys) × IsTrue (is_key (get_or keys i [])) × (found ≡ item.Text (printed (get_or keys i [])))
-  go [] i valid low at = absurd (omega arith)
-  go (k ∷ keys) zero valid low at = (omega arith, (and_parts (is_key k) (list_all is_key keys) valid).0, at)
-  go (k ∷ keys) (suc i) valid low at = let rest = go keys i (and_parts (is_key k) (list_all is_key keys) valid).1 (omega arith) at in (omega (arith, rest.0), rest.1, rest.2)
+key_at keys items i found valid is low at = go keys i valid (subst (λ (l : List Item). i < length l) is low)
+    (at ∙ ap (λ (l : List Item). get_or l i found) is) where
+      go : (keys : List (List (List ℕ))) (i : ℕ) → IsTrue (list_all is_key keys) → i < length (key_items keys) → found ≡ get_or (key_items keys) i found
+          → (i < length keys) × IsTrue (is_key (get_or keys i [])) × (found ≡ item.Text (printed (get_or keys i [])))
+      go [] i valid low at = absurd (omega arith)
+      go (k ∷ keys) zero valid low at = (omega arith, (and_parts (is_key k) (list_all is_key keys) valid).0, at)
+      go (k ∷ keys) (suc i) valid low at = let rest = go keys i (and_parts (is_key k) (list_all is_key keys) valid).1 (omega arith) at in
+          (omega (arith, rest.0), rest.1, rest.2)
 
 -- one more key was read
-pub so_far_more : (items : List Item) (i : ℕ) (found : Item) (done now : List (List (List ℕ))) (key : List (List ℕ)) → i < length items → found ≡ get_or items i found
-    → ((k : List (List ℕ)) → IsTrue (is_key k) → found ≡ item.Text (printed k) → key ≡ k) → SoFar items i done → now ≡ done ++ key ∷ [] → SoFar items (i + 1) now
+pub so_far_more : (items : List Item) (i : ℕ) (found : Item) (done now : List (List (List ℕ))) (key : List (List ℕ)) → i < length items
+    → found ≡ get_or items i found
+    → ((k : List (List ℕ)) → IsTrue (is_key k) → found ≡ item.Text (printed k) → key ≡ k) → SoFar items i done → now ≡ done ++ key ∷ []
+    → SoFar items (i + 1) now
 so_far_more items i found done now key low at reads so_far is = λ keys valid same.
     let k = key_at keys items i found valid same low at in
-    is ∙ ap (λ (l : List (List (List ℕ))). l ++ key ∷ []) (so_far keys valid same) ∙ ap (λ (q : List (List ℕ)). take i keys ++ q ∷ []) (reads (get_or keys i []) k.1 k.2) ∙ sym (take_more keys i [] k.0)
+    is ∙ ap (λ (l : List (List (List ℕ))). l ++ key ∷ []) (so_far keys valid same) ∙ ap (λ (q : List (List ℕ)). take i keys ++ q ∷ [])
+    (reads (get_or keys i []) k.1 k.2) ∙ sym (take_more keys i [] k.0)
 
 -- ---- files of keys
 
@@ -72,7 +84,8 @@ null_readable = record { reads_back = refl; numbers = tt; shallow = omega arith 
 pub null_read : (text : List ℕ) → IsUtf8 text → tokens text ≡ data_tokens null → data_of text ≡ Some null
 null_read text utf8 is = data_of-tokens null 0 text null_readable (omega arith) utf8 is
 
-pub gone_spelled : {E : Type 0} (r : Result (List ℕ) E) (value : Pending) → value ≡ Gone → IfOk r (λ text. data_of text ≡ Some null) → IfOk r (λ text. Spells text (pending value))
+pub gone_spelled : {E : Type 0} (r : Result (List ℕ) E) (value : Pending) → value ≡ Gone → IfOk r (λ text. data_of text ≡ Some null)
+    → IfOk r (λ text. Spells text (pending value))
 gone_spelled (Ok text) value gone is = subst (λ (p : Pending). Spells text (pending p)) (sym gone) is
 gone_spelled (Err e) value gone is = tt
 
@@ -84,17 +97,22 @@ text_in (item.Int n) = []
 text_in (item.Text t) = t
 
 -- an item that is the printed text of a key spells it
-pub texts_one : (found : Item) (text bytes : List ℕ) (key : List (List ℕ)) → found ≡ item.Text text → bytes ≡ text → IsTrue (is_key key) → found ≡ item.Text (printed key) → SpellsKey bytes key
+pub texts_one : (found : Item) (text bytes : List ℕ) (key : List (List ℕ)) → found ≡ item.Text text → bytes ≡ text → IsTrue (is_key key)
+    → found ≡ item.Text (printed key) → SpellsKey bytes key
 unfolding text_in
-texts_one found text bytes key is same valid printed_is = subst (λ (t : List ℕ). SpellsKey t key) (sym (same ∙ ap text_in (sym is ∙ printed_is))) (printed_key key valid)
+texts_one found text bytes key is same valid printed_is = subst (λ (t : List ℕ). SpellsKey t key) (sym (same ∙ ap text_in (sym is ∙ printed_is)))
+    (printed_key key valid)
 
 pub key_is : (r : Result (List (List ℕ)) KeyError) (read key : List (List ℕ)) → r ≡ Ok read → IsRead r key → Some read ≡ Some key
 key_is r read key is reads = ap Some (subst (λ (x : Result (List (List ℕ)) KeyError). IsRead x key) is reads)
 
-pub no_key : (r : Result (List (List ℕ)) KeyError) (fault : KeyError) (key : List (List ℕ)) → r ≡ Err fault → (fault.kind ≡ Memory → ⊥) → IsRead r key → None ≡ Some key
+pub no_key : (r : Result (List (List ℕ)) KeyError) (fault : KeyError) (key : List (List ℕ)) → r ≡ Err fault → (fault.kind ≡ Memory → ⊥) → IsRead r key
+    → None ≡ Some key
 no_key r fault key is other reads = absurd (other (subst (λ (x : Result (List (List ℕ)) KeyError). IsRead x key) is reads))
 
 -- the key at an item is found
-pub no_key_at : (items : List Item) (i : ℕ) (found : Item) (o : Option (List (List ℕ))) → i < length items → found ≡ get_or items i found → ((k : List (List ℕ)) → IsTrue (is_key k) → found ≡ item.Text (printed k) → o ≡ Some k) → o ≡ None
+pub no_key_at : (items : List Item) (i : ℕ) (found : Item) (o : Option (List (List ℕ))) → i < length items → found ≡ get_or items i found
+    → ((k : List (List ℕ)) → IsTrue (is_key k) → found ≡ item.Text (printed k) → o ≡ Some k) → o ≡ None
     → (keys : List (List (List ℕ))) → IsTrue (list_all is_key keys) → items ≡ key_items keys → None ≡ Some keys
-no_key_at items i found o low at reads none keys valid same = let k = key_at keys items i found valid same low at in absurd (cc (none, reads (get_or keys i []) k.1 k.2))
+no_key_at items i found o low at reads none keys valid same = let k = key_at keys items i found valid same low at in
+    absurd (cc (none, reads (get_or keys i []) k.1 k.2))

@@ -1,5 +1,6 @@
 -- The paths below a directory, read in their order.
-use Rattle.std.proofs.Common.{arith, ◌≡◌, ◌<◌, ℕ, suc, List, [], ◌∷◌, ◌++◌, ◌||◌, T, nat_lt, length, length-append, slice_index_or, map, drop, Option, Some, None, IsSome, is_some, Bool, true, false, cond, inl, inr, refl, sym, ap, ◌∙◌, subst}
+use Rattle.std.proofs.Common.{arith, ◌≡◌, ◌<◌, ℕ, suc, List, [], ◌∷◌, ◌++◌, ◌||◌, T, nat_lt, length, length-append, slice_index_or, map}
+use Rattle.std.proofs.Common.{drop, Option, Some, None, IsSome, is_some, Bool, true, false, cond, inl, inr, refl, sym, ap, ◌∙◌, subst}
 use Rattle.std.specs.List.{list_any, starts_with, AllByRecursion}
 use Rattle.std.specs.List.Sorted.{IsStrictlySortedBy}
 use Rattle.std.specs.FinMap.{keys, entries, entries_sorted, contains_key-keys}
@@ -25,7 +26,7 @@ use Rattle.fs_datastore.specs.Values.{Value, live, pending, owed, image, weak}
 use Rattle.fs_datastore.specs.Stands.{node_of}
 use Rattle.fs_datastore.specs.Damage.{HaveFiles, Fits, format, place}
 
--- ---- nodes that may stand behind others
+-- ---- nodes that may come after others
 
 nodes_alike : (a b : Files) → ((name : List ℕ) (rest : Names) → a (name ∷ rest) ≡ b (name ∷ rest)) → (p : Place) → node_of a p ≡ node_of b p
 nodes_alike a b same p = ap (λ (n : Option Node). cond (is_place p) n None) (at p) where
@@ -37,8 +38,9 @@ nodes_alike a b same p = ap (λ (n : Option Node). cond (is_place p) n None) (at
   at TheImage = same _ _
   at TheWeak = same _ _
 
--- what may stand behind files may stand behind those that are alike
-pub fits_alike : (a b : Files) → ((name : List ℕ) (rest : Names) → a (name ∷ rest) ≡ b (name ∷ rest)) → (path : Names) (node : Node) → Fits a path node → Fits b path node
+-- what may come after files may come after those that are alike
+pub fits_alike : (a b : Files) → ((name : List ℕ) (rest : Names) → a (name ∷ rest) ≡ b (name ∷ rest)) → (path : Names) (node : Node) → Fits a path node
+    → Fits b path node
 fits_alike a b same path node (format here is) = format here is
 fits_alike a b same path node (place p bytes valid here is t) = place p bytes valid here is (record {
   value = t.value;
@@ -95,12 +97,14 @@ above_all p x (z ∷ left) low has = elim (path_cases x z) [
   | inr other ↦ above_all p x left low.1 (sym (ap (λ (b : Bool). b || list_any (eq_by_cmp path_cmp x) left) other) ∙ has)
 ]
 
--- of a list that rises, the first part is what is below the path behind it
-pub split_at : (done : List Names) (p x : Names) (left : List Names) → IsStrictlySortedBy path_cmp (done ++ p ∷ left) → in_list x (done ++ p ∷ left) ≡ true → in_list x done ≡ is_lt (path_cmp x p)
+-- of a list that rises, the first part is what is below the path after it
+pub split_at : (done : List Names) (p x : Names) (left : List Names) → IsStrictlySortedBy path_cmp (done ++ p ∷ left) → in_list x (done ++ p ∷ left) ≡ true
+    → in_list x done ≡ is_lt (path_cmp x p)
 unfolding IsStrictlySortedBy
 split_at [] p x left rises has = elim (path_cases x p) [
   | inl here ↦ sym (ap is_lt (ap (λ (q : Names). path_cmp q p) here ∙ cmp_itself p))
-  | inr other ↦ sym (ap is_lt (path_total.antisymm x p ∙ ap ordering_reverse (above_all p x left rises.0 (sym (ap (λ (b : Bool). b || list_any (eq_by_cmp path_cmp x) left) other) ∙ has))))
+  | inr other ↦ sym (ap is_lt (path_total.antisymm x p ∙ ap ordering_reverse
+      (above_all p x left rises.0 (sym (ap (λ (b : Bool). b || list_any (eq_by_cmp path_cmp x) left) other) ∙ has))))
 ]
 split_at (d ∷ done) p x left rises has = elim (path_cases x d) [
   | inl here ↦
@@ -143,19 +147,22 @@ pub paths_rise : (dir : Names) (tree : Tree) → IsStrictlySortedBy path_cmp (pa
 paths_rise dir tree = IsStrictlySortedBy-filter path_cmp (is_below dir) (keys tree) (sorted_keys (entries tree) (of_T _ (entries_sorted tree)))
 
 longer : (dir : Names) (name : List ℕ) (rest : Names) → is_below dir (dir ++ name ∷ rest) ≡ true
-longer dir name rest = both (nat_lt (length dir) (length (dir ++ name ∷ rest))) (starts_with same_name (dir ++ name ∷ rest) dir) (le-leb (suc (length dir)) (length (dir ++ name ∷ rest)) (omega (arith, length-append dir (name ∷ rest)))) (begins dir (name ∷ rest)) where
-  none : (rest : Names) → starts_with same_name rest [] ≡ true
-  none [] = refl
-  none (r ∷ rest) = refl
+longer dir name rest = both (nat_lt (length dir) (length (dir ++ name ∷ rest))) (starts_with same_name (dir ++ name ∷ rest) dir)
+    (le-leb (suc (length dir)) (length (dir ++ name ∷ rest)) (omega (arith, length-append dir (name ∷ rest)))) (begins dir (name ∷ rest)) where
+      none : (rest : Names) → starts_with same_name rest [] ≡ true
+      none [] = refl
+      none (r ∷ rest) = refl
 
-  begins : (dir rest : Names) → starts_with same_name (dir ++ rest) dir ≡ true
-  begins [] rest = none rest
-  begins (n ∷ dir) rest = both (same_name n n) (starts_with same_name (dir ++ rest) dir) (ap is_eq (tied_itself name_total n)) (begins dir rest)
+      begins : (dir rest : Names) → starts_with same_name (dir ++ rest) dir ≡ true
+      begins [] rest = none rest
+      begins (n ∷ dir) rest = both (same_name n n) (starts_with same_name (dir ++ rest) dir) (ap is_eq (tied_itself name_total n)) (begins dir rest)
 
 -- each node below the directory is listed
-pub each_listed : (dir : Names) (tree : Tree) (name : List ℕ) (rest : Names) → IsSome (files_below dir tree (name ∷ rest)) → in_list (dir ++ name ∷ rest) (paths_below dir tree) ≡ true
+pub each_listed : (dir : Names) (tree : Tree) (name : List ℕ) (rest : Names) → IsSome (files_below dir tree (name ∷ rest))
+    → in_list (dir ++ name ∷ rest) (paths_below dir tree) ≡ true
 each_listed dir tree name rest there =
-    any-filter_same (eq_by_cmp path_cmp (dir ++ name ∷ rest)) (is_below dir) true (λ k same. ap (is_below dir) (sym (tied (dir ++ name ∷ rest) k same)) ∙ longer dir name rest) (keys tree)
+    any-filter_same (eq_by_cmp path_cmp (dir ++ name ∷ rest)) (is_below dir) true
+    (λ k same. ap (is_below dir) (sym (tied (dir ++ name ∷ rest) k same)) ∙ longer dir name rest) (keys tree)
     ∙ sym (contains_key-keys tree (dir ++ name ∷ rest)) ∙ some (node_at tree (dir ++ name ∷ rest)) there
   where
     tied : (x k : Names) → eq_by_cmp path_cmp x k ≡ true → x ≡ k
@@ -197,11 +204,12 @@ in_part (d ∷ done) left p = by (eq_by_cmp path_cmp p d) (in_part done left p) 
   by true has = refl
   by false has = has
 
--- it is below the directory, and a node stands there
+-- it is below the directory, and a node is there
 pub listed_is : (dir : Names) (tree : Tree) (done left : List Names) (p : Names) → done ++ p ∷ left ≡ paths_below dir tree → IsListed dir tree p
 listed_is dir tree done left p whole =
     let has : in_list p (paths_below dir tree) ≡ true = sym (ap (in_list p) whole) ∙ in_part done left p in
-    let parts = and_parts (is_below dir p) (list_any (eq_by_cmp path_cmp p) (keys tree)) (sym (any-filter_same (eq_by_cmp path_cmp p) (is_below dir) (is_below dir p) (λ k same. ap (is_below dir) (sym (tied p k same))) (keys tree)) ∙ has) in
+    let parts = and_parts (is_below dir p) (list_any (eq_by_cmp path_cmp p) (keys tree))
+    (sym (any-filter_same (eq_by_cmp path_cmp p) (is_below dir) (is_below dir p) (λ k same. ap (is_below dir) (sym (tied p k same))) (keys tree)) ∙ has) in
     let ways = and_parts (nat_lt (length dir) (length p)) (starts_with same_name p dir) parts.0 in
     let b = below_is dir p (leb-true (suc (length dir)) (length p) ways.0) ways.1 in
     by (node_at tree p) refl (contains_key-keys tree p ∙ parts.1) b

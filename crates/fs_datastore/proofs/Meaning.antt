@@ -1,4 +1,4 @@
--- Files stand for at most one choice of what is held.
+-- Files represent at most one choice of what is held.
 use Rattle.std.proofs.Common.{◌≡◌, ℕ, List, [], Option, Some, None, Bool, true, false, if◌then◌else◌, refl, sym, ap, ◌∙◌, subst, option_map}
 use Rattle.std.specs.Prelude.{IsTrue}
 use Rattle.std.specs.FinMap.{get, same_map}
@@ -26,14 +26,16 @@ bytes_in (file bytes) d = bytes
 bytes_in _ d = d
 
 -- a node is that of one value
-one_value : (p : Place) (v w : Option Value) (node : Option Node) → ((x : Value) → v ≡ Some x → IsTrue (is_for p x)) → ((x : Value) → w ≡ Some x → IsTrue (is_for p x)) → IsFileOf v node → IsFileOf w node → v ≡ w
+one_value : (p : Place) (v w : Option Value) (node : Option Node) → ((x : Value) → v ≡ Some x → IsTrue (is_for p x))
+    → ((x : Value) → w ≡ Some x → IsTrue (is_for p x)) → IsFileOf v node → IsFileOf w node → v ≡ w
 unfolding bytes_in
 one_value p v w None kinds also is reads = none_shown v None is refl ∙ sym (none_shown w None reads refl)
 one_value p v w (Some n) kinds also is reads = by (shown v (Some n) n is refl) (shown w (Some n) n reads refl) where
   by : Told v n → Told w n → v ≡ w
   by a b =
       let same : a.bytes ≡ b.bytes = ap (λ (x : Node). bytes_in x []) (sym a.node_is ∙ b.node_is) in
-      a.value_is ∙ ap Some (spells_one p a.bytes a.is b.is (kinds a.is a.value_is) (also b.is b.value_is) a.spelled (subst (λ (l : List ℕ). Spells l b.is) (sym same) b.spelled)) ∙ sym b.value_is
+      a.value_is ∙ ap Some (spells_one p a.bytes a.is b.is (kinds a.is a.value_is) (also b.is b.value_is) a.spelled
+      (subst (λ (l : List ℕ). Spells l b.is) (sym same) b.spelled)) ∙ sym b.value_is
 
 one_format : (files : Files) (told also : Bool) → files format_path ≡ format_node told → files format_path ≡ format_node also → told ≡ also
 one_format files true true is reads = refl
@@ -49,7 +51,7 @@ pending_in : Value → Pending → Pending
 pending_in (pending s) d = s
 pending_in _ d = d
 
--- a map that is told by its values is one
+-- a map that its values determine is one
 one_of : {X : Type 0} (g : X → Value) (back : Value → X → X) → ((x d : X) → back (g x) d ≡ x) → (o r : Option X) → option_map g o ≡ option_map g r → o ≡ r
 one_of g back undone None None is = refl
 one_of g back undone None (Some y) is = absurd (cc is)
@@ -87,18 +89,21 @@ module _ (files : Files) (one other : Held) (format also : ℕ) (s : Stands file
   rules_other = held_rules other t.told t.listed t.content t.pending t.weak_is
 
   same : (p : Place) → value_in one s.listed p ≡ value_in other t.listed p
-  same p = one_value p (value_in one s.listed p) (value_in other t.listed p) (node_of files p) (rules_one.kinds p) (rules_other.kinds p) (s.shows.places p) (t.shows.places p)
+  same p = one_value p (value_in one s.listed p) (value_in other t.listed p) (node_of files p) (rules_one.kinds p) (rules_other.kinds p) (s.shows.places p)
+      (t.shows.places p)
 
   told_same : s.told ≡ t.told
   told_same = one_format files s.told t.told s.shows.format t.shows.format
 
   values_same : one.live.values ≡ other.live.values
   unfolding live_in
-  values_same = same_map key_total key_cmp-IsAntisymmetric one.live.values other.live.values (λ k. one_of live live_in (λ x d. refl) (get one.live.values k) (get other.live.values k) (same (Live k)))
+  values_same = same_map key_total key_cmp-IsAntisymmetric one.live.values other.live.values
+      (λ k. one_of live live_in (λ x d. refl) (get one.live.values k) (get other.live.values k) (same (Live k)))
 
   metadata_same : one.live.metadata ≡ other.live.metadata
   unfolding live_in
-  metadata_same = same_nested key_total key_cmp-IsAntisymmetric bytes_total bytes_cmp-IsAntisymmetric one.live.metadata other.live.metadata s.content.full t.content.full
+  metadata_same = same_nested key_total key_cmp-IsAntisymmetric bytes_total bytes_cmp-IsAntisymmetric one.live.metadata other.live.metadata s.content.full
+      t.content.full
       (λ k n. one_of live live_in (λ x d. refl) (value_at one.live.metadata k n) (value_at other.live.metadata k n) (same (Meta k n)))
 
   pending_same : one.pending ≡ other.pending
@@ -121,7 +126,13 @@ module _ (files : Files) (one other : Held) (format also : ℕ) (s : Stands file
 
   meaning : (one ≡ other) × (format ≡ also)
   meaning = (
-    (λ i. record { live = record { values = values_same i; metadata = metadata_same i; weak = weak_same i }; pending = pending_same i; owed = owed_same i; image = image_same i }),
+    (λ i. record {
+      live = record { values = values_same i; metadata = metadata_same i; weak = weak_same i };
+      pending = pending_same i;
+      owed =
+          owed_same i;
+      image = image_same i;
+    }),
     s.format_is ∙ ap (λ (b : Bool). if b then 2 else 1) told_same ∙ sym t.format_is,
   )
 

@@ -94,7 +94,8 @@ record OneMeta (key other : List (List ℕ)) (name also : List ℕ) : Type 0 whe
   names : name ≡ also
 
 -- metadata's names are those of one key and one name
-one_meta : (key other : List (List ℕ)) (name also : List ℕ) → IsTrue (list_all is_segment key) → IsTrue (list_all has_short_name key) → IsTrue (list_all is_segment other) → IsTrue (list_all has_short_name other) → 0 < length key → 0 < length other
+one_meta : (key other : List (List ℕ)) (name also : List ℕ) → IsTrue (list_all is_segment key) → IsTrue (list_all has_short_name key)
+    → IsTrue (list_all is_segment other) → IsTrue (list_all has_short_name other) → 0 < length key → 0 < length other
     → meta_names key name ≡ meta_names other also → OneMeta key other name also
 one_meta [] other name also v s w t some more is = absurd (omega arith)
 one_meta (x ∷ key) [] name also v s w t some more is = absurd (omega arith)
@@ -104,8 +105,10 @@ one_meta (x ∷ []) (y ∷ []) name also v s w t some more is =
     let ws = and_parts (is_segment y) true w in
     let ts = and_parts (has_short_name y) true t in
     let head : file_name x ++ 46 ∷ name ≡ file_name y ++ 46 ∷ also = cc is in
-    let parts = split_one 46 (file_name x) (file_name y) name also (lacks_dot (file_name x) (segment_bytes x vs.0)) (lacks_dot (file_name y) (segment_bytes y ws.0)) head in
-    let first : x ≡ y = segment_one (file_name x) x y (file_named x vs.0 ss.0) (subst (λ (l : List ℕ). IsFileNameOf l y) (sym parts.0) (file_named y ws.0 ts.0)) in
+    let parts = split_one 46 (file_name x) (file_name y) name also (lacks_dot (file_name x) (segment_bytes x vs.0))
+    (lacks_dot (file_name y) (segment_bytes y ws.0)) head in
+    let first : x ≡ y = segment_one (file_name x) x y (file_named x vs.0 ss.0) (subst (λ (l : List ℕ). IsFileNameOf l y) (sym parts.0) (file_named y ws.0 ts.0))
+    in
     record { keys = ap (λ (z : List ℕ). z ∷ []) first; names = parts.1 }
 one_meta (x ∷ []) (y ∷ z ∷ other) name also v s w t some more is = absurd (one_long (file_name x ++ 46 ∷ name) (file_name y) z other also is)
   where
@@ -134,7 +137,7 @@ tail_of a p q is = cc is
 two_of : (a t u : List ℕ) (p q : Names) → a ∷ t ∷ p ≡ a ∷ u ∷ q → (t ≡ u) × (p ≡ q)
 two_of a t u p q is = (cc is, cc is)
 
--- Metadata stands at a key.
+-- Metadata is at a key.
 pub meta_valid : (k : List (List ℕ)) (n : List ℕ) → IsTrue (is_place (Meta k n)) → IsTrue (is_key k)
 meta_valid k n valid = (and_parts (is_key k) (is_meta_name n) valid).0
 
@@ -146,12 +149,15 @@ one_place (Live k) (Live q) v w is =
     let a = key_segments k v in
     let b = key_segments q w in
     ap Live (names_one k q a.0 a.1 b.0 b.1 (tail_of (codes "live") (names_of k) (names_of q) is))
-one_place (Live k) (Meta q n) v w is = absurd (no_meta k q n (key_segments k v).0 (key_length q (meta_valid q n w)).0 (tail_of (codes "live") (names_of k) (meta_names q n) is))
-one_place (Meta k n) (Live q) v w is = absurd (no_meta q k n (key_segments q w).0 (key_length k (meta_valid k n v)).0 (sym (tail_of (codes "live") (meta_names k n) (names_of q) is)))
+one_place (Live k) (Meta q n) v w is = absurd (no_meta k q n (key_segments k v).0 (key_length q (meta_valid q n w)).0
+    (tail_of (codes "live") (names_of k) (meta_names q n) is))
+one_place (Meta k n) (Live q) v w is = absurd (no_meta q k n (key_segments q w).0 (key_length k (meta_valid k n v)).0
+    (sym (tail_of (codes "live") (meta_names k n) (names_of q) is)))
 one_place (Meta k n) (Meta q r) v w is =
     let a = key_segments k (meta_valid k n v) in
     let b = key_segments q (meta_valid q r w) in
-    let one = one_meta k q n r a.0 a.1 b.0 b.1 (key_length k (meta_valid k n v)).0 (key_length q (meta_valid q r w)).0 (tail_of (codes "live") (meta_names k n) (meta_names q r) is) in
+    let one = one_meta k q n r a.0 a.1 b.0 b.1 (key_length k (meta_valid k n v)).0 (key_length q (meta_valid q r w)).0
+    (tail_of (codes "live") (meta_names k n) (meta_names q r) is) in
     let key : k ≡ q = one.keys in
     let name : n ≡ r = one.names in
     λ i. Meta (key i) (name i)

@@ -1,4 +1,4 @@
--- What stands at each place after something is put into a map or taken out of it.
+-- What is at each place after something is put into a map or taken out of it.
 use Rattle.std.proofs.Common.{◌≡◌, Option, Some, None, Bool, true, false, cond, ◌&&◌, refl, ap, ◌∙◌, option_map}
 use Rattle.std.specs.declared.cmp.Ordering.{Ordering}
 use Rattle.std.specs.Ordering.{eq_by_cmp}
@@ -25,8 +25,12 @@ module _ {K X : Type 0} {R : K → K → Ordering} (total : IsTotalOrder R) (f :
   taken_at m k q = ap (λ (o : Option X). option_map f o) (get-remove total m k q) ∙ map_cond f (eq_by_cmp R q k) None (get m q)
 
 module _ {K N X : Type 0} {R : K → K → Ordering} {S : N → N → Ordering} (total : IsTotalOrder R) (names : IsTotalOrder S) (f : X → Value) where
-  pub put_in : (m : FinMap R (FinMap S X)) (k q : K) (n r : N) (x : X) → option_map f (value_at (with_value m k n x) q r) ≡ cond (eq_by_cmp R q k && eq_by_cmp S r n) (Some (f x)) (option_map f (value_at m q r))
-  put_in m k q n r x = ap (λ (o : Option X). option_map f o) (value_at-with total names m k q n r x) ∙ map_two f (eq_by_cmp R q k) (eq_by_cmp S r n) (Some x) (value_at m q r)
+  pub put_in : (m : FinMap R (FinMap S X)) (k q : K) (n r : N) (x : X) → option_map f (value_at (with_value m k n x) q r) ≡ cond
+      (eq_by_cmp R q k && eq_by_cmp S r n) (Some (f x)) (option_map f (value_at m q r))
+  put_in m k q n r x = ap (λ (o : Option X). option_map f o) (value_at-with total names m k q n r x)
+      ∙ map_two f (eq_by_cmp R q k) (eq_by_cmp S r n) (Some x) (value_at m q r)
 
-  pub taken_in : (m : FinMap R (FinMap S X)) (k q : K) (n r : N) → option_map f (value_at (without_value m k n) q r) ≡ cond (eq_by_cmp R q k && eq_by_cmp S r n) None (option_map f (value_at m q r))
-  taken_in m k q n r = ap (λ (o : Option X). option_map f o) (value_at-without total names m k q n r) ∙ map_two f (eq_by_cmp R q k) (eq_by_cmp S r n) None (value_at m q r)
+  pub taken_in : (m : FinMap R (FinMap S X)) (k q : K) (n r : N) → option_map f (value_at (without_value m k n) q r) ≡ cond (eq_by_cmp R q k && eq_by_cmp S r n)
+      None (option_map f (value_at m q r))
+  taken_in m k q n r = ap (λ (o : Option X). option_map f o) (value_at-without total names m k q n r)
+      ∙ map_two f (eq_by_cmp R q k) (eq_by_cmp S r n) None (value_at m q r)

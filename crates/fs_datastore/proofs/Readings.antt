@@ -32,17 +32,27 @@ use Rattle.settings_tree.proofs.Contents.{weak_put}
 
 -- ---- what may be weak stays so
 
-all_weak : (m : FinMap key_cmp Scalar) (k : List (List ℕ)) (v : Scalar) (listed : Option (List (List (List ℕ)))) → MatchOption listed ⊤ (λ keys. All (MayBeWeak m) keys) → MatchOption listed ⊤ (λ keys. All (MayBeWeak (insert m k v)) keys)
+all_weak : (m : FinMap key_cmp Scalar) (k : List (List ℕ)) (v : Scalar) (listed : Option (List (List (List ℕ))))
+    → MatchOption listed ⊤ (λ keys. All (MayBeWeak m) keys) → MatchOption listed ⊤ (λ keys. All (MayBeWeak (insert m k v)) keys)
 all_weak m k v None may = tt
 all_weak m k v (Some keys) may = λ i d low. weak_put m k v (slice_index_or keys i d) (may i d low)
 
 -- ---- the rules
 
-pub value_rules : (f : Found) (k : List (List ℕ)) (v : Scalar) (now : FinMap key_cmp Scalar) → rule.Fits f.values k → now ≡ insert f.values k v → KeepsRules f → KeepsRules (record f { values = now })
+pub value_rules : (f : Found) (k : List (List ℕ)) (v : Scalar) (now : FinMap key_cmp Scalar) → rule.Fits f.values k → now ≡ insert f.values k v → KeepsRules f
+    → KeepsRules (record f { values = now })
 value_rules f k v now fits is rules = subst (λ (m : FinMap key_cmp Scalar). KeepsRules (record f { values = m })) (sym is)
-    (record { free = put_free f.values k v rules.free fits; full = rules.full; named = rules.named; pending = rules.pending; weak = all_weak f.values k v f.weak rules.weak })
+    (record {
+      free = put_free f.values k v rules.free fits;
+      full = rules.full;
+      named = rules.named;
+      pending = rules.pending;
+      weak =
+          all_weak f.values k v f.weak rules.weak;
+    })
 
-pub meta_rules : (f : Found) (k : List (List ℕ)) (name : List ℕ) (v : Scalar) (now : FinMap key_cmp (FinMap bytes_cmp Scalar)) → IsTrue (is_place (Meta k name)) → now ≡ with_value f.metadata k name v → KeepsRules f → KeepsRules (record f { metadata = now })
+pub meta_rules : (f : Found) (k : List (List ℕ)) (name : List ℕ) (v : Scalar) (now : FinMap key_cmp (FinMap bytes_cmp Scalar)) → IsTrue (is_place (Meta k name))
+    → now ≡ with_value f.metadata k name v → KeepsRules f → KeepsRules (record f { metadata = now })
 meta_rules f k name v now valid is rules = subst (λ (m : FinMap key_cmp (FinMap bytes_cmp Scalar)). KeepsRules (record f { metadata = m })) (sym is)
     (record {
       free = rules.free;
@@ -52,7 +62,8 @@ meta_rules f k name v now valid is rules = subst (λ (m : FinMap key_cmp (FinMap
       weak = rules.weak;
     })
 
-pub pending_rules : (f : Found) (tx : List ℕ) (k : List (List ℕ)) (v : Pending) (now : FinMap bytes_cmp (FinMap key_cmp Pending)) → rule.Fits (inner f.pending tx) k → now ≡ with_value f.pending tx k v → KeepsRules f → KeepsRules (record f { pending = now })
+pub pending_rules : (f : Found) (tx : List ℕ) (k : List (List ℕ)) (v : Pending) (now : FinMap bytes_cmp (FinMap key_cmp Pending))
+    → rule.Fits (inner f.pending tx) k → now ≡ with_value f.pending tx k v → KeepsRules f → KeepsRules (record f { pending = now })
 pending_rules f tx k v now fits is rules = subst (λ (m : FinMap bytes_cmp (FinMap key_cmp Pending)). KeepsRules (record f { pending = m })) (sym is)
     (record {
       free = rules.free;
@@ -74,7 +85,9 @@ weak_rules f ks may rules = record { free = rules.free; full = rules.full; named
 -- ---- one more file
 
 module _ (f : Found) (others : Files) (bytes : List ℕ) (says : Says others f) where
-  more : (p : Place) → IsTrue (is_place p) → (v : Value) → Spells bytes v → (g : Found) → g.told ≡ f.told → ((q : Place) → written.with_value (what_found f) p (Some v) q ≡ what_found g q) → KeepsRules g → Says (with_node others (path_of p) (Some (file bytes))) g
+  more : (p : Place) → IsTrue (is_place p) → (v : Value) → Spells bytes v → (g : Found) → g.told ≡ f.told
+      → ((q : Place) → written.with_value (what_found f) p (Some v) q ≡ what_found g q) → KeepsRules g
+      → Says (with_node others (path_of p) (Some (file bytes))) g
   more p valid v spelled g told alike rules = record {
     shows = subst (λ (t : Bool). Shows (with_node others (path_of p) (Some (file bytes))) (what_found g) t) (sym told)
         (shows_alike (with_node others (path_of p) (Some (file bytes))) (written.with_value (what_found f) p (Some v)) (what_found g) f.told alike
@@ -82,9 +95,12 @@ module _ (f : Found) (others : Files) (bytes : List ℕ) (says : Says others f) 
     rules = rules;
   }
 
-  pub value_read : (k : List (List ℕ)) (v : Scalar) (now : FinMap key_cmp Scalar) → IsTrue (is_key k) → Spells bytes (live v) → rule.Fits f.values k → now ≡ insert f.values k v → Says (with_node others (path_of (Live k)) (Some (file bytes))) (record f { values = now })
-  value_read k v now valid spelled fits is = subst (λ (m : FinMap key_cmp Scalar). Says (with_node others (path_of (Live k)) (Some (file bytes))) (record f { values = m })) (sym is)
-      (more (Live k) valid (live v) spelled (record f { values = insert f.values k v }) refl alike (value_rules f k v (insert f.values k v) fits refl says.rules))
+  pub value_read : (k : List (List ℕ)) (v : Scalar) (now : FinMap key_cmp Scalar) → IsTrue (is_key k) → Spells bytes (live v) → rule.Fits f.values k
+      → now ≡ insert f.values k v → Says (with_node others (path_of (Live k)) (Some (file bytes))) (record f { values = now })
+  value_read k v now valid spelled fits is = subst (λ (m : FinMap key_cmp Scalar). Says (with_node others (path_of (Live k)) (Some (file bytes)))
+      (record f { values = m })) (sym is)
+      (more (Live k) valid (live v) spelled (record f { values = insert f.values k v }) refl alike
+      (value_rules f k v (insert f.values k v) fits refl says.rules))
     where
       alike : (q : Place) → written.with_value (what_found f) (Live k) (Some (live v)) q ≡ what_found (record f { values = insert f.values k v }) q
       alike (Live q) = sym (put_at key_total live f.values k q v)
@@ -94,11 +110,16 @@ module _ (f : Found) (others : Files) (bytes : List ℕ) (says : Says others f) 
       alike TheImage = refl
       alike TheWeak = refl
 
-  pub meta_read : (k : List (List ℕ)) (name : List ℕ) (v : Scalar) (now : FinMap key_cmp (FinMap bytes_cmp Scalar)) → IsTrue (is_place (Meta k name)) → Spells bytes (live v) → now ≡ with_value f.metadata k name v → Says (with_node others (path_of (Meta k name)) (Some (file bytes))) (record f { metadata = now })
-  meta_read k name v now valid spelled is = subst (λ (m : FinMap key_cmp (FinMap bytes_cmp Scalar)). Says (with_node others (path_of (Meta k name)) (Some (file bytes))) (record f { metadata = m })) (sym is)
-      (more (Meta k name) valid (live v) spelled (record f { metadata = with_value f.metadata k name v }) refl alike (meta_rules f k name v (with_value f.metadata k name v) valid refl says.rules))
+  pub meta_read : (k : List (List ℕ)) (name : List ℕ) (v : Scalar) (now : FinMap key_cmp (FinMap bytes_cmp Scalar)) → IsTrue (is_place (Meta k name))
+      → Spells bytes (live v) → now ≡ with_value f.metadata k name v → Says (with_node others (path_of (Meta k name)) (Some (file bytes)))
+      (record f { metadata = now })
+  meta_read k name v now valid spelled is = subst (λ (m : FinMap key_cmp (FinMap bytes_cmp Scalar)). Says
+      (with_node others (path_of (Meta k name)) (Some (file bytes))) (record f { metadata = m })) (sym is)
+      (more (Meta k name) valid (live v) spelled (record f { metadata = with_value f.metadata k name v }) refl alike
+      (meta_rules f k name v (with_value f.metadata k name v) valid refl says.rules))
     where
-      alike : (q : Place) → written.with_value (what_found f) (Meta k name) (Some (live v)) q ≡ what_found (record f { metadata = with_value f.metadata k name v }) q
+      alike : (q : Place) → written.with_value (what_found f) (Meta k name) (Some (live v)) q ≡ what_found
+          (record f { metadata = with_value f.metadata k name v }) q
       alike (Live q) = refl
       alike (Meta q n) = sym (put_in key_total bytes_total live f.metadata k q name n v)
       alike (Pend t q) = refl
@@ -106,11 +127,16 @@ module _ (f : Found) (others : Files) (bytes : List ℕ) (says : Says others f) 
       alike TheImage = refl
       alike TheWeak = refl
 
-  pub pending_read : (tx : List ℕ) (k : List (List ℕ)) (v : Pending) (now : FinMap bytes_cmp (FinMap key_cmp Pending)) → IsTrue (is_place (Pend tx k)) → Spells bytes (pending v) → rule.Fits (inner f.pending tx) k → now ≡ with_value f.pending tx k v → Says (with_node others (path_of (Pend tx k)) (Some (file bytes))) (record f { pending = now })
-  pending_read tx k v now valid spelled fits is = subst (λ (m : FinMap bytes_cmp (FinMap key_cmp Pending)). Says (with_node others (path_of (Pend tx k)) (Some (file bytes))) (record f { pending = m })) (sym is)
-      (more (Pend tx k) valid (pending v) spelled (record f { pending = with_value f.pending tx k v }) refl alike (pending_rules f tx k v (with_value f.pending tx k v) fits refl says.rules))
+  pub pending_read : (tx : List ℕ) (k : List (List ℕ)) (v : Pending) (now : FinMap bytes_cmp (FinMap key_cmp Pending)) → IsTrue (is_place (Pend tx k))
+      → Spells bytes (pending v) → rule.Fits (inner f.pending tx) k → now ≡ with_value f.pending tx k v
+      → Says (with_node others (path_of (Pend tx k)) (Some (file bytes))) (record f { pending = now })
+  pending_read tx k v now valid spelled fits is = subst (λ (m : FinMap bytes_cmp (FinMap key_cmp Pending)). Says
+      (with_node others (path_of (Pend tx k)) (Some (file bytes))) (record f { pending = m })) (sym is)
+      (more (Pend tx k) valid (pending v) spelled (record f { pending = with_value f.pending tx k v }) refl alike
+      (pending_rules f tx k v (with_value f.pending tx k v) fits refl says.rules))
     where
-      alike : (q : Place) → written.with_value (what_found f) (Pend tx k) (Some (pending v)) q ≡ what_found (record f { pending = with_value f.pending tx k v }) q
+      alike : (q : Place) → written.with_value (what_found f) (Pend tx k) (Some (pending v)) q ≡ what_found (record f { pending = with_value f.pending tx k v })
+          q
       alike (Live q) = refl
       alike (Meta q n) = refl
       alike (Pend t q) = sym (put_in bytes_total key_total pending f.pending tx t k q v)
@@ -138,7 +164,8 @@ module _ (f : Found) (others : Files) (bytes : List ℕ) (says : Says others f) 
     alike TheImage = refl
     alike TheWeak = refl
 
-  pub weak_read : (ks : List (List (List ℕ))) → Spells bytes (weak ks) → All (MayBeWeak f.values) ks → Says (with_node others (path_of TheWeak) (Some (file bytes))) (record f { weak = Some ks })
+  pub weak_read : (ks : List (List (List ℕ))) → Spells bytes (weak ks) → All (MayBeWeak f.values) ks
+      → Says (with_node others (path_of TheWeak) (Some (file bytes))) (record f { weak = Some ks })
   weak_read ks spelled may = more TheWeak refl (weak ks) spelled (record f { weak = Some ks }) refl alike (weak_rules f ks may says.rules) where
     alike : (q : Place) → written.with_value (what_found f) TheWeak (Some (weak ks)) q ≡ what_found (record f { weak = Some ks }) q
     alike (Live q) = refl

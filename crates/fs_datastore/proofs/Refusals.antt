@@ -1,4 +1,4 @@
--- Files that are refused may not stand behind the others.
+-- Files that are refused may not come after the others.
 use Rattle.std.proofs.Common.{◌≡◌, ℕ, List, slice_index_or, Option, Some, None, IsSome, Bool, false, refl, sym, ◌∙◌, subst, option_map}
 use Rattle.std.specs.Prelude.{IsTrue, All}
 use Rattle.std.specs.FinMap.{get}
@@ -26,7 +26,8 @@ use Rattle.fs_datastore.proofs.Spelled.{spells_one}
 pub no_live : (others : Files) (p : Place) (bytes : List ℕ) → ((v : Value) → IsTrue (is_for p v) → Spells bytes v → ⊥) → Takes others p bytes → ⊥
 no_live others p bytes none t = none t.value t.kind t.spelled
 
-pub no_pending : (bytes : List ℕ) (t : List ℕ) (k : List (List ℕ)) → ((p : Pending) → Spells bytes (pending p) → ⊥) → (v : Value) → IsTrue (is_for (Pend t k) v) → Spells bytes v → ⊥
+pub no_pending : (bytes : List ℕ) (t : List ℕ) (k : List (List ℕ)) → ((p : Pending) → Spells bytes (pending p) → ⊥) → (v : Value) → IsTrue (is_for (Pend t k) v)
+    → Spells bytes v → ⊥
 no_pending bytes t k none (live s) for is = false≢true for
 no_pending bytes t k none (pending p) for is = none p is
 no_pending bytes t k none (owed o) for is = false≢true for
@@ -80,5 +81,7 @@ module _ (f : Found) (others : Files) (bytes : List ℕ) (says : Says others f) 
       at : HaveFiles others (weak ks) → All (MayBeWeak f.values) ks
       at have = λ i d low. let h = have i d low in may_from (slice_index_or ks i d) h.0 h.1
 
-  pub not_weak_where : (ks list : List (List (List ℕ))) (b : Bool) → Spells bytes (weak ks) → list ≡ ks → b ≡ false → (All (MayBeWeak f.values) list → IsTrue b) → Takes others TheWeak bytes → ⊥
-  not_weak_where ks list b spelled same is tells t = not_weak ks spelled (λ may. false≢true (sym is ∙ tells (subst (λ (l : List (List (List ℕ))). All (MayBeWeak f.values) l) (sym same) may))) t
+  pub not_weak_where : (ks list : List (List (List ℕ))) (b : Bool) → Spells bytes (weak ks) → list ≡ ks → b ≡ false → (All (MayBeWeak f.values) list → IsTrue b)
+      → Takes others TheWeak bytes → ⊥
+  not_weak_where ks list b spelled same is tells t = not_weak ks spelled
+      (λ may. false≢true (sym is ∙ tells (subst (λ (l : List (List (List ℕ))). All (MayBeWeak f.values) l) (sym same) may))) t

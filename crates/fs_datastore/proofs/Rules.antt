@@ -28,7 +28,8 @@ unique m free k q one other meets = by (is_prefix k q) refl where
   by false is = sym (free.alone q k other one (grind (arith, meets, is)))
 
 -- so one of two that clash has nothing
-apart_in : {X : Type 0} (g : X → Value) (m : FinMap key_cmp X) → IsPrefixFree m → (k q : List (List ℕ)) → k ≢ q → IsTrue (overlaps k q) → IsSome (option_map g (get m k)) → option_map g (get m q) ≡ None
+apart_in : {X : Type 0} (g : X → Value) (m : FinMap key_cmp X) → IsPrefixFree m → (k q : List (List ℕ)) → k ≢ q → IsTrue (overlaps k q)
+    → IsSome (option_map g (get m k)) → option_map g (get m q) ≡ None
 apart_in g m free k q differ meets some = by (get m q) refl where
   some_of : {X : Type 0} (g : X → Value) (o : Option X) → IsSome (option_map g o) → IsSome o
   some_of g None none = absurd (false≢true none)
@@ -48,7 +49,8 @@ for_some_at : Place → Option Value → Type 0
 for_some_at p None = ⊤
 for_some_at p (Some w) = IsTrue (is_for p w)
 
-of_kind : {X : Type 0} (p : Place) (g : X → Value) → ((x : X) → IsTrue (is_for p (g x))) → (o : Option X) (v : Value) → option_map g o ≡ Some v → IsTrue (is_for p v)
+of_kind : {X : Type 0} (p : Place) (g : X → Value) → ((x : X) → IsTrue (is_for p (g x))) → (o : Option X) (v : Value) → option_map g o ≡ Some v
+    → IsTrue (is_for p v)
 unfolding for_some_at
 of_kind p g all None v is = absurd (cc is)
 of_kind p g all (Some x) v is = subst (for_some_at p) is (all x)
@@ -67,12 +69,15 @@ weak_is : (ks : List (List (List ℕ))) (keys : List (List (List ℕ))) → Some
 unfolding weak_in
 weak_is ks keys is = ap (λ (o : Option Value). weak_in o []) is
 
-are_live : (m : FinMap key_cmp Scalar) (what : Place → Option Value) → ((k : List (List ℕ)) → what (Live k) ≡ option_map live (get m k)) → (ks : List (List (List ℕ))) → All (MayBeWeak m) ks → AreLive what ks
+are_live : (m : FinMap key_cmp Scalar) (what : Place → Option Value) → ((k : List (List ℕ)) → what (Live k) ≡ option_map live (get m k))
+    → (ks : List (List (List ℕ))) → All (MayBeWeak m) ks → AreLive what ks
 are_live m what same ks may = λ i d low.
     let one = may i d low in
     (one.setting, subst IsSome (sym (same (slice_index_or ks i d))) (some_live (get m (slice_index_or ks i d)) one.stands))
 
-listed_live : (m : FinMap key_cmp Scalar) (what : Place → Option Value) → ((k : List (List ℕ)) → what (Live k) ≡ option_map live (get m k)) → (listed : Option (List (List (List ℕ)))) → MatchOption listed ⊤ (λ ks. All (MayBeWeak m) ks) → (keys : List (List (List ℕ))) → option_map weak listed ≡ Some (weak keys) → AreLive what keys
+listed_live : (m : FinMap key_cmp Scalar) (what : Place → Option Value) → ((k : List (List ℕ)) → what (Live k) ≡ option_map live (get m k))
+    → (listed : Option (List (List (List ℕ)))) → MatchOption listed ⊤ (λ ks. All (MayBeWeak m) ks) → (keys : List (List (List ℕ)))
+    → option_map weak listed ≡ Some (weak keys) → AreLive what keys
 listed_live m what same None may keys is = absurd (cc is)
 listed_live m what same (Some ks) may keys is = subst (AreLive what) (weak_is ks keys is) (are_live m what same ks may)
 
@@ -90,13 +95,20 @@ found_rules f rules = record { kinds = kinds; apart = apart; weak = listed_live 
 
   apart : (p q : Place) → Clash p q → IsSome (what_found f p) → what_found f q ≡ None
   apart (Live k) (Live q) clash some = apart_in live f.values rules.free k q clash.0 clash.1 some
-  apart (Pend t k) (Pend u q) clash some = subst (λ (w : List ℕ). option_map pending (value_at f.pending w q) ≡ None) clash.0 (apart_in pending (inner f.pending t) (rules.pending.rule t) k q clash.1 clash.2 some)
+  apart (Pend t k) (Pend u q) clash some = subst (λ (w : List ℕ). option_map pending (value_at f.pending w q) ≡ None) clash.0
+      (apart_in pending (inner f.pending t) (rules.pending.rule t) k q clash.1 clash.2 some)
   apart _ _ clash some = absurd clash
 
 -- ---- what is held
 
-pub held_rules : (h : Held) (told : Bool) (listed : Option (List (List (List ℕ)))) → IsContent h.live → IsPending h.pending → IsListed told listed h.live.weak → KeepRules (value_in h listed)
-held_rules h told listed content keeps is = record { kinds = kinds; apart = apart; weak = listed_live h.live.values (value_in h listed) (λ k. refl) listed (by listed is) } where
+pub held_rules : (h : Held) (told : Bool) (listed : Option (List (List (List ℕ)))) → IsContent h.live → IsPending h.pending → IsListed told listed h.live.weak
+    → KeepRules (value_in h listed)
+held_rules h told listed content keeps is = record {
+  kinds = kinds;
+  apart = apart;
+  weak =
+      listed_live h.live.values (value_in h listed) (λ k. refl) listed (by listed is);
+} where
   by : (listed : Option (List (List (List ℕ)))) → IsListed told listed h.live.weak → MatchOption listed ⊤ (λ ks. All (MayBeWeak h.live.values) ks)
   by None none = tt
   by (Some ks) same = subst (All (MayBeWeak h.live.values)) same content.weak
@@ -111,5 +123,6 @@ held_rules h told listed content keeps is = record { kinds = kinds; apart = apar
 
   apart : (p q : Place) → Clash p q → IsSome (value_in h listed p) → value_in h listed q ≡ None
   apart (Live k) (Live q) clash some = apart_in live h.live.values content.rule k q clash.0 clash.1 some
-  apart (Pend t k) (Pend u q) clash some = subst (λ (w : List ℕ). option_map pending (value_at h.pending w q) ≡ None) clash.0 (apart_in pending (inner h.pending t) (keeps.rule t) k q clash.1 clash.2 some)
+  apart (Pend t k) (Pend u q) clash some = subst (λ (w : List ℕ). option_map pending (value_at h.pending w q) ≡ None) clash.0
+      (apart_in pending (inner h.pending t) (keeps.rule t) k q clash.1 clash.2 some)
   apart _ _ clash some = absurd clash

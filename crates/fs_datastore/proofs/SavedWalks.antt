@@ -1,5 +1,6 @@
--- Walks through maps that save what stands there.
-use Rattle.std.proofs.Common.{◌≡◌, ◌&&◌, ◌<◌, ℕ, List, length, Option, Some, None, IsSome, is_some, unwrap_or, Bool, true, false, cond, Ok, refl, sym, ap, ◌∙◌, subst}
+-- Walks through maps that save what is there.
+use Rattle.std.proofs.Common.{◌≡◌, ◌&&◌, ◌<◌, ℕ, List, length, Option, Some, None, IsSome, is_some}
+use Rattle.std.proofs.Common.{unwrap_or, Bool, true, false, cond, Ok, refl, sym, ap, ◌∙◌, subst}
 use Rattle.std.specs.Prelude.{option_map, option_and_then}
 use Rattle.std.specs.declared.cmp.Ordering.{Ordering}
 use Rattle.std.specs.declared.cmp.Ordering.TheVariants.{Less, Equal, Greater}
@@ -21,7 +22,8 @@ use Rattle.settings_tree.specs.Change.{Live, Meta, Pend}
 use Rattle.settings_tree.specs.Walks.{is_past, entries_past}
 use Rattle.settings_tree.proofs.Walks.{past_test, past_fact, walk_falls}
 use Rattle.fs_datastore.specs.Values.{Value, live, pending}
-use Rattle.fs_datastore.specs.Saving.{Values, or_else, put_over, value_at_place, live_values, names_of_key, all_metadata, keys_of_transaction, all_pending, SavesTo}
+use Rattle.fs_datastore.specs.Saving.{Values, or_else, put_over, value_at_place, live_values}
+use Rattle.fs_datastore.specs.Saving.{names_of_key, all_metadata, keys_of_transaction, all_pending, SavesTo}
 use Rattle.fs_datastore.proofs.Savings.{saved_none, saved_alike, saved_then, none_else}
 
 -- the values of the places that a walk has passed
@@ -37,7 +39,8 @@ pub record IsOf {K X : Type 0} {R : K → K → Ordering} (key_of : Place → Op
   pub outside : (q : Place) → key_of q ≡ None → whole q ≡ None
   pub lacks : (q : Place) (k : K) → key_of q ≡ Some k → get m k ≡ None → whole q ≡ None
 
-module _ {K X : Type 0} {R : K → K → Ordering} (total : IsTotalOrder R) (same : IsAntisymmetric R) (key_of : Place → Option K) (m : FinMap R X) (whole : Values) (of : IsOf key_of m whole) where
+module _ {K X : Type 0} {R : K → K → Ordering} (total : IsTotalOrder R) (same : IsAntisymmetric R) (key_of : Place → Option K) (m : FinMap R X) (whole : Values)
+    (of : IsOf key_of m whole) where
   -- at first no place is passed
   none_passed : (q : Place) → up_to R key_of None whole q ≡ None
   none_passed q = by (key_of q) where
@@ -49,15 +52,17 @@ module _ {K X : Type 0} {R : K → K → Ordering} (total : IsTotalOrder R) (sam
   past_later None k j past less = tt
   past_later (Some a) k j past less = total.trans a k j past less
 
-  -- where nothing stands behind a key that is not yet passed, nothing is to be saved
-  none_there : (after : Option K) (q : Place) (j : K) → key_of q ≡ Some j → (IsPast R after j → get m j ≡ None) → cond (is_past R after j) None (whole q) ≡ whole q
+  -- where nothing comes after a key that is not yet passed, nothing is to be saved
+  none_there : (after : Option K) (q : Place) (j : K) → key_of q ≡ Some j → (IsPast R after j → get m j ≡ None)
+      → cond (is_past R after j) None (whole q) ≡ whole q
   none_there after q j at none = by (is_past R after j) refl where
     by : (b : Bool) → is_past R after j ≡ b → cond b None (whole q) ≡ whole q
     by true past = sym (of.lacks q j at (none (past_fact R after j past)))
     by false past = refl
 
-  -- with those at the least key behind the last one more places are passed
-  more_passed : (after : Option K) (k : K) → IsLeastKeyAfter m after k → (q : Place) → or_else (only_at R key_of k whole q) (up_to R key_of after whole q) ≡ up_to R key_of (Some k) whole q
+  -- with those at the least key after the last one more places are passed
+  more_passed : (after : Option K) (k : K) → IsLeastKeyAfter m after k → (q : Place) → or_else (only_at R key_of k whole q) (up_to R key_of after whole q) ≡
+      up_to R key_of (Some k) whole q
   more_passed after k next q = by (key_of q) refl where
     later : (a b c : Bool) (v : Option Value) → a ≡ false → b ≡ true → c ≡ true → or_else (cond a v None) (cond b None v) ≡ cond c None v
     later true b c v e f g = absurd (false≢true (sym e))
@@ -83,12 +88,17 @@ module _ {K X : Type 0} {R : K → K → Ordering} (total : IsTotalOrder R) (sam
     back : (j : K) (r : Ordering) → R k j ≡ r → R j k ≡ ordering_reverse r
     back j r is = total.antisymm j k ∙ ap ordering_reverse is
 
-    at_key : (j : K) (r : Ordering) → R k j ≡ r → key_of q ≡ Some j → or_else (cond (eq_by_cmp R j k) (whole q) None) (cond (is_past R after j) None (whole q)) ≡ cond (is_lt (R k j)) None (whole q)
-    at_key j Less is at = later (eq_by_cmp R j k) (is_past R after j) (is_lt (R k j)) (whole q) (ap is_eq (back j Less is)) (past_test R after j (past_later after k j next.past is)) (ap is_lt is)
-    at_key j Equal is at = here (eq_by_cmp R j k) (is_past R after j) (is_lt (R k j)) (whole q) (ap is_eq (back j Equal is)) (past_test R after j (subst (λ (x : K). IsPast R after x) (same k j is) next.past)) (ap is_lt is)
-    at_key j Greater is at = earlier (eq_by_cmp R j k) (is_lt (R k j)) (cond (is_past R after j) None (whole q)) (whole q) (ap is_eq (back j Greater is)) (ap is_lt is) (none_there after q j at (none_at j (get m j) refl is))
+    at_key : (j : K) (r : Ordering) → R k j ≡ r → key_of q ≡ Some j → or_else (cond (eq_by_cmp R j k) (whole q) None) (cond (is_past R after j) None (whole q))
+        ≡ cond (is_lt (R k j)) None (whole q)
+    at_key j Less is at = later (eq_by_cmp R j k) (is_past R after j) (is_lt (R k j)) (whole q) (ap is_eq (back j Less is))
+        (past_test R after j (past_later after k j next.past is)) (ap is_lt is)
+    at_key j Equal is at = here (eq_by_cmp R j k) (is_past R after j) (is_lt (R k j)) (whole q) (ap is_eq (back j Equal is))
+        (past_test R after j (subst (λ (x : K). IsPast R after x) (same k j is) next.past)) (ap is_lt is)
+    at_key j Greater is at = earlier (eq_by_cmp R j k) (is_lt (R k j)) (cond (is_past R after j) None (whole q)) (whole q) (ap is_eq (back j Greater is))
+        (ap is_lt is) (none_there after q j at (none_at j (get m j) refl is))
 
-    by : (o : Option K) → key_of q ≡ o → or_else (option_and_then (λ j. cond (eq_by_cmp R j k) (whole q) None) o) (option_and_then (λ j. cond (is_past R after j) None (whole q)) o) ≡ option_and_then (λ j. cond (is_lt (R k j)) None (whole q)) o
+    by : (o : Option K) → key_of q ≡ o → or_else (option_and_then (λ j. cond (eq_by_cmp R j k) (whole q) None) o)
+        (option_and_then (λ j. cond (is_past R after j) None (whole q)) o) ≡ option_and_then (λ j. cond (is_lt (R k j)) None (whole q)) o
     by None is = refl
     by (Some j) is = at_key j (R k j) refl is
 
@@ -104,20 +114,24 @@ module _ {K X : Type 0} {R : K → K → Ordering} (total : IsTotalOrder R) (sam
     pub walk_none : (a : Option History) → Moves a a (SavesTo {E = E} dir (up_to R key_of None whole) (Ok tt))
     walk_none a = saved_none dir (up_to R key_of None whole) a none_passed
 
-    -- what stands at the least key behind the last one is saved
-    pub walk_more : (after : Option K) (k : K) (step : Values) (done : Unit) (a b c : Option History) → IsLeastKeyAfter m after k → ((q : Place) → step q ≡ only_at R key_of k whole q)
-        → Moves a b (SavesTo {E = E} dir (up_to R key_of after whole) (Ok tt)) → Moves b c (SavesTo {E = E} dir step (Ok done)) → Moves a c (SavesTo {E = E} dir (up_to R key_of (Some k) whole) (Ok tt))
+    -- what is at the least key after the last one is saved
+    pub walk_more : (after : Option K) (k : K) (step : Values) (done : Unit) (a b c : Option History) → IsLeastKeyAfter m after k
+        → ((q : Place) → step q ≡ only_at R key_of k whole q)
+        → Moves a b (SavesTo {E = E} dir (up_to R key_of after whole) (Ok tt)) → Moves b c (SavesTo {E = E} dir step (Ok done))
+        → Moves a c (SavesTo {E = E} dir (up_to R key_of (Some k) whole) (Ok tt))
     walk_more after k step done a b c next is m n =
         saved_alike dir (put_over step (up_to R key_of after whole)) (up_to R key_of (Some k) whole) (Ok tt) a c
         (λ q. ap (λ (v : Option Value). or_else v (up_to R key_of after whole q)) (is q) ∙ more_passed after k next q)
         (saved_then dir (up_to R key_of after whole) step tt (Ok done) a b c m n)
 
     -- all is saved
-    pub walk_all : (after : Option K) (a b : Option History) → HasNoneAfter m after → Moves a b (SavesTo {E = E} dir (up_to R key_of after whole) (Ok tt)) → Moves a b (SavesTo {E = E} dir whole (Ok tt))
+    pub walk_all : (after : Option K) (a b : Option History) → HasNoneAfter m after → Moves a b (SavesTo {E = E} dir (up_to R key_of after whole) (Ok tt))
+        → Moves a b (SavesTo {E = E} dir whole (Ok tt))
     walk_all after a b end m = saved_alike dir (up_to R key_of after whole) whole (Ok tt) a b (all_passed after end) m
 
 -- what is left gets less
-pub key_falls : {K X : Type 0} {R : K → K → Ordering} → IsTotalOrder R → IsAntisymmetric R → (m : FinMap R X) (after : Option K) (k : K) → IsLeastKeyAfter m after k → length (entries_past m (Some k)) < length (entries_past m after)
+pub key_falls : {K X : Type 0} {R : K → K → Ordering} → IsTotalOrder R → IsAntisymmetric R → (m : FinMap R X) (after : Option K) (k : K)
+    → IsLeastKeyAfter m after k → length (entries_past m (Some k)) < length (entries_past m after)
 key_falls {X = X} total same m after k next = by (get m k) refl next.stands where
   by : (o : Option X) → get m k ≡ o → IsSome o → length (entries_past m (Some k)) < length (entries_past m after)
   by None is some = absurd (false≢true some)
@@ -168,7 +182,8 @@ live_of m = record { outside = outside; lacks = lacks } where
   lacks (Live j) k is none = ap (option_map live) (ap (get m) (some_key j k is) ∙ none)
   lacks _ k is none = refl
 
-pub live_step : (m : FinMap key_cmp Scalar) (k : List (List ℕ)) (x : Scalar) → get m k ≡ Some x → (q : Place) → value_at_place (Live k) (live x) q ≡ only_at key_cmp live_key k (live_values m) q
+pub live_step : (m : FinMap key_cmp Scalar) (k : List (List ℕ)) (x : Scalar) → get m k ≡ Some x → (q : Place)
+    → value_at_place (Live k) (live x) q ≡ only_at key_cmp live_key k (live_values m) q
 live_step m k x at (Live j) = by (eq_by_cmp key_cmp j k) refl where
   by : (b : Bool) → eq_by_cmp key_cmp j k ≡ b → cond b (Some (live x)) None ≡ cond b (option_map live (get m j)) None
   by true is = ap (option_map live) (sym (ap (get m) (keys_same j k is) ∙ at))
@@ -193,13 +208,16 @@ names_of at m = record { outside = outside; lacks = lacks } where
   lacks _ k is none = refl
 
 -- one of two places at this name
-step_in : {K : Type 0} (R : K → K → Ordering) (a b : Bool) (j : K) (x : Value) (v : Option Value) (at : K) → eq_by_cmp R j at ≡ b → (b ≡ true → Some x ≡ v) → cond (a && b) (Some x) None ≡ option_and_then (λ i. cond (eq_by_cmp R i at) (cond a v None) None) (cond a (Some j) None)
+step_in : {K : Type 0} (R : K → K → Ordering) (a b : Bool) (j : K) (x : Value) (v : Option Value) (at : K) → eq_by_cmp R j at ≡ b → (b ≡ true → Some x ≡ v)
+    → cond (a && b) (Some x) None ≡ option_and_then (λ i. cond (eq_by_cmp R i at) (cond a v None) None) (cond a (Some j) None)
 step_in R true true j x v at is same = same refl ∙ sym (ap (λ (b : Bool). cond b v None) is)
 step_in R true false j x v at is same = sym (ap (λ (b : Bool). cond b v None) is)
 step_in R false b j x v at is same = refl
 
-pub names_step : (at : List (List ℕ)) (m : FinMap bytes_cmp Scalar) (k : List ℕ) (x : Scalar) → get m k ≡ Some x → (q : Place) → value_at_place (Meta at k) (live x) q ≡ only_at bytes_cmp (name_at at) k (names_of_key at m) q
-names_step at m k x here (Meta j n) = step_in bytes_cmp (eq_by_cmp key_cmp j at) (eq_by_cmp bytes_cmp n k) n (live x) (option_map live (get m n)) k refl (λ is. ap (option_map live) (sym (ap (get m) (names_same n k is) ∙ here)))
+pub names_step : (at : List (List ℕ)) (m : FinMap bytes_cmp Scalar) (k : List ℕ) (x : Scalar) → get m k ≡ Some x → (q : Place)
+    → value_at_place (Meta at k) (live x) q ≡ only_at bytes_cmp (name_at at) k (names_of_key at m) q
+names_step at m k x here (Meta j n) = step_in bytes_cmp (eq_by_cmp key_cmp j at) (eq_by_cmp bytes_cmp n k) n (live x) (option_map live (get m n)) k refl
+    (λ is. ap (option_map live) (sym (ap (get m) (names_same n k is) ∙ here)))
 names_step at m k x here _ = refl
 
 -- ---- metadata by key
@@ -219,7 +237,8 @@ metadata_of m = record { outside = outside; lacks = lacks } where
   lacks (Meta j n) k is none = ap (option_map live) (sym (none_in m j n (sym (ap (get m) (some_key j k is) ∙ none))))
   lacks _ k is none = refl
 
-pub metadata_step : (m : FinMap key_cmp (FinMap bytes_cmp Scalar)) (k : List (List ℕ)) → (q : Place) → names_of_key k (inner m k) q ≡ only_at key_cmp meta_key k (all_metadata m) q
+pub metadata_step : (m : FinMap key_cmp (FinMap bytes_cmp Scalar)) (k : List (List ℕ)) → (q : Place)
+    → names_of_key k (inner m k) q ≡ only_at key_cmp meta_key k (all_metadata m) q
 metadata_step m k (Meta j n) = by (eq_by_cmp key_cmp j k) refl where
   by : (b : Bool) → eq_by_cmp key_cmp j k ≡ b → cond b (option_map live (get (inner m k) n)) None ≡ cond b (option_map live (value_at m j n)) None
   by true is = ap (λ (i : List (List ℕ)). option_map live (value_at m i n)) (sym (keys_same j k is))
@@ -240,11 +259,14 @@ keys_of at m = record { outside = outside; lacks = lacks } where
   outside _ is = refl
 
   lacks : (q : Place) (k : List (List ℕ)) → key_in at q ≡ Some k → get m k ≡ None → keys_of_transaction at m q ≡ None
-  lacks (Pend t j) k is none = chosen_some (eq_by_cmp bytes_cmp t at) j k (option_map pending (get m j)) is (λ same. ap (option_map pending) (ap (get m) same ∙ none))
+  lacks (Pend t j) k is none = chosen_some (eq_by_cmp bytes_cmp t at) j k (option_map pending (get m j)) is
+      (λ same. ap (option_map pending) (ap (get m) same ∙ none))
   lacks _ k is none = refl
 
-pub keys_step : (at : List ℕ) (m : FinMap key_cmp Pending) (k : List (List ℕ)) (x : Pending) → get m k ≡ Some x → (q : Place) → value_at_place (Pend at k) (pending x) q ≡ only_at key_cmp (key_in at) k (keys_of_transaction at m) q
-keys_step at m k x here (Pend t j) = step_in key_cmp (eq_by_cmp bytes_cmp t at) (eq_by_cmp key_cmp j k) j (pending x) (option_map pending (get m j)) k refl (λ is. ap (option_map pending) (sym (ap (get m) (keys_same j k is) ∙ here)))
+pub keys_step : (at : List ℕ) (m : FinMap key_cmp Pending) (k : List (List ℕ)) (x : Pending) → get m k ≡ Some x → (q : Place)
+    → value_at_place (Pend at k) (pending x) q ≡ only_at key_cmp (key_in at) k (keys_of_transaction at m) q
+keys_step at m k x here (Pend t j) = step_in key_cmp (eq_by_cmp bytes_cmp t at) (eq_by_cmp key_cmp j k) j (pending x) (option_map pending (get m j)) k refl
+    (λ is. ap (option_map pending) (sym (ap (get m) (keys_same j k is) ∙ here)))
 keys_step at m k x here _ = refl
 
 -- ---- pending maps by transaction
@@ -264,9 +286,11 @@ pending_of m = record { outside = outside; lacks = lacks } where
   lacks (Pend t j) k is none = ap (option_map pending) (sym (none_in m t j (sym (ap (get m) (some_name t k is) ∙ none))))
   lacks _ k is none = refl
 
-pub pending_step : (m : FinMap bytes_cmp (FinMap key_cmp Pending)) (t : List ℕ) (keys : FinMap key_cmp Pending) → get m t ≡ Some keys → (q : Place) → keys_of_transaction t keys q ≡ only_at bytes_cmp pending_tx t (all_pending m) q
+pub pending_step : (m : FinMap bytes_cmp (FinMap key_cmp Pending)) (t : List ℕ) (keys : FinMap key_cmp Pending) → get m t ≡ Some keys → (q : Place)
+    → keys_of_transaction t keys q ≡ only_at bytes_cmp pending_tx t (all_pending m) q
 pending_step m t keys at (Pend u k) = by (eq_by_cmp bytes_cmp u t) refl where
   by : (b : Bool) → eq_by_cmp bytes_cmp u t ≡ b → cond b (option_map pending (get keys k)) None ≡ cond b (option_map pending (value_at m u k)) None
-  by true is = ap (λ (i : FinMap key_cmp Pending). option_map pending (get i k)) (sym (ap (λ (o : Option (FinMap key_cmp Pending)). unwrap_or o empty) (ap (get m) (names_same u t is) ∙ at)))
+  by true is = ap (λ (i : FinMap key_cmp Pending). option_map pending (get i k))
+      (sym (ap (λ (o : Option (FinMap key_cmp Pending)). unwrap_or o empty) (ap (get m) (names_same u t is) ∙ at)))
   by false is = refl
 pending_step m t keys at _ = refl

@@ -1,5 +1,6 @@
 -- Files are saved below a directory, one after another.
-use Rattle.std.proofs.Common.{◌≡◌, ℕ, List, ◌∷◌, ◌++◌, codes, Option, Some, None, IsSome, Bool, true, false, cond, inl, inr, Result, Ok, Err, OnOk, refl, sym, ap, ◌∙◌, subst}
+use Rattle.std.proofs.Common.{◌≡◌, ℕ, List, ◌∷◌, ◌++◌, codes, Option, Some, None, IsSome, Bool, true}
+use Rattle.std.proofs.Common.{false, cond, inl, inr, Result, Ok, Err, OnOk, refl, sym, ap, ◌∙◌, subst}
 use Rattle.std.specs.Prelude.{IsTrue, IsErr}
 use Rattle.std.proofs.lemmas.Bool.{false≢true}
 use Rattle.outside.specs.Names.{Names}
@@ -46,11 +47,14 @@ below dir TheImage path is = (_, _, is)
 below dir TheWeak path is = (_, _, is)
 
 -- the files after a write below the directory
-written : (dir at path : Names) (bytes : List ℕ) (old new : History) → path ≡ dir ++ at → new ≡ next (scribbled path (Some (file bytes))) old → with_node (files_below dir (tree_of old)) at (Some (file bytes)) ≡ files_below dir (tree_of new)
-written dir at path bytes old new here is = sym (ap (λ (t : Tree). files_below dir t) (ap tree_of is ∙ ap (λ (q : Names). set_node (tree_of old) q (Some (file bytes))) here) ∙ files_below-set_node dir (tree_of old) at (Some (file bytes)))
+written : (dir at path : Names) (bytes : List ℕ) (old new : History) → path ≡ dir ++ at → new ≡ next (scribbled path (Some (file bytes))) old
+    → with_node (files_below dir (tree_of old)) at (Some (file bytes)) ≡ files_below dir (tree_of new)
+written dir at path bytes old new here is = sym (ap (λ (t : Tree). files_below dir t)
+    (ap tree_of is ∙ ap (λ (q : Names). set_node (tree_of old) q (Some (file bytes))) here) ∙ files_below-set_node dir (tree_of old) at (Some (file bytes)))
 
 -- a write touches its path alone
-touched : {E : Type 0} (dir path : Names) (bytes : List ℕ) (result : Result Unit E) (old new : History) → IsBelow dir path → Writes path bytes result old new → Touches (IsBelow dir) old new
+touched : {E : Type 0} (dir path : Names) (bytes : List ℕ) (result : Result Unit E) (old new : History) → IsBelow dir path → Writes path bytes result old new
+    → Touches (IsBelow dir) old new
 touched dir path bytes (Ok done) old new here is = goes_one (IsAtOrSync (IsBelow dir)) old new (scribbled path (Some (file bytes))) is here
 touched dir path bytes (Err e) old new here (inl is) = goes_none (IsAtOrSync (IsBelow dir)) old new is
 touched dir path bytes (Err e) old new here (inr (found, kind, is)) = goes_one (IsAtOrSync (IsBelow dir)) old new (scribbled path found) is here
@@ -61,15 +65,21 @@ with_one what p v q = by (is_same q p) where
   by true = refl
   by false = refl
 
-one_saved : {E : Type 0} (dir : Names) (p : Place) (v : Value) (path : Names) (bytes : List ℕ) (result : Result Unit E) (old new : History) → IsTrue (is_place p) → path ≡ dir ++ path_of p → Spells bytes v → Writes path bytes result old new → OnOk result ((what : Values) (told : Bool) → Shows (files_below dir (tree_of old)) what told → Shows (files_below dir (tree_of new)) (put_over (value_at_place p v) what) told)
+one_saved : {E : Type 0} (dir : Names) (p : Place) (v : Value) (path : Names) (bytes : List ℕ) (result : Result Unit E) (old new : History)
+    → IsTrue (is_place p) → path ≡ dir ++ path_of p → Spells bytes v → Writes path bytes result old new
+    → OnOk result ((what : Values) (told : Bool) → Shows (files_below dir (tree_of old)) what told
+    → Shows (files_below dir (tree_of new)) (put_over (value_at_place p v) what) told)
 one_saved dir p v path bytes (Ok done) old new valid at spelled is = λ what told shows.
     subst (λ (f : Files). Shows f (put_over (value_at_place p v) what) told) (written dir (path_of p) path bytes old new at is)
-    (shows_alike (with_node (files_below dir (tree_of old)) (path_of p) (Some (file bytes))) (with_value what p (Some v)) (put_over (value_at_place p v) what) told (with_one what p v)
+    (shows_alike (with_node (files_below dir (tree_of old)) (path_of p) (Some (file bytes))) (with_value what p (Some v)) (put_over (value_at_place p v) what)
+    told (with_one what p v)
     (shows_with (files_below dir (tree_of old)) p valid (Some (file bytes)) what told (Some v) shows (bytes, refl, spelled)))
 one_saved dir p v path bytes (Err e) old new valid at spelled is = tt
 
 -- the file of a value is written at its place
-pub file_saved : {E : Type 0} (dir : Names) (p : Place) (v : Value) (path : Names) (bytes : List ℕ) (result : Result Unit E) (a b : Option History) → IsTrue (is_place p) → path ≡ dir ++ path_of p → Spells bytes v → Moves a b (Writes path bytes result) → Moves a b (SavesTo dir (value_at_place p v) result)
+pub file_saved : {E : Type 0} (dir : Names) (p : Place) (v : Value) (path : Names) (bytes : List ℕ) (result : Result Unit E) (a b : Option History)
+    → IsTrue (is_place p) → path ≡ dir ++ path_of p → Spells bytes v → Moves a b (Writes path bytes result)
+    → Moves a b (SavesTo dir (value_at_place p v) result)
 file_saved dir p v path bytes result a b valid at spelled m = moves_map (λ old new is. record {
   touches = touched dir path bytes result old new (below dir p path at) is;
   shows = one_saved dir p v path bytes result old new valid at spelled is;
@@ -95,8 +105,10 @@ module _ (files : Files) (what : Values) (told : Bool) (shows : Shows files what
     format = with_node_here files format_path two format_path refl;
   }
 
-tells : {E : Type 0} (dir path : Names) (result : Result Unit E) (old new : History) → path ≡ dir ++ format_path → Writes path (codes "2") result old new → OnOk result ((what : Values) (told : Bool) → Shows (files_below dir (tree_of old)) what told → Shows (files_below dir (tree_of new)) what true)
-tells dir path (Ok done) old new at is = λ what told shows. subst (λ (f : Files). Shows f what true) (written dir format_path path (codes "2") old new at is) (format_shows (files_below dir (tree_of old)) what told shows)
+tells : {E : Type 0} (dir path : Names) (result : Result Unit E) (old new : History) → path ≡ dir ++ format_path → Writes path (codes "2") result old new
+    → OnOk result ((what : Values) (told : Bool) → Shows (files_below dir (tree_of old)) what told → Shows (files_below dir (tree_of new)) what true)
+tells dir path (Ok done) old new at is = λ what told shows. subst (λ (f : Files). Shows f what true) (written dir format_path path (codes "2") old new at is)
+    (format_shows (files_below dir (tree_of old)) what told shows)
 tells dir path (Err e) old new at is = tt
 
 -- it is not written
@@ -107,7 +119,8 @@ format_not dir result a fails = moves_stay (λ h. unwritten result h fails) wher
   unwritten (Err e) h fails = record { touches = goes_stay (IsAtOrSync (IsBelow dir)) h; shows = tt }
 
 -- it is written
-pub format_saved : {E : Type 0} (dir path : Names) (result : Result Unit E) (a b : Option History) → path ≡ dir ++ format_path → Moves a b (Writes path (codes "2") result) → Moves a b (TellsFormat dir result)
+pub format_saved : {E : Type 0} (dir path : Names) (result : Result Unit E) (a b : Option History) → path ≡ dir ++ format_path
+    → Moves a b (Writes path (codes "2") result) → Moves a b (TellsFormat dir result)
 format_saved dir path result a b at m = moves_map (λ old new is. record {
   touches = touched dir path (codes "2") result old new (_, _, at) is;
   shows = tells dir path result old new at is;
@@ -130,37 +143,47 @@ module _ {E : Type 0} (dir : Names) where
   pub saved_none : (more : Values) (a : Option History) → ((p : Place) → more p ≡ None) → Moves a a (SavesTo {E = E} dir more (Ok tt))
   saved_none more a none = moves_stay (λ h. record {
     touches = goes_stay (IsAtOrSync (IsBelow dir)) h;
-    shows = λ what told shows. shows_alike (files_below dir (tree_of h)) what (put_over more what) told (λ p. ap (λ (v : Option Value). or_else v (what p)) (sym (none p))) shows;
+    shows = λ what told shows. shows_alike (files_below dir (tree_of h)) what (put_over more what) told
+        (λ p. ap (λ (v : Option Value). or_else v (what p)) (sym (none p))) shows;
   })
 
-  alike : (first all : Values) (result : Result Unit E) (old new : History) → ((p : Place) → first p ≡ all p) → SavesTo dir first result old new → SavesTo dir all result old new
+  alike : (first all : Values) (result : Result Unit E) (old new : History) → ((p : Place) → first p ≡ all p) → SavesTo dir first result old new
+      → SavesTo dir all result old new
   alike first all (Ok done) old new same s = record {
     touches = s.touches;
-    shows = λ what told shows. shows_alike (files_below dir (tree_of new)) (put_over first what) (put_over all what) told (λ p. ap (λ (v : Option Value). or_else v (what p)) (same p)) (s.shows what told shows);
+    shows = λ what told shows. shows_alike (files_below dir (tree_of new)) (put_over first what) (put_over all what) told
+        (λ p. ap (λ (v : Option Value). or_else v (what p)) (same p)) (s.shows what told shows);
   }
   alike first all (Err e) old new same s = record { touches = s.touches; shows = tt }
 
   -- the same values are saved
-  pub saved_alike : (first all : Values) (result : Result Unit E) (a b : Option History) → ((p : Place) → first p ≡ all p) → Moves a b (SavesTo dir first result) → Moves a b (SavesTo dir all result)
+  pub saved_alike : (first all : Values) (result : Result Unit E) (a b : Option History) → ((p : Place) → first p ≡ all p)
+      → Moves a b (SavesTo dir first result) → Moves a b (SavesTo dir all result)
   saved_alike first all result a b same m = moves_map (λ old new s. alike first all result old new same s) m
 
-  both : (first then : Values) (done : Unit) (result : Result Unit E) (old mid new : History) → SavesTo {E = E} dir first (Ok done) old mid → SavesTo dir then result mid new → SavesTo dir (put_over then first) result old new
+  both : (first then : Values) (done : Unit) (result : Result Unit E) (old mid new : History) → SavesTo {E = E} dir first (Ok done) old mid
+      → SavesTo dir then result mid new → SavesTo dir (put_over then first) result old new
   both first then done (Ok also) old mid new s t = record {
     touches = goes_joined (IsAtOrSync (IsBelow dir)) old mid new s.touches t.touches;
-    shows = λ what told shows. shows_alike (files_below dir (tree_of new)) (put_over then (put_over first what)) (put_over (put_over then first) what) told (λ p. either_first (then p) (first p) (what p)) (t.shows (put_over first what) told (s.shows what told shows));
+    shows = λ what told shows. shows_alike (files_below dir (tree_of new)) (put_over then (put_over first what)) (put_over (put_over then first) what) told
+        (λ p. either_first (then p) (first p) (what p)) (t.shows (put_over first what) told (s.shows what told shows));
   }
   both first then done (Err e) old mid new s t = record { touches = goes_joined (IsAtOrSync (IsBelow dir)) old mid new s.touches t.touches; shows = tt }
 
   -- values are saved after others
-  pub saved_then : (first then : Values) (done : Unit) (result : Result Unit E) (a b c : Option History) → Moves a b (SavesTo {E = E} dir first (Ok done)) → Moves b c (SavesTo dir then result) → Moves a c (SavesTo dir (put_over then first) result)
+  pub saved_then : (first then : Values) (done : Unit) (result : Result Unit E) (a b c : Option History) → Moves a b (SavesTo {E = E} dir first (Ok done))
+      → Moves b c (SavesTo dir then result) → Moves a c (SavesTo dir (put_over then first) result)
   saved_then first then done result a b c m n = moves_then (λ old mid new s t. both first then done result old mid new s t) m n
 
   -- not all is saved
-  pub saved_fails : (first all : Values) (e : E) (result : Result Unit E) (a b : Option History) → IsErr result → Moves a b (SavesTo dir first (Err e)) → Moves a b (SavesTo dir all result)
+  pub saved_fails : (first all : Values) (e : E) (result : Result Unit E) (a b : Option History) → IsErr result → Moves a b (SavesTo dir first (Err e))
+      → Moves a b (SavesTo dir all result)
   saved_fails first all e result a b fails m = moves_map (λ old new s. unsaved all result old new fails s.touches) m
 
   -- not all is saved after others
-  pub saved_later : (first then all : Values) (done : Unit) (e : E) (result : Result Unit E) (a b c : Option History) → IsErr result → Moves a b (SavesTo {E = E} dir first (Ok done)) → Moves b c (SavesTo dir then (Err e)) → Moves a c (SavesTo dir all result)
-  saved_later first then all done e result a b c fails m n = saved_fails (put_over then first) all e result a c fails (saved_then first then done (Err e) a b c m n)
+  pub saved_later : (first then all : Values) (done : Unit) (e : E) (result : Result Unit E) (a b c : Option History) → IsErr result
+      → Moves a b (SavesTo {E = E} dir first (Ok done)) → Moves b c (SavesTo dir then (Err e)) → Moves a c (SavesTo dir all result)
+  saved_later first then all done e result a b c fails m n = saved_fails (put_over then first) all e result a c fails
+      (saved_then first then done (Err e) a b c m n)
 
 pub ruleset saving = (saved_not, saved_fails, saved_later)

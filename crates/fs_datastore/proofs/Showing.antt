@@ -37,10 +37,12 @@ module _ (files : Files) (p : Place) (valid : IsTrue (is_place p)) (node : Optio
   node_other q apart = by (is_place q) refl where
     by : (b : Bool) → is_place q ≡ b → cond b (more (path_of q)) None ≡ cond b (files (path_of q)) None
     by false is = refl
-    by true is = with_node_other files (path_of p) node (path_of q) (other_path (path_of q) (path_of p) (λ same. false≢true (sym apart ∙ ap (λ (r : Place). is_same r p) (one_place q p is valid same) ∙ same_itself p)))
+    by true is = with_node_other files (path_of p) node (path_of q) (other_path (path_of q) (path_of p)
+        (λ same. false≢true (sym apart ∙ ap (λ (r : Place). is_same r p) (one_place q p is valid same) ∙ same_itself p)))
 
   -- files with one more, which is that of a value, or without it
-  pub shows_with : (what : Place → Option Value) (told : Bool) (value : Option Value) → Shows files what told → IsFileOf value node → Shows more (with_value what p value) told
+  pub shows_with : (what : Place → Option Value) (told : Bool) (value : Option Value) → Shows files what told → IsFileOf value node
+      → Shows more (with_value what p value) told
   shows_with what told value shows is = record {
     named = λ name rest there. elim (path_cases (name ∷ rest) (path_of p)) [
       | inl here ↦ inr (p, valid, here)
@@ -64,7 +66,8 @@ module _ (files : Files) (p : Place) (valid : IsTrue (is_place p)) (node : Optio
           (subst (λ (n : Option Node). IsFileOf (what q) n) (sym (node_other q apart)) (shows.places q))
 
 -- values that are alike are shown alike
-pub shows_alike : (files : Files) (what other : Place → Option Value) (told : Bool) → ((p : Place) → what p ≡ other p) → Shows files what told → Shows files other told
+pub shows_alike : (files : Files) (what other : Place → Option Value) (told : Bool) → ((p : Place) → what p ≡ other p) → Shows files what told
+    → Shows files other told
 shows_alike files what other told same shows = record {
   named = shows.named;
   places = λ p. subst (λ (v : Option Value). IsFileOf v (node_of files p)) (same p) (shows.places p);
@@ -72,7 +75,8 @@ shows_alike files what other told same shows = record {
 }
 
 -- so are files that are alike below the directory
-pub shows_below : (files others : Files) (what : Place → Option Value) (told : Bool) → ((name : List ℕ) (rest : Names) → files (name ∷ rest) ≡ others (name ∷ rest)) → Shows files what told → Shows others what told
+pub shows_below : (files others : Files) (what : Place → Option Value) (told : Bool)
+    → ((name : List ℕ) (rest : Names) → files (name ∷ rest) ≡ others (name ∷ rest)) → Shows files what told → Shows others what told
 shows_below files others what told same shows = record {
   named = λ name rest there. shows.named name rest (subst IsSome (sym (same name rest)) there);
   places = λ p. subst (λ (n : Option Node). IsFileOf (what p) n) (nodes p) (shows.places p);

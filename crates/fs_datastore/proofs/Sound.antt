@@ -54,7 +54,14 @@ node_in (Some n) d = n
 pub shown : (value : Option Value) (found : Option Node) (node : Node) → IsFileOf value found → found ≡ Some node → Told value node
 unfolding node_in
 shown None found node is there = absurd (cc (is, there))
-shown (Some v) found node is there = record { is = v; value_is = refl; bytes = is.0; node_is = ap (λ (o : Option Node). node_in o node) (sym there ∙ is.1); spelled = is.2 }
+shown (Some v) found node is there = record {
+  is = v;
+  value_is = refl;
+  bytes = is.0;
+  node_is =
+      ap (λ (o : Option Node). node_in o node) (sym there ∙ is.1);
+  spelled = is.2;
+}
 
 -- ---- earlier files
 
@@ -82,7 +89,8 @@ module _ (files : Files) (what : Place → Option Value) (told : Bool) (shows : 
     at (Pend t k) is for = absurd (false≢true for)
     at TheOwed is for = absurd (false≢true for)
     at TheImage is for = absurd (false≢true for)
-    at TheWeak is for = λ i d low. let may = rules.weak keys is i d low in (may.0, subst IsSome (sym (before_weak files (slice_index_or keys i d))) (some_there _ _ (shows.places (Live (slice_index_or keys i d))) may.1))
+    at TheWeak is for = λ i d low. let may = rules.weak keys is i d low in
+        (may.0, subst IsSome (sym (before_weak files (slice_index_or keys i d))) (some_there _ _ (shows.places (Live (slice_index_or keys i d))) may.1))
 
   fits_format : (told : Bool) (node : Node) → format_node told ≡ Some node → Fits (before format_path files) format_path node
   unfolding node_in
@@ -97,15 +105,19 @@ module _ (files : Files) (what : Place → Option Value) (told : Bool) (shows : 
         value = t.is;
         kind = rules.kinds p t.is t.value_is;
         spelled = t.spelled;
-        apart = λ q clash. before_none (path_of p) files q (none_there (what q) (node_of files q) (shows.places q) (rules.apart p q clash (subst IsSome (sym t.value_is) refl)));
+        apart = λ q clash. before_none (path_of p) files q (none_there (what q) (node_of files q) (shows.places q)
+            (rules.apart p q clash (subst IsSome (sym t.value_is) refl)));
         files = have_files p t.is t.value_is;
       })
 
   fits_named : (path : Names) (node : Node) → files path ≡ Some node → IsNamed path → Fits (before path files) path node
-  fits_named path node there (inl is) = subst (λ (q : Names). Fits (before q files) q node) (sym is) (fits_format told node (sym shows.format ∙ ap files (sym is) ∙ there))
-  fits_named path node there (inr (p, valid, is)) = subst (λ (q : Names). Fits (before q files) q node) (sym is) (fits_place p node valid (ap files (sym is) ∙ there))
+  fits_named path node there (inl is) = subst (λ (q : Names). Fits (before q files) q node) (sym is)
+      (fits_format told node (sym shows.format ∙ ap files (sym is) ∙ there))
+  fits_named path node there (inr (p, valid, is)) = subst (λ (q : Names). Fits (before q files) q node) (sym is)
+      (fits_place p node valid (ap files (sym is) ∙ there))
 
   -- no path is damaged
   pub sound : HasNoDamage files
   sound path d =
-      d.unfit (fits_named path d.node d.there (subst IsNamed (sym d.path_is) (shows.named d.name d.rest (subst IsSome (sym (ap files (sym d.path_is) ∙ d.there)) refl))))
+      d.unfit (fits_named path d.node d.there (subst IsNamed (sym d.path_is)
+      (shows.named d.name d.rest (subst IsSome (sym (ap files (sym d.path_is) ∙ d.there)) refl))))

@@ -34,7 +34,8 @@ text_of (item.Int n) = []
 text_of (item.Text t) = t
 
 -- items are those of one list of keys
-pub items_one : (keys others : List (List (List ℕ))) → IsTrue (list_all is_key keys) → IsTrue (list_all is_key others) → key_items keys ≡ key_items others → keys ≡ others
+pub items_one : (keys others : List (List (List ℕ))) → IsTrue (list_all is_key keys) → IsTrue (list_all is_key others) → key_items keys ≡ key_items others
+    → keys ≡ others
 unfolding text_of
 items_one [] [] v w is = refl
 items_one [] (q ∷ others) v w is = absurd (cc is)

@@ -49,7 +49,7 @@ pub record WritesDown (change : List Entry) (entries : List journal.Entry) : Typ
   pub each : (entry : Entry) → Contains change entry → IsNamed entries (path_of (place entry))
   pub only : All (IsFileIn change) entries
 
--- Laid over files that stand for what is held, the entries stand for it with the change laid, where the change may be laid.
+-- Laid over files that represent what is held, the entries represent it with the change laid, where the change may be laid.
 pub record Follows (change : List Entry) (entries : List journal.Entry) : Type 0 where
   pub stands : (files : Files) (held : Held) (format : ℕ) → Stands files held format
       → state.KeepsPrefixRule (state.laid held change) → state.NamesWeak held change → state.TellsWeak held change
@@ -101,4 +101,5 @@ pub record AreFilesOf (entries : List Entry) (written : BTreeMap Names (Option (
   pub each : (entry : Entry) → Contains entries entry → IsSome (get path_cmp written (path_of (place entry)))
   pub only : (path : Names) (bytes : Option (List ℕ)) → get path_cmp written path ≡ Some bytes → IsFileIn entries (path, bytes)
   pub valid : All (λ entry. IsTrue (is_place (place entry))) entries
-  pub shows : (files : Files) (what : Place → Option Value) (told : Bool) → Shows files what told → Shows (overlaid written files) (with_entries what entries) told
+  pub shows : (files : Files) (what : Place → Option Value) (told : Bool) → Shows files what told
+      → Shows (overlaid written files) (with_entries what entries) told

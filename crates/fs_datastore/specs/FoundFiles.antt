@@ -42,7 +42,7 @@ AreFileNames [] (segment ∷ segments) = ⊥
 AreFileNames (name ∷ names) [] = ⊥
 AreFileNames (name ∷ names) (segment ∷ segments) = IsFileNameOf name segment × AreFileNames names segments
 
--- The text has the segments of these file names, each in quotes and with a dot behind it.
+-- The text has the segments of these file names, each in quotes and with a dot after it.
 pub record Quotes (names : Names) (text : List ℕ) : Type 0 where
   pub segments : List (List ℕ)
   pub named : AreFileNames names segments
@@ -90,7 +90,7 @@ pub record Says (files : Files) (found : Found) : Type 0 where
 abbrev pub StaysRuled : Found → Found → Type 0
 StaysRuled old new = KeepsRules old → KeepsRules new
 
--- The file with these bytes is read with the others, or may not stand behind them.
+-- The file with these bytes is read with the others, or may not come after them.
 abbrev pub Reads : Names → List ℕ → Found → Found → Bool → Type 0
 Reads path bytes old new true = StaysRuled old new × ((others : Files) → Says others old → Says (with_node others path (Some (file bytes))) new)
 Reads path bytes old new false = (others : Files) → Says others old → Fits others path (file bytes) → ⊥

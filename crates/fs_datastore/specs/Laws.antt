@@ -1,4 +1,4 @@
--- Laws of places, and of what files stand for.
+-- Laws of places, and of what files represent.
 use Rattle.std.specs.Prelude.{◌≡◌, ◌≢◌, ℕ, List, ◌∷◌, None, IsTrue}
 use Rattle.outside.specs.Names.{Names}
 use Rattle.commit_journal.specs.Files.{Files}
@@ -17,11 +17,11 @@ NamesOne = (one other : Place) → IsTrue (is_place one) → IsTrue (is_place ot
 abbrev pub NamesNoFormat : Type 0
 NamesNoFormat = (place : Place) → path_of place ≢ format_path
 
--- Files stand for at most one choice of what is held.
+-- Files represent at most one choice of what is held.
 abbrev pub StandsForOne : Type 0
 StandsForOne = (files : Files) (one other : Held) (format : ℕ) (also : ℕ) → Stands files one format → Stands files other also → (one ≡ other) × (format ≡ also)
 
--- Files that stand for something have no fault.
+-- Files that represent something have no fault.
 abbrev pub StandsFaultless : Type 0
 StandsFaultless = (files : Files) (held : Held) (format : ℕ) (path : Names) → Stands files held format → IsFault files path → ⊥
 
@@ -33,10 +33,10 @@ HasOneFault = (files : Files) (one other : Names) → IsFault files one → IsFa
 abbrev pub AreAlike : Files → Files → Type 0
 AreAlike one other = (name : List ℕ) (rest : Names) → one (name ∷ rest) ≡ other (name ∷ rest)
 
--- Files that are alike stand for the same.
+-- Files that are alike represent the same.
 abbrev pub StandAlike : Type 0
 StandAlike = (one other : Files) (held : Held) (format : ℕ) → AreAlike one other → Stands one held format → Stands other held format
 
--- Files that stand for something have no journal among them.
+-- Files that represent something have no journal among them.
 abbrev pub StandsWithoutJournal : Type 0
 StandsWithoutJournal = (files : Files) (held : Held) (format : ℕ) → Stands files held format → files journal ≡ None

@@ -10,7 +10,7 @@ use Rattle.fs_datastore.specs.Damage.{Fits, IsFaultBelow}
 use Rattle.fs_datastore.specs.FoundFiles.{Says, StaysRuled, no_files}
 use Rattle.fs_datastore.specs.declared.found.Found.{Found}
 
--- What stands at the path is read with the others, or is a node that may not stand behind them.
+-- What is at the path is read with the others, or is a node that may not come after them.
 abbrev pub ReadsNode : Names → Option Node → Found → Found → Bool → Type 0
 ReadsNode path node old new true = StaysRuled old new × ((others : Files) → Says others old → Says (with_node others path node) new)
 ReadsNode path node old new false = (others : Files) → Says others old → (n : Node) → node ≡ Some n → Fits others path n → ⊥
@@ -29,4 +29,5 @@ pub record ReadsFirst (paths done : List Names) (old new : Found) (history : His
 
 -- In the same way all files were read, or the path is the fault of the directory.
 pub record FindsFault (paths : List Names) (old new : Found) (fault : Option Names) (history : History) : Type 0 where
-  pub found : (dir : Names) → length dir ≡ 2 → paths ≡ paths_below dir (tree_of history) → Says no_files old → MatchOption fault (Says (files_below dir (tree_of history)) new) (IsFaultBelow dir (tree_of history))
+  pub found : (dir : Names) → length dir ≡ 2 → paths ≡ paths_below dir (tree_of history) → Says no_files old
+      → MatchOption fault (Says (files_below dir (tree_of history)) new) (IsFaultBelow dir (tree_of history))

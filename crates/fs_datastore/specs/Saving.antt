@@ -24,7 +24,7 @@ IsEmptyBelow dir tree = (name : List ℕ) (rest : Names) → files_below dir tre
 
 -- What is held is put below a directory that has nothing below it.
 pub record Saves {E : Type 0} (dir : Names) (held : Held) (result : Result Unit E) (old new : History) : Type 0 where
-  -- After Ok the files stand for it in format 2.
+  -- After Ok the files represent it in format 2.
   pub done : OnOk result (IsEmptyBelow dir (tree_of old) → Stands (files_below dir (tree_of new)) held 2)
   -- They are on the disk.
   pub settled : OnOk result (IsSettled new)
@@ -84,9 +84,10 @@ single_values held place = None
 
 -- Where the files below the directory are those of some values, they become those with more put over them.
 abbrev pub ShowsMore : Names → Values → History → History → Type 0
-ShowsMore dir more old new = (what : Values) (told : Bool) → Shows (files_below dir (tree_of old)) what told → Shows (files_below dir (tree_of new)) (put_over more what) told
+ShowsMore dir more old new = (what : Values) (told : Bool) → Shows (files_below dir (tree_of old)) what told
+    → Shows (files_below dir (tree_of new)) (put_over more what) told
 
--- Only paths below the directory were written, and after Ok these values were put over those that stood there.
+-- Only paths below the directory were written, and after Ok these values were put over those that were there.
 pub record SavesTo {E : Type 0} (dir : Names) (more : Values) (result : Result Unit E) (old new : History) : Type 0 where
   pub touches : Touches (IsBelow dir) old new
   pub shows : OnOk result (ShowsMore dir more old new)

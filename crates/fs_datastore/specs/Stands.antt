@@ -1,4 +1,4 @@
--- What the files of a data directory stand for, said path by path.
+-- What the files of a data directory represent, said path by path.
 use Rattle.std.specs.Prelude.{◌≡◌, ℕ, List, [], ◌∷◌, codes, Bool, false, Option, Some, None, IsSome, MatchOption, if◌then◌else◌}
 use Rattle.outside.specs.Names.{Names}
 use Rattle.outside.specs.Tree.{Node, file}
@@ -10,7 +10,7 @@ use Rattle.settings_tree.specs.declared.held.Held.{Held}
 use Rattle.fs_datastore.specs.Places.{path_of, is_place, format_path, IsNamed}
 use Rattle.fs_datastore.specs.Values.{Value, value_in, Spells}
 
--- What stands at the path of a place; a place that is outside its form has no path.
+-- What is at the path of a place; a place that is outside its form has no path.
 abbrev pub node_of : Files → Place → Option Node
 node_of files place = if is_place place then files (path_of place) else None
 
@@ -29,16 +29,16 @@ pub record Shows (files : Files) (what : Place → Option Value) (told : Bool) :
   pub places : (place : Place) → IsFileOf (what place) (node_of files place)
   pub format : files format_path ≡ format_node told
 
--- The file `weak` lists the weak keys; it may be missing where no format is told, and none is weak then.
+-- The file `weak` lists the weak keys; it may be missing where no file tells the format, and none is weak then.
 abbrev pub IsListed : Bool → Option (List (List (List ℕ))) → List (List (List ℕ)) → Type 0
 IsListed told listed weak = MatchOption listed ((told ≡ false) × (weak ≡ [])) (λ keys. weak ≡ keys)
 
--- The files below a data directory stand for what is held, in this format.
+-- The files below a data directory represent what is held, in this format.
 pub record Stands (files : Files) (held : Held) (format : ℕ) : Type 0 where
   pub told : Bool
   pub listed : Option (List (List (List ℕ)))
   pub shows : Shows files (value_in held listed) told
-  -- Where no format is told it is 1.
+  -- Where no file tells the format it is 1.
   pub format_is : format ≡ (if told then 2 else 1)
   pub weak_is : IsListed told listed held.live.weak
   -- What is held keeps its rules: the prefix rule, and weak keys that have a value and begin with `settings`.

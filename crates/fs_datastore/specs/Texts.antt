@@ -4,7 +4,7 @@ use Rattle.key_names.specs.Key.{printed}
 use Rattle.json_trees.specs.declared.item.Item.{Item}
 use Rattle.json_trees.specs.declared.item.Item.TheVariants as item
 
--- What is found is R, or nothing is; unless memory was wanting.
+-- What is found is R, or nothing is; unless it ran out of memory.
 pub record Finds {X E : Type 0} (R : X → Type 0) (result : Result (Option X) E) : Type 0 where
   pub found : IfOk result (λ o. MatchOption o ((x : X) → R x → ⊥) R)
 

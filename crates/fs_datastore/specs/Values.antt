@@ -1,4 +1,4 @@
--- What stands at a place, and the bytes of its file.
+-- What is at a place, and the bytes of its file.
 use Rattle.std.specs.Prelude.{◌≡◌, ℕ, List, map, codes, Bool, true, false, Option, Some, Ok, option_map}
 use Rattle.std.specs.FinMap.{get}
 use Rattle.serde_json.specs.Data.{null}
@@ -18,7 +18,7 @@ use Rattle.settings_tree.specs.declared.entry.Owed.TheVariants.{All, Keys}
 use Rattle.settings_tree.specs.declared.held.Held.{Held}
 use Rattle.settings_tree.specs.Owed.{IsKeyList, IsOwed}
 
--- What stands at a place: a live value or metadata, a pending value or removal, the owed keys, the image text, or the weak keys.
+-- What is at a place: a live value or metadata, a pending value or removal, the owed keys, the image text, or the weak keys.
 pub data Value : Type 0 where
   live : Scalar → Value
   pending : Pending → Value
@@ -60,7 +60,7 @@ Spells bytes (owed keys) = IsOwed keys × IsCompact bytes (owed_scalar keys)
 Spells bytes (image text) = bytes ≡ text
 Spells bytes (weak keys) = IsKeyList keys × IsCompact bytes (list_of keys)
 
--- The value is of the kind that stands at the place.
+-- The value is of the kind that is at the place.
 abbrev pub is_for : Place → Value → Bool
 is_for (Live key) (live value) = true
 is_for (Meta key name) (live value) = true

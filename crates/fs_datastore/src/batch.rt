@@ -63,9 +63,9 @@ fn listed(
 /// change names, the new bytes of its file or none, and no other path. A live value, metadata and pending values are
 /// written as compact JSON, a pending removal as `null`.
 ///
-/// Laid over files that stand for what is held, its entries stand for that with the change laid, in the same format,
+/// Laid over files that represent what is held, its entries represent that with the change laid, in the same format,
 /// where the change may be laid ([`Held::lay`](settings_tree::Held::lay)). It takes a logarithmic step for each entry.
-/// The only error is want of memory.
+/// The only error is out of memory.
 pub fn batch_of(alloc: Global, dir: &Path, change: &Change) -> Result<Batch, AllocError>
     requires { length dir.now ≡ 2 }
     ensures dir { IfOk result (λ batch. batch.dir ≡ dir.now) }

@@ -14,7 +14,7 @@ use outside::Path;
 use settings_tree::{Entry, KeyList, Owed};
 use std::alloc::{AllocError, Global};
 
-/// The path of the place that the entry names, behind a base of at most two names. The only error is want of memory.
+/// The path of the place that the entry names, after a base of at most two names. The only error is out of memory.
 pub(crate) fn path_of(alloc: Global, base: &Path, entry: &Entry) -> Result<Path, AllocError>
     requires base { length base.now ≤ 2 }
     requires bare { IsTrue (has_bare_name entry.now) }
@@ -68,7 +68,7 @@ fn weak_bytes(alloc: Global, keys: &KeyList) -> Result<Bytes, AllocError>
     bytes_of_text(alloc, &weak_text(alloc, keys)?)
 }
 
-/// The bytes of the file of what the entry sets, or None where it takes something away. The only error is want of
+/// The bytes of the file of what the entry sets, or None where it takes something away. The only error is out of
 /// memory.
 pub(crate) fn bytes_of(alloc: Global, entry: &Entry) -> Result<Option<Bytes>, AllocError>
     ensures bytes { IfOk result (λ bytes. bytes ≡ bytes_of entry.now) }

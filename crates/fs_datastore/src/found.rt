@@ -206,10 +206,10 @@ impl Found {
         fits
     }
 
-    /// Reads the file with these bytes, whose path below the directory has these names, behind the other files. False
-    /// where it may not stand behind them: its path is not that of exactly one thing, the bytes are outside their form,
+    /// Reads the file with these bytes, whose path below the directory has these names, after the other files. False
+    /// where it may not come after them: its path is not that of exactly one thing, the bytes are outside their form,
     /// its key breaks the prefix rule with an earlier one, or a key that it lists as weak may not be weak. What was
-    /// found is of no use then, and after want of memory, which is the only error.
+    /// found is of no use then, and after out of memory, which is the only error.
     pub fn read(
         &mut self,
         alloc: Global,

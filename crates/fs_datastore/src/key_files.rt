@@ -21,9 +21,10 @@ fn push_quoted(alloc: Global, text: &mut Vec<u8>, name: &[u8]) -> Result<bool, A
     Ok(true)
 }
 
-// The segments of these file names, each in quotes and with a dot behind it, or None where one has none.
+// The segments of these file names, each in quotes and with a dot after it, or None where one has none.
 fn quoted_names(alloc: Global, names: &[Name]) -> Result<Option<Vec<u8>>, AllocError>
-    ensures { IfOk result (λ found. MatchOption found ((segments : List (List ℕ)) → AreFileNames names.now segments → ⊥) (λ text. Quotes names.now text.items)) }
+    ensures { IfOk result (λ found. MatchOption found ((segments : List (List ℕ)) → AreFileNames names.now segments → ⊥)
+        (λ text. Quotes names.now text.items)) }
 {
     let mut text = Vec::new(alloc);
     for name in names {
@@ -48,7 +49,7 @@ fn read_key(alloc: Global, text: &[u8]) -> Result<Option<Key>, AllocError>
     }
 }
 
-/// The key whose names are the first ones and the last one, or None where there is none. The only error is want of
+/// The key whose names are the first ones and the last one, or None where there is none. The only error is out of
 /// memory.
 pub(crate) fn key_of(alloc: Global, first: &[Name], last: &[u8]) -> Result<Option<Key>, AllocError>
     ensures { Finds (IsKeyOf (first.now ++ last.now ∷ [])) result }

@@ -2,8 +2,8 @@
 ghost use Rattle.fs_datastore.specs.Laws.{NamesOne, NamesNoFormat, StandsForOne, StandAlike, StandsWithoutJournal, StandsFaultless, HasOneFault};
 
 /// The laws that the meaning of a data directory rests on: a path is that of at most one place, and that of the
-/// format is no place's; files stand for at most one choice of what is held, in one format, and those that are alike
-/// stand for the same; files that stand for something have no journal among them and no fault, and others have at most
+/// format is no place's; files represent at most one choice of what is held, in one format, and those that are alike
+/// represent the same; files that represent something have no journal among them and no fault, and others have at most
 /// one. It does nothing.
 pub fn laws()
     ensures one_place { NamesOne }

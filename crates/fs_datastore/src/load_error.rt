@@ -9,13 +9,13 @@ pub enum LoadError {
     /// The disk failed: its count of faults rose.
     #[error("the disk failed")]
     Failed,
-    /// The files stand for nothing, and this is the first path that is at fault.
+    /// The files represent nothing, and this is the first path that is at fault.
     #[error("a file of the data directory is damaged")]
     Damaged {
         /// The path of the file.
         path: Path,
     },
-    /// Want of memory.
+    /// Out of memory.
     #[error("out of memory")]
     Memory,
 }

@@ -19,7 +19,7 @@ use outside::{Disk, DiskErr, Path};
 use settings_tree::Held;
 use std::alloc::{AllocError, Global};
 
-/// What a data directory stands for.
+/// What a data directory represents.
 #[derive(Drop)]
 pub struct Loaded {
     /// What is held there.
@@ -65,7 +65,7 @@ fn read_file<D: Disk>(
     }
 }
 
-// Reads the files at these paths, one behind another, up to the first that is at fault, if there is one.
+// Reads the files at these paths, one after another, up to the first that is at fault, if there is one.
 fn first_fault<'a, D: Disk>(
     alloc: Global,
     disk: &mut D,
@@ -99,13 +99,13 @@ fn absent_path(alloc: Global, dir: &Path, absent: Absent) -> Result<Path, AllocE
     }
 }
 
-/// Reads what a data directory of two names stands for, in format 1 or 2. It lists the paths and reads each file once,
+/// Reads what a data directory of two names represents, in format 1 or 2. It lists the paths and reads each file once,
 /// and changes nothing.
 ///
-/// `Damaged` exactly where the files stand for nothing, with the path of their fault: the first path, in order, that is
+/// `Damaged` exactly where the files represent nothing, with the path of their fault: the first path, in order, that is
 /// not that of exactly one thing, holds bytes outside their form, is a link, or breaks the prefix rule with an earlier
 /// one; else `owed`, `image`, or in format 2 `weak`, where it is missing. A file `journal` is damage, so
-/// [`recover`](commit_journal::recover) comes first. `Failed` where the disk failed, `Memory` where memory is wanting.
+/// [`recover`](commit_journal::recover) comes first. `Failed` where the disk failed, `Memory` where it runs out of memory.
 pub fn load<D: Disk>(alloc: Global, disk: &mut D, dir: &Path) -> Result<Loaded, LoadError>
     requires { length dir.now ≡ 2 }
     ensures same { D.told disk.new ≡ D.told disk.old }

@@ -122,7 +122,7 @@ fn top_of(name: &[u8]) -> Option<FilePlace>
 }
 
 /// The place whose path has these names, or None where none has. It takes one pass over the names. The only error is
-/// want of memory.
+/// out of memory.
 pub(crate) fn place_of(alloc: Global, names: &[Name]) -> Result<Option<FilePlace>, AllocError>
     ensures { Finds (IsPlaceOf names.now) result }
 {

@@ -61,7 +61,7 @@ fn push_meta(alloc: Global, path: &mut Path, key: &Key, name: &[u8]) -> Result<(
     path.push_name(Name::of(bytes))
 }
 
-/// The path of the file of a live value, behind a base of at most two names. The only error is want of memory.
+/// The path of the file of a live value, after a base of at most two names. The only error is out of memory.
 pub(crate) fn live_path(alloc: Global, base: &Path, key: &Key) -> Result<Path, AllocError>
     requires { length base.now ≤ 2 }
     ensures path { IfOk result (λ path. path ≡ base.now ++ path_of (Live key.now)) }
@@ -72,7 +72,7 @@ pub(crate) fn live_path(alloc: Global, base: &Path, key: &Key) -> Result<Path, A
     Ok(path)
 }
 
-/// The path of the file of metadata, behind a base of at most two names. The only error is want of memory.
+/// The path of the file of metadata, after a base of at most two names. The only error is out of memory.
 pub(crate) fn meta_path(
     alloc: Global,
     base: &Path,
@@ -89,7 +89,7 @@ pub(crate) fn meta_path(
     Ok(path)
 }
 
-/// The path of the file of a pending value, behind a base of at most two names. The only error is want of memory.
+/// The path of the file of a pending value, after a base of at most two names. The only error is out of memory.
 pub(crate) fn pending_path(
     alloc: Global,
     base: &Path,
@@ -106,7 +106,7 @@ pub(crate) fn pending_path(
     Ok(path)
 }
 
-/// The path of one name, behind a base of at most two names. The only error is want of memory.
+/// The path of one name, after a base of at most two names. The only error is out of memory.
 pub(crate) fn top_path(alloc: Global, base: &Path, name: &[u8]) -> Result<Path, AllocError>
     requires base { length base.now ≤ 2 }
     requires valid { IsTrue (is_name name.now) }

@@ -9,7 +9,8 @@ ghost use Rattle.settings_tree.specs.Change.{Live, Meta, Pend, TheOwed, TheImage
 ghost use Rattle.settings_tree.specs.Content.{IsContent, IsNamed};
 ghost use Rattle.settings_tree.specs.Pending.{IsPending};
 ghost use Rattle.fs_datastore.specs.Values.{live, pending, owed, image, weak, value_in};
-ghost use Rattle.fs_datastore.specs.Saving.{Saves, SavesTo, TellsFormat, value_at_place, live_values, names_of_key, all_metadata, keys_of_transaction, all_pending, single_values};
+ghost use Rattle.fs_datastore.specs.Saving.{Saves, SavesTo, TellsFormat, value_at_place, live_values};
+ghost use Rattle.fs_datastore.specs.Saving.{names_of_key, all_metadata, keys_of_transaction, all_pending, single_values};
 
 use crate::place_paths::{live_path, meta_path, pending_path, top_path};
 use crate::scalar_texts::{owed_text, pending_text, weak_text};
@@ -281,8 +282,8 @@ fn save_held<D: Disk>(alloc: Global, disk: &mut D, dir: &Path, held: &Held) -> R
 /// Writes what is held into a data directory of two names with nothing below it, in format 2, and syncs at the end. It
 /// takes a logarithmic step for each file, and copies no value.
 ///
-/// After Ok the files stand for what is held in format 2, and are on the disk. After an error some of them may be there.
-/// Nothing changes elsewhere. `Failed` where the disk failed, `Memory` where memory is wanting.
+/// After Ok the files represent what is held in format 2, and are on the disk. After an error some of them may be there.
+/// Nothing changes elsewhere. `Failed` where the disk failed, `Memory` where it runs out of memory.
 #[tactic(auto, using(crate::proofs::SavedWhole::whole_saved))]
 pub fn save_all<D: Disk>(
     alloc: Global,

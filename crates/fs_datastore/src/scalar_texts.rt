@@ -33,7 +33,7 @@ fn null_text(alloc: Global) -> Result<Text, AllocError>
     Ok(text_of(writer))
 }
 
-/// The text of the file of a pending value or removal. The only error is want of memory.
+/// The text of the file of a pending value or removal. The only error is out of memory.
 pub(crate) fn pending_text(alloc: Global, value: &Pending) -> Result<Text, AllocError>
     ensures text { IfOk result (λ text. text ≡ pending_text value.now) }
     ensures spelled { IfOk result (λ text. Spells text (pending value.now)) }
@@ -63,7 +63,7 @@ fn list_of(alloc: Global, keys: &KeyList) -> Result<Scalar, AllocError>
     Ok(Scalar::List(Items::of(items)))
 }
 
-/// The text of the file `weak` of these keys. The only error is want of memory.
+/// The text of the file `weak` of these keys. The only error is out of memory.
 pub(crate) fn weak_text(alloc: Global, keys: &KeyList) -> Result<Text, AllocError>
     ensures text { IfOk result (λ text. text ≡ json_text (list_of keys.now)) }
     ensures spelled { IfOk result (λ text. Spells text (weak keys.now)) }
@@ -81,7 +81,7 @@ fn owed_scalar(alloc: Global, keys: &Owed) -> Result<Scalar, AllocError>
     }
 }
 
-/// The text of the file `owed` of these keys. The only error is want of memory.
+/// The text of the file `owed` of these keys. The only error is out of memory.
 pub(crate) fn owed_text(alloc: Global, keys: &Owed) -> Result<Text, AllocError>
     ensures text { IfOk result (λ text. text ≡ json_text (owed_scalar keys.now)) }
     ensures spelled { IfOk result (λ text. Spells text (owed keys.now)) }
@@ -91,7 +91,7 @@ pub(crate) fn owed_text(alloc: Global, keys: &Owed) -> Result<Text, AllocError>
 
 // ---- reading
 
-/// The scalar that the bytes spell, or None where they spell none. The only error is want of memory.
+/// The scalar that the bytes spell, or None where they spell none. The only error is out of memory.
 pub(crate) fn read_scalar(alloc: Global, bytes: &[u8]) -> Result<Option<Scalar>, AllocError>
     ensures { Finds (λ value. scalar_read bytes.now ≡ Ok value) result }
 {
@@ -102,7 +102,7 @@ pub(crate) fn read_scalar(alloc: Global, bytes: &[u8]) -> Result<Option<Scalar>,
     }
 }
 
-/// The pending value or removal that the bytes spell, or None where they spell none. The only error is want of
+/// The pending value or removal that the bytes spell, or None where they spell none. The only error is out of
 /// memory.
 pub(crate) fn read_pending(alloc: Global, bytes: &[u8]) -> Result<Option<Pending>, AllocError>
     ensures { Finds (λ value. Spells bytes.now (pending value)) result }
@@ -205,7 +205,7 @@ fn is_same(text: &Text, bytes: &[u8]) -> bool
 }
 
 /// The weak keys whose file these are the bytes of, or None where they are those of none. They are printed again and
-/// compared, which refuses every other spelling. The only error is want of memory.
+/// compared, which refuses every other spelling. The only error is out of memory.
 pub(crate) fn read_weak(alloc: Global, bytes: &[u8]) -> Result<Option<KeyList>, AllocError>
     ensures { Finds (λ keys. Spells bytes.now (weak keys)) result }
 {
@@ -223,7 +223,7 @@ pub(crate) fn read_weak(alloc: Global, bytes: &[u8]) -> Result<Option<KeyList>, 
 }
 
 /// The owed keys whose file these are the bytes of, or None where they are those of none. They are printed again and
-/// compared, which refuses every other spelling. The only error is want of memory.
+/// compared, which refuses every other spelling. The only error is out of memory.
 pub(crate) fn read_owed(alloc: Global, bytes: &[u8]) -> Result<Option<Owed>, AllocError>
     ensures { Finds (λ keys. Spells bytes.now (owed keys)) result }
 {

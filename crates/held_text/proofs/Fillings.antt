@@ -30,12 +30,14 @@ module _ {K X : Type 0} {R : K → K → Ordering} (as_data : K × X → Data) (
     pub each : (m : FinMap R X) → Valid m → d ≡ whole_data m → Left as_data P m done left
 
   -- At first all are left.
-  pub filling_begun : ((m : FinMap R X) → Valid m → AllByRecursion P (entries m)) → (d : Data) (vs ws : List Value) (done : FinMap R X) → as_array d ≡ Some (items_view vs) → ws ≡ vs → done ≡ empty → Filling d done (map view ws)
+  pub filling_begun : ((m : FinMap R X) → Valid m → AllByRecursion P (entries m)) → (d : Data) (vs ws : List Value) (done : FinMap R X)
+      → as_array d ≡ Some (items_view vs) → ws ≡ vs → done ≡ empty → Filling d done (map view ws)
   filling_begun sound d vs ws done read same none = record {
     each = λ m valid is. left_all as_data P m done (map view ws) (sound m valid) (ap (map view) same ∙ listed d vs (map as_data (entries m)) read is) none;
   }
 
-  module _ (o : IsTotalOrder R) (d : Data) (done : FinMap R X) (v : Value) (ws left : List Value) (next : ws ≡ v ∷ left) (filling : Filling d done (map view ws)) where
+  module _ (o : IsTotalOrder R) (d : Data) (done : FinMap R X) (v : Value) (ws left : List Value) (next : ws ≡ v ∷ left)
+      (filling : Filling d done (map view ws)) where
     -- The first of the values that are left is that of the next entry.
     one : (m : FinMap R X) → Valid m → d ≡ whole_data m → Next as_data P m done (view v) (map view left)
     one m valid is = left_next as_data P o m done (view v) (map view left) (subst (Left as_data P m done) (ap (map view) next) (filling.each m valid is))
@@ -56,17 +58,20 @@ module _ {K X : Type 0} {R : K → K → Ordering} (as_data : K × X → Data) (
           subst (λ (w : FinMap R X). Left as_data P m w (map view left)) (sym (put ∙ ap (λ (e : K × X). insert done e.0 e.1) same)) n.after;
     }
 
-    -- Where it was not read memory was wanting.
+    -- Where it was not read, it ran out of memory.
     pub filling_refused : (e : HeldError) → Reads P as_data (view v) (Err e) → (m : FinMap R X) → Valid m → d ≡ whole_data m → e ≡ Memory
     filling_refused e reads m valid is = let n = one m valid is in reads.finds (n.key, n.value) n.valid n.is
 
-    -- What was done before stands in the map.
+    -- What was done before is in the map.
     pub filled_before : (m : FinMap R X) → Valid m → d ≡ whole_data m → (q : K) → IsSome (get done q) → IsSome (get m q)
     filled_before m valid is q has = left_stands as_data P m done (map view ws) q (filling.each m valid is) has
 
   -- At last the map is done.
   pub filling_done : (d : Data) (done : FinMap R X) (ws : List Value) → ws ≡ [] → Filling d done (map view ws) → Reads Valid whole_data d (Ok done)
-  filling_done d done ws none filling = record { finds = λ m valid is. left_none as_data P m done (subst (Left as_data P m done) (ap (map view) none) (filling.each m valid is)) }
+  filling_done d done ws none filling = record {
+    finds = λ m valid is. left_none as_data P m done
+        (subst (Left as_data P m done) (ap (map view) none) (filling.each m valid is));
+  }
 
 -- No list has fewer values than it is made of.
 pub too_few : (vs left : List Value) (ds : List Data) (n : ℕ) → left ≡ vs → map view vs ≡ ds → length left < n → length ds ≡ n → ⊥

@@ -17,7 +17,8 @@ use Rattle.json_trees.specs.Scalar.{scalar_data}
 use Rattle.json_trees.specs.Written.{data_tokens, IsReadable}
 use Rattle.json_trees.specs.declared.pending.Pending.{Pending}
 use Rattle.json_trees.specs.declared.scalar.Scalar.{Scalar}
-use Rattle.held_text.specs.HeldText.{Row, rows, key_data, keys_data, pair_data, map_data, row_data, metadata_data, transaction_data, pending_maps_data, owed_data, image_data, held_members, held_data, held_text}
+use Rattle.held_text.specs.HeldText.{Row, rows, key_data, keys_data, pair_data, map_data, row_data}
+use Rattle.held_text.specs.HeldText.{metadata_data, transaction_data, pending_maps_data, owed_data, image_data, held_members, held_data, held_text}
 use Rattle.held_text.specs.HeldRules.{IsRow, IsTransaction, IsHeld}
 use Rattle.settings_tree.specs.Owed.{IsOwed}
 use Rattle.settings_tree.specs.declared.entry.Owed.{Owed}
@@ -41,10 +42,12 @@ readable_row : (row : Row) → IsRow row → IsReadable 2 (row_data row)
 readable_row row h = readable_three 1 _ _ _ (readable_key 1 row.0) (readable_string 1 row.1) h.value.readable
 
 readable_values : (m : FinMap key_cmp Scalar) → AllByRecursion (IsSound scalar_leaf scalar_data) (entries m) → IsReadable 3 (map_data scalar_data m)
-readable_values m h = readable_list (pair_data scalar_data) (IsSound scalar_leaf scalar_data) 2 (λ pair s. readable_two 1 _ _ (readable_key 1 pair.0) s.1.readable) (entries m) h
+readable_values m h = readable_list (pair_data scalar_data) (IsSound scalar_leaf scalar_data) 2
+    (λ pair s. readable_two 1 _ _ (readable_key 1 pair.0) s.1.readable) (entries m) h
 
 readable_pairs : (m : FinMap key_cmp Pending) → AllByRecursion (IsSound pending_leaf pending_data) (entries m) → IsReadable 3 (map_data pending_data m)
-readable_pairs m h = readable_list (pair_data pending_data) (IsSound pending_leaf pending_data) 2 (λ pair s. readable_two 1 _ _ (readable_key 1 pair.0) s.1.readable) (entries m) h
+readable_pairs m h = readable_list (pair_data pending_data) (IsSound pending_leaf pending_data) 2
+    (λ pair s. readable_two 1 _ _ (readable_key 1 pair.0) s.1.readable) (entries m) h
 
 readable_transaction : (t : List ℕ × FinMap key_cmp Pending) → IsTransaction t → IsReadable 4 (transaction_data t)
 readable_transaction t h = readable_two 3 _ _ (readable_string 3 t.0) (readable_pairs t.1 h.pairs)
@@ -76,4 +79,5 @@ module _ (h : Held) (is : IsHeld h) where
   pub held_back : data_of (held_text h) ≡ Some (held_data h)
   held_back =
       data_of-tokens (held_data h) 6 (held_text h) readable_held (omega arith) is.utf8
-      (ap tokens (sym (print-outline (held_data h))) ∙ tokens-print (data_tokens (held_data h)) (ArePrintable-json_tokens (outline (held_data h)) readable_held.numbers))
+      (ap tokens (sym (print-outline (held_data h))) ∙ tokens-print (data_tokens (held_data h))
+      (ArePrintable-json_tokens (outline (held_data h)) readable_held.numbers))

@@ -42,32 +42,38 @@ module _ {E F : Type 0} (each : E → List F) (as_data : F → Data) (P : F → 
   writing_none all left w is = record { done = []; split = is; wrote = none_written as_data w; valid = tt }
 
   -- One more is written.
-  pub writing_next : (all left rest : List E) (e : E) (start now later : Written) → Writing all left start now → left ≡ e ∷ rest → WroteEach as_data (each e) now later → AllByRecursion P (each e) → Writing all rest start later
+  pub writing_next : (all left rest : List E) (e : E) (start now later : Written) → Writing all left start now → left ≡ e ∷ rest
+      → WroteEach as_data (each e) now later → AllByRecursion P (each e) → Writing all rest start later
   writing_next all left rest e start now later w next wrote valid =
       let grown : flat_map each w.done ++ each e ≡ flat_map each (w.done ++ e ∷ []) = sym (flat_map-push each w.done e) in
       record {
         done = w.done ++ e ∷ [];
         split = append_assoc w.done (e ∷ []) rest ∙ ap (λ (l : List E). w.done ++ l) (sym next) ∙ w.split;
-        wrote = subst (λ (l : List F). WroteEach as_data l start later) grown (more_written as_data (flat_map each w.done) (each e) start now later w.wrote wrote);
+        wrote = subst (λ (l : List F). WroteEach as_data l start later) grown
+            (more_written as_data (flat_map each w.done) (each e) start now later w.wrote wrote);
         valid = subst (λ (l : List F). AllByRecursion P l) grown (all_more P (flat_map each w.done) (each e) w.valid valid);
       }
 
   -- At last all are written.
-  pub writing_all : (all left : List E) (start now : Written) (fs : List F) → Writing all left start now → left ≡ [] → flat_map each all ≡ fs → WroteEach as_data fs start now
+  pub writing_all : (all left : List E) (start now : Written) (fs : List F) → Writing all left start now → left ≡ [] → flat_map each all ≡ fs
+      → WroteEach as_data fs start now
   writing_all all left start now fs w none is =
-      subst (λ (l : List F). WroteEach as_data l start now) (ap (flat_map each) (sym (append-nil w.done) ∙ ap (λ (l : List E). w.done ++ l) (sym none) ∙ w.split) ∙ is) w.wrote
+      subst (λ (l : List F). WroteEach as_data l start now) (ap (flat_map each)
+      (sym (append-nil w.done) ∙ ap (λ (l : List E). w.done ++ l) (sym none) ∙ w.split) ∙ is) w.wrote
 
   -- At last all are valid.
-  pub valid_all : (all left : List E) (start now : Written) (fs : List F) → Writing all left start now → left ≡ [] → flat_map each all ≡ fs → AllByRecursion P fs
+  pub valid_all : (all left : List E) (start now : Written) (fs : List F) → Writing all left start now → left ≡ [] → flat_map each all ≡ fs
+      → AllByRecursion P fs
   valid_all all left start now fs w none is =
-      subst (λ (l : List F). AllByRecursion P l) (ap (flat_map each) (sym (append-nil w.done) ∙ ap (λ (l : List E). w.done ++ l) (sym none) ∙ w.split) ∙ is) w.valid
+      subst (λ (l : List F). AllByRecursion P l) (ap (flat_map each) (sym (append-nil w.done) ∙ ap (λ (l : List E). w.done ++ l) (sym none) ∙ w.split) ∙ is)
+      w.valid
 
--- What is there is what stands there.
+-- Where something is there, it is what unwrapping gives.
 some_inner : {X : Type 0} (z : Option X) (d : X) → IsSome z → z ≡ Some (unwrap_or z d)
 some_inner None d has = absurd (grind (arith, has))
 some_inner (Some i) d has = refl
 
 module _ {K N X : Type 0} {R : K → K → Ordering} {S : N → N → Ordering} where
-  -- What stands at the least key is its map of names.
+  -- What is at the least key is its map of names.
   pub least_inner : (m : FinMap R (FinMap S X)) (after : Option K) (k : K) → IsLeastKeyAfter m after k → IsLeastAfter m after k (inner m k)
   least_inner m after k least = record { stands = some_inner (get m k) empty least.stands; past = least.past; least = least.least }

@@ -1,5 +1,6 @@
 -- Lists as JSON arrays: the tokens that are written for them, and why they read back.
-use Rattle.std.proofs.Common.{◌≡◌, ℕ, suc, ◌≤◌, List, [], ◌∷◌, ◌++◌, Some, map, option_map, option_and_then, append_assoc, append-nil, refl, sym, ap, ◌∙◌, arith}
+use Rattle.std.proofs.Common.{◌≡◌, ℕ, suc, ◌≤◌, List, [], ◌∷◌, ◌++◌, Some}
+use Rattle.std.proofs.Common.{map, option_map, option_and_then, append_assoc, append-nil, refl, sym, ap, ◌∙◌, arith}
 use Rattle.std.specs.Prelude.{OnOk}
 use Rattle.std.specs.declared.result.Result.{Result}
 use Rattle.std.specs.List.{flat_map, AllByRecursion}
@@ -25,12 +26,14 @@ module _ {E : Type 0} (as_data : E → Data) where
   -- The tokens of the items are those of the values and the closing bracket.
   items_tokens-map : (es : List E) → items_tokens (items_outline (items_of (map as_data es))) ≡ inside es ++ token.end_array ∷ []
   items_tokens-map [] = refl
-  items_tokens-map (e ∷ es) = ap (λ ts. data_tokens (as_data e) ++ ts) (items_tokens-map es) ∙ sym (append_assoc (data_tokens (as_data e)) (inside es) (token.end_array ∷ []))
+  items_tokens-map (e ∷ es) = ap (λ ts. data_tokens (as_data e) ++ ts) (items_tokens-map es)
+      ∙ sym (append_assoc (data_tokens (as_data e)) (inside es) (token.end_array ∷ []))
 
   -- The tokens of both lists are those of both, one after another.
   inside-append : (es fs : List E) → inside (es ++ fs) ≡ inside es ++ inside fs
   inside-append [] fs = refl
-  inside-append (e ∷ es) fs = ap (λ ts. data_tokens (as_data e) ++ ts) (inside-append es fs) ∙ sym (append_assoc (data_tokens (as_data e)) (inside es) (inside fs))
+  inside-append (e ∷ es) fs = ap (λ ts. data_tokens (as_data e) ++ ts) (inside-append es fs)
+      ∙ sym (append_assoc (data_tokens (as_data e)) (inside es) (inside fs))
 
   -- At first nothing is written.
   pub none_written : (w : Written) → WroteEach as_data [] w w
@@ -39,7 +42,8 @@ module _ {E : Type 0} (as_data : E → Data) where
   -- Some are written, and then others.
   pub more_written : (es fs : List E) (a b c : Written) → WroteEach as_data es a b → WroteEach as_data fs b c → WroteEach as_data (es ++ fs) a c
   more_written es fs a b c first second = record {
-    tokens = second.tokens ∙ ap (λ ts. ts ++ inside fs) first.tokens ∙ append_assoc a.tokens (inside es) (inside fs) ∙ ap (λ ts. a.tokens ++ ts) (sym (inside-append es fs));
+    tokens = second.tokens ∙ ap (λ ts. ts ++ inside fs) first.tokens ∙ append_assoc a.tokens (inside es) (inside fs)
+        ∙ ap (λ ts. a.tokens ++ ts) (sym (inside-append es fs));
     before = second.before ∙ first.before;
   }
 
@@ -56,14 +60,16 @@ module _ {E : Type 0} (as_data : E → Data) where
   list_tokens es = ap (λ ts. token.begin_array ∷ ts) (items_tokens-map es)
 
   -- A list is written as its values in brackets.
-  pub list_written : {F : Type 0} (r : Result (Unit {0}) F) (es : List E) (start opened filled closed : Written) → opened.tokens ≡ start.tokens ++ token.begin_array ∷ [] → opened.before ≡ start.before
+  pub list_written : {F : Type 0} (r : Result (Unit {0}) F) (es : List E) (start opened filled closed : Written)
+      → opened.tokens ≡ start.tokens ++ token.begin_array ∷ [] → opened.before ≡ start.before
       → WroteEach as_data es opened filled → Writes r filled closed token.end_array → OnOk r (Wrote (list_data (map as_data es)) start closed)
   list_written r es start opened filled closed begun same each ended =
       on_ok_weaker r
       (λ (e : closed.tokens ≡ filled.tokens ++ token.end_array ∷ []). record {
         tokens =
             e ∙ ap (λ ts. ts ++ token.end_array ∷ []) (each.tokens ∙ ap (λ ts. ts ++ inside es) begun)
-            ∙ append_assoc (start.tokens ++ token.begin_array ∷ []) (inside es) (token.end_array ∷ []) ∙ append_assoc start.tokens (token.begin_array ∷ []) (inside es ++ token.end_array ∷ [])
+            ∙ append_assoc (start.tokens ++ token.begin_array ∷ []) (inside es) (token.end_array ∷ [])
+            ∙ append_assoc start.tokens (token.begin_array ∷ []) (inside es ++ token.end_array ∷ [])
             ∙ ap (λ ts. start.tokens ++ ts) (sym (list_tokens es));
         before = ended.room.0 ∙ each.before ∙ same;
       })
@@ -72,25 +78,30 @@ module _ {E : Type 0} (as_data : E → Data) where
 -- A text that is written is its value.
 pub text_written : {F : Type 0} (r : Result (Unit {0}) F) (s t : List ℕ) (a b : Written) → s ≡ t → Writes r a b (token.string s) → OnOk r (Wrote (string t) a b)
 text_written r s t a b same w =
-    on_ok_weaker r (λ (e : b.tokens ≡ a.tokens ++ token.string s ∷ []). record { tokens = e ∙ ap (λ (q : List ℕ). a.tokens ++ token.string q ∷ []) same; before = w.room.0 }) w.ok
+    on_ok_weaker r (λ (e : b.tokens ≡ a.tokens ++ token.string s ∷ []).
+    record { tokens = e ∙ ap (λ (q : List ℕ). a.tokens ++ token.string q ∷ []) same; before = w.room.0 }) w.ok
 
--- So is one whose token and whose place are told each by itself.
+-- So is one whose token and whose place are given each by itself.
 pub string_written : (s t : List ℕ) (a b : Written) → s ≡ t → b.tokens ≡ a.tokens ++ token.string s ∷ [] → b.before ≡ a.before → Wrote (string t) a b
 string_written s t a b same written before = record { tokens = written ∙ ap (λ (q : List ℕ). a.tokens ++ token.string q ∷ []) same; before = before }
 
 -- A member is written before others.
-pub member_written : (name : List ℕ) (d : Data) (ms : Members) (a b c e : Written) → b.tokens ≡ a.tokens ++ token.key name ∷ [] → b.before ≡ a.before → Wrote d b c → WroteMembers ms c e → WroteMembers (member name d ms) a e
+pub member_written : (name : List ℕ) (d : Data) (ms : Members) (a b c e : Written) → b.tokens ≡ a.tokens ++ token.key name ∷ [] → b.before ≡ a.before
+    → Wrote d b c → WroteMembers ms c e → WroteMembers (member name d ms) a e
 member_written name d ms a b c e key same wrote rest = record {
   tokens =
       rest.tokens ∙ ap (λ ts. ts ++ members_tokens (members_outline ms)) (wrote.tokens ∙ ap (λ ts. ts ++ data_tokens d) key)
-      ∙ append_assoc (a.tokens ++ token.key name ∷ []) (data_tokens d) (members_tokens (members_outline ms)) ∙ append_assoc a.tokens (token.key name ∷ []) (data_tokens d ++ members_tokens (members_outline ms));
+      ∙ append_assoc (a.tokens ++ token.key name ∷ []) (data_tokens d) (members_tokens (members_outline ms))
+      ∙ append_assoc a.tokens (token.key name ∷ []) (data_tokens d ++ members_tokens (members_outline ms));
   before = rest.before ∙ wrote.before ∙ same;
 }
 
 -- An object is written.
-pub object_written : (ms : Members) (a b e : Written) → b.tokens ≡ a.tokens ++ token.begin_object ∷ [] → b.before ≡ a.before → WroteMembers ms b e → Wrote (object ms) a e
+pub object_written : (ms : Members) (a b e : Written) → b.tokens ≡ a.tokens ++ token.begin_object ∷ [] → b.before ≡ a.before → WroteMembers ms b e
+    → Wrote (object ms) a e
 object_written ms a b e begun same rest = record {
-  tokens = rest.tokens ∙ ap (λ ts. ts ++ members_tokens (members_outline ms)) begun ∙ append_assoc a.tokens (token.begin_object ∷ []) (members_tokens (members_outline ms));
+  tokens = rest.tokens ∙ ap (λ ts. ts ++ members_tokens (members_outline ms)) begun
+      ∙ append_assoc a.tokens (token.begin_object ∷ []) (members_tokens (members_outline ms));
   before = rest.before ∙ same;
 }
 
@@ -149,7 +160,8 @@ all_put (member name d ms) found = all_put ms (put name d found)
 -- Readable members read back, put one after another.
 read_members : (n : ℕ) (ms found : Members) → AreReadable n ms → of_members (members_outline ms) found ≡ Some (all_put ms found)
 read_members n no_members found h = refl
-read_members n (member name d ms) found h = ap (option_and_then (λ x. of_members (members_outline ms) (put name x found))) h.0.reads_back ∙ read_members n ms (put name d found) h.1
+read_members n (member name d ms) found h = ap (option_and_then (λ x. of_members (members_outline ms) (put name x found))) h.0.reads_back
+    ∙ read_members n ms (put name d found) h.1
 
 -- Their numbers are JSON numbers.
 member_numbers : (n : ℕ) (ms : Members) → AreReadable n ms → MembersHaveNumbers (members_outline ms)

@@ -61,13 +61,25 @@ keys_next keys done d left h = by h.rest h.whole h.are h.valid where
     key = k;
     is = head_is d (key_data k) left (map key_data rest) are;
     valid = valid.0;
-    after = record { rest = rest; whole = whole ∙ sym (append_assoc done (k ∷ []) rest); are = tail_is d (key_data k) left (map key_data rest) are; valid = valid.1 };
+    after = record {
+      rest = rest;
+      whole = whole ∙ sym (append_assoc done (k ∷ []) rest);
+      are = tail_is d (key_data k) left (map key_data rest) are;
+      valid =
+          valid.1;
+    };
   }
 
 -- At first all are left.
 pub keys_begun : (d : Data) (vs ws : List Value) (done : List Key) → as_array d ≡ Some (items_view vs) → ws ≡ vs → done ≡ [] → KeysFilling d done (map view ws)
 keys_begun d vs ws done read same none = record {
-  each = λ keys valid is. record { rest = keys; whole = sym (ap (λ (l : List Key). l ++ keys) none); are = ap (map view) same ∙ listed d vs (map key_data keys) read is; valid = each_valid keys valid.valid };
+  each = λ keys valid is. record {
+    rest = keys;
+    whole = sym (ap (λ (l : List Key). l ++ keys) none);
+    are = ap (map view) same
+        ∙ listed d vs (map key_data keys) read is;
+    valid = each_valid keys valid.valid;
+  };
 }
 
 module _ (d : Data) (done : List Key) (v : Value) (ws left : List Value) (next : ws ≡ v ∷ left) (filling : KeysFilling d done (map view ws)) where
@@ -82,13 +94,15 @@ module _ (d : Data) (done : List Key) (v : Value) (ws left : List Value) (next :
         subst (λ (l : List Key). KeysLeft keys l (map view left)) (sym (pushed ∙ ap (λ (q : Key). done ++ q ∷ []) (reads.finds n.key n.valid n.is))) n.after;
   }
 
-  -- Where it was not read memory was wanting.
+  -- Where it was not read, it ran out of memory.
   pub keys_refused : (e : HeldError) → Reads Valid key_data (view v) (Err e) → (keys : List Key) → IsKeyList keys → d ≡ keys_data keys → e ≡ Memory
   keys_refused e reads keys valid is = let n = one keys valid is in reads.finds n.key n.valid n.is
 
 -- At last all were read.
 pub keys_done : (d : Data) (done : List Key) (ws : List Value) → ws ≡ [] → KeysFilling d done (map view ws) → Reads IsKeyList keys_data d (Ok done)
-keys_done d done ws none filling = record { finds = λ keys valid is. by keys (subst (KeysLeft keys done) (ap (map view) none) (filling.each keys valid is)) } where
+keys_done d done ws none filling = record {
+  finds = λ keys valid is. by keys (subst (KeysLeft keys done) (ap (map view) none) (filling.each keys valid is));
+} where
   by : (keys : List Key) → KeysLeft keys done [] → done ≡ keys
   by keys h = from h.rest h.whole h.are where
     from : (rest : List Key) → keys ≡ done ++ rest → [] ≡ map key_data rest → done ≡ keys
@@ -96,5 +110,9 @@ keys_done d done ws none filling = record { finds = λ keys valid is. by keys (s
     from (k ∷ rest) whole are = absurd (cc are)
 
 -- Keys that do not rise are no such list.
-pub keys_fall : (d : Data) (done : List Key) (ws : List Value) → ws ≡ [] → KeysFilling d done (map view ws) → (IsRising done → ⊥) → Reads IsKeyList keys_data d (Err BadHeld)
-keys_fall d done ws none filling falls = record { finds = λ keys valid is. absurd (falls (subst IsRising (sym ((keys_done d done ws none filling).finds keys valid is)) valid.rising)) }
+pub keys_fall : (d : Data) (done : List Key) (ws : List Value) → ws ≡ [] → KeysFilling d done (map view ws) → (IsRising done → ⊥)
+    → Reads IsKeyList keys_data d (Err BadHeld)
+keys_fall d done ws none filling falls = record {
+  finds = λ keys valid is. absurd
+      (falls (subst IsRising (sym ((keys_done d done ws none filling).finds keys valid is)) valid.rising));
+}

@@ -1,10 +1,12 @@
 -- Maps that are read from a list of their entries, one after another.
-use Rattle.std.proofs.Common.{◌≡◌, List, [], ◌∷◌, ◌++◌, length, map, Option, Some, None, Bool, true, false, cond, IsSome, T, fold, append_assoc, append-nil, refl, sym, ap, ◌∙◌, subst, arith}
+use Rattle.std.proofs.Common.{◌≡◌, List, [], ◌∷◌, ◌++◌, length, map, Option, Some, None, Bool, true}
+use Rattle.std.proofs.Common.{false, cond, IsSome, T, fold, append_assoc, append-nil, refl, sym, ap, ◌∙◌, subst, arith}
 use Rattle.std.specs.declared.cmp.Ordering.{Ordering}
 use Rattle.std.specs.declared.cmp.Ordering.TheVariants.{Less, Equal, Greater}
 use Rattle.std.specs.Ordering.{eq_by_cmp, is_eq, is_lt, ordering_reverse}
 use Rattle.std.specs.Cmp.{IsTotalOrder}
-use Rattle.std.specs.FinMap.{FinMap, find, put, is_sorted, entries, entries_sorted, empty, get, insert, get-entries, entries-insert, same_entries_map, len-empty, len-entries}
+use Rattle.std.specs.FinMap.{FinMap, find, put, is_sorted, entries, entries_sorted, empty}
+use Rattle.std.specs.FinMap.{get, insert, get-entries, entries-insert, same_entries_map, len-empty, len-entries}
 use Rattle.std.specs.FinMap.Entries.{below_all, by_order}
 use Rattle.std.specs.List.{AllByRecursion}
 use Rattle.std.proofs.lemmas.Bool.{and_parts, cond-true, cond-false}
@@ -36,7 +38,7 @@ there : {X : Type 0} (b : Bool) (x : X) (z : Option X) → IsSome z → IsSome (
 there true x z has = refl
 there false x z has = has
 
--- What is found later too is found behind the same entry.
+-- What is found later too is found after the same entry.
 found_still : {X : Type 0} (b : Bool) (x : X) (y z : Option X) → (IsSome y → IsSome z) → IsSome (cond b (Some x) y) → IsSome (cond b (Some x) z)
 found_still true x y z later has = refl
 found_still false x y z later has = later has
@@ -50,7 +52,7 @@ pub tail_is : {D : Type 0} (a b : D) (xs ys : List D) → a ∷ xs ≡ b ∷ ys 
 tail_is a b xs ys e = cc e
 
 module _ {K X : Type 0} (R : K → K → Ordering) where
-  -- An entry among the first stands in the whole list.
+  -- An entry among the first is in the whole list.
   pub find-first : (es fs : List (K × X)) (q : K) → IsSome (find R q es) → IsSome (find R q (es ++ fs))
   find-first [] fs q has = absurd (grind (arith, has))
   find-first (e ∷ es) fs q has = found_still (eq_by_cmp R q e.0) e.1 (find R q es) (find R q (es ++ fs)) (find-first es fs q) has
@@ -66,7 +68,8 @@ module _ {K X : Type 0} {R : K → K → Ordering} (o : IsTotalOrder R) where
   put-after [] rest k x rises = refl
   put-after (f ∷ es) rest k x rises =
       let both = and_parts (below_all R f.0 (es ++ (k, x) ∷ rest)) (is_sorted R (es ++ (k, x) ∷ rest)) rises in
-      ap (λ r. by_order r ((k, x) ∷ f ∷ es) ((f.0, x) ∷ es) (f ∷ put R k x es)) (above_first f es rest k x both.0) ∙ ap (λ (t : List (K × X)). f ∷ t) (put-after es rest k x both.1)
+      ap (λ r. by_order r ((k, x) ∷ f ∷ es) ((f.0, x) ∷ es) (f ∷ put R k x es)) (above_first f es rest k x both.0)
+      ∙ ap (λ (t : List (K × X)). f ∷ t) (put-after es rest k x both.1)
 
   -- The key of that entry is not among them.
   none-before : (es rest : List (K × X)) (k : K) (x : X) → is_sorted R (es ++ (k, x) ∷ rest) ≡ true → find R k es ≡ None
@@ -75,7 +78,7 @@ module _ {K X : Type 0} {R : K → K → Ordering} (o : IsTotalOrder R) where
       let both = and_parts (below_all R f.0 (es ++ (k, x) ∷ rest)) (is_sorted R (es ++ (k, x) ∷ rest)) rises in
       cond-false _ _ _ (ap is_eq (above_first f es rest k x both.0)) ∙ none-before es rest k x both.1
 
-  -- The entry is found behind those.
+  -- The entry is found after those.
   found-there : (es rest : List (K × X)) (k : K) (x : X) → find R k es ≡ None → find R k (es ++ (k, x) ∷ rest) ≡ Some x
   found-there [] rest k x none = cond-true _ _ _ (ap is_eq (tied_itself o k))
   found-there (f ∷ es) rest k x none = by (eq_by_cmp R k f.0) refl (found-there es rest k x) where
@@ -92,7 +95,7 @@ module _ {K X : Type 0} {R : K → K → Ordering} (o : IsTotalOrder R) where
     pub entries-next : entries (insert done k x) ≡ entries done ++ (k, x) ∷ []
     entries-next = entries-insert o done k x ∙ put-after (entries done) rest k x rises
 
-    -- The entries behind it are left.
+    -- The entries after it are left.
     pub whole-next : entries m ≡ entries (insert done k x) ++ rest
     whole-next = whole ∙ sym (append_assoc (entries done) ((k, x) ∷ []) rest) ∙ ap (λ (l : List (K × X)). l ++ rest) (sym entries-next)
 
@@ -100,7 +103,7 @@ module _ {K X : Type 0} {R : K → K → Ordering} (o : IsTotalOrder R) where
     pub new-next : get done k ≡ None
     new-next = get-entries done k ∙ none-before (entries done) rest k x rises
 
-    -- It stands in m.
+    -- It is in m.
     pub stands-next : get m k ≡ Some x
     stands-next = get-entries m k ∙ ap (find R k) whole ∙ found-there (entries done) rest k x (none-before (entries done) rest k x rises)
 
@@ -156,7 +159,7 @@ module _ {K X : Type 0} {R : K → K → Ordering} (as_data : K × X → Data) (
     by [] whole are = same_entries_map done m (sym (whole ∙ append-nil (entries done)))
     by (e ∷ rest) whole are = absurd (cc are)
 
-  -- What is done stands in the map.
+  -- What is done is in the map.
   pub left_stands : (m done : FinMap R X) (left : List Data) (q : K) → Left m done left → IsSome (get done q) → IsSome (get m q)
   left_stands m done left q h has =
       subst IsSome (sym (get-entries m q ∙ ap (find R q) h.whole)) (find-first R (entries done) h.rest q (subst IsSome (get-entries done q) has))

@@ -50,10 +50,11 @@ pub two_values : (vs rest : List Value) (x y : Value) (a b : Data) → vs ≡ x 
 two_values vs rest x y a b are is = let all : map view (x ∷ y ∷ rest) ≡ a ∷ b ∷ [] = ap (map view) (sym are) ∙ is in (cc all, cc all)
 
 -- Of a list of three values the first three that are taken are these.
-pub three_values : (vs rest : List Value) (x y z : Value) (a b d : Data) → vs ≡ x ∷ y ∷ z ∷ rest → map view vs ≡ a ∷ b ∷ d ∷ [] → (view x ≡ a) × (view y ≡ b) × (view z ≡ d)
+pub three_values : (vs rest : List Value) (x y z : Value) (a b d : Data) → vs ≡ x ∷ y ∷ z ∷ rest → map view vs ≡ a ∷ b ∷ d ∷ []
+    → (view x ≡ a) × (view y ≡ b) × (view z ≡ d)
 three_values vs rest x y z a b d are is = let all : map view (x ∷ y ∷ z ∷ rest) ≡ a ∷ b ∷ d ∷ [] = ap (map view) (sym are) ∙ is in (cc all, cc all, cc all)
 
--- An error is right where no valid value leaves another one than want of memory.
+-- An error is right where no valid value leaves another one than out of memory.
 pub err_reads : {X : Type 0} (IsValid : X → Type 0) (as_data : X → Data) (d : Data) (Q : HeldError → Type 0) (r : Result X HeldError) → IsErrAnd r Q
     → ((x : X) → IsValid x → d ≡ as_data x → (e : HeldError) → Q e → e ≡ Memory) → Reads IsValid as_data d r
 err_reads IsValid as_data d Q (Ok x) none memory = absurd none
@@ -65,12 +66,14 @@ at_error (Ok x) p = tt
 at_error (Err e) p = p
 
 -- One more value of some members is taken.
-pub taken_next : (all left rest : Members) (done now : List Value) (name : List ℕ) (v : Value) → member_values all ≡ map view done ++ member_values left → left ≡ member name (view v) rest → now ≡ done ++ v ∷ []
+pub taken_next : (all left rest : Members) (done now : List Value) (name : List ℕ) (v : Value) → member_values all ≡ map view done ++ member_values left
+    → left ≡ member name (view v) rest → now ≡ done ++ v ∷ []
     → member_values all ≡ map view now ++ member_values rest
 taken_next all left rest done now name v whole next pushed =
     whole ∙ ap (λ ms. map view done ++ member_values ms) next ∙ sym (append_assoc (map view done) (view v ∷ []) (member_values rest))
     ∙ ap (λ (l : List Data). l ++ member_values rest) (sym (map-append view done (v ∷ [])) ∙ ap (map view) (sym pushed))
 
 -- At last all are taken.
-pub taken_all : (all : Members) (done : List Value) (left : Members) → member_values all ≡ map view done ++ member_values left → left ≡ no_members → map view done ≡ member_values all
+pub taken_all : (all : Members) (done : List Value) (left : Members) → member_values all ≡ map view done ++ member_values left → left ≡ no_members
+    → map view done ≡ member_values all
 taken_all all done left whole none = sym (whole ∙ ap (λ ms. map view done ++ member_values ms) none ∙ append-nil (map view done))

@@ -1,5 +1,6 @@
 -- Metadata that is read from its rows, one after another.
-use Rattle.std.proofs.Common.{◌≡◌, ℕ, List, [], ◌∷◌, ◌++◌, map, length, Option, Some, None, Bool, true, false, cond, IsSome, is_some, IsTrue, unwrap_or, fold, append_assoc, append-nil, Result, Ok, Err, refl, sym, ap, ◌∙◌, subst}
+use Rattle.std.proofs.Common.{◌≡◌, ℕ, List, [], ◌∷◌, ◌++◌, map, length, Option, Some, None, Bool, true, false, cond}
+use Rattle.std.proofs.Common.{IsSome, is_some, IsTrue, unwrap_or, fold, append_assoc, append-nil, Result, Ok, Err, refl, sym, ap, ◌∙◌, subst}
 use Rattle.std.specs.List.{flat_map, AllByRecursion}
 use Rattle.std.specs.Ordering.{eq_by_cmp}
 use Rattle.std.specs.FinMap.{FinMap, entries, empty, get, insert, len, len-entries}
@@ -22,7 +23,7 @@ use Rattle.held_text.specs.declared.held_error.HeldError.TheVariants.{BadHeld, M
 use Rattle.held_text.proofs.Readings.{listed}
 use Rattle.held_text.proofs.MapsLeft.{head_is, tail_is, no_entries, whole-next, new-next, stands-next, refilled}
 
--- What stands at a key, by name.
+-- What is at a key, by name.
 abbrev Names : Type 0
 Names = FinMap bytes_cmp Scalar
 
@@ -45,21 +46,25 @@ with_rows-append m (r ∷ rs) ss = with_rows-append (with_row m r) rs ss
 
 -- ---- all rows make the metadata
 
--- The rows of a key that stands put its names.
-names_put : (m : Table) (k : List (List ℕ)) (i : Names) (ns : List (List ℕ × Scalar)) → with_rows (insert m k i) (map (λ e. (k, e.0, e.1)) ns) ≡ insert m k (fold (λ j e. insert j e.0 e.1) i ns)
+-- The rows of a key that is there put its names.
+names_put : (m : Table) (k : List (List ℕ)) (i : Names) (ns : List (List ℕ × Scalar)) → with_rows (insert m k i) (map (λ e. (k, e.0, e.1)) ns) ≡ insert m k
+    (fold (λ j e. insert j e.0 e.1) i ns)
 names_put m k i [] = refl
 names_put m k i (e ∷ ns) =
     ap (λ (t : Table). with_rows t (map (λ e. (k, e.0, e.1)) ns))
-    (ap (λ (j : Names). insert (insert m k i) k (insert j e.0 e.1)) (inner-insert key_total key_cmp-IsAntisymmetric m k i) ∙ insert-insert key_total key_cmp-IsAntisymmetric m k i (insert i e.0 e.1))
+    (ap (λ (j : Names). insert (insert m k i) k (insert j e.0 e.1)) (inner-insert key_total key_cmp-IsAntisymmetric m k i)
+    ∙ insert-insert key_total key_cmp-IsAntisymmetric m k i (insert i e.0 e.1))
     ∙ names_put m k (insert i e.0 e.1) ns
 
 -- The rows of a new key make it, where it has a name.
-first_name : (m : Table) (k : List (List ℕ)) (ns : List (List ℕ × Scalar)) → get m k ≡ None → (length ns ≡ 0 → ⊥) → with_rows m (map (λ e. (k, e.0, e.1)) ns) ≡ insert m k (fold (λ j e. insert j e.0 e.1) empty ns)
+first_name : (m : Table) (k : List (List ℕ)) (ns : List (List ℕ × Scalar)) → get m k ≡ None → (length ns ≡ 0 → ⊥)
+    → with_rows m (map (λ e. (k, e.0, e.1)) ns) ≡ insert m k (fold (λ j e. insert j e.0 e.1) empty ns)
 first_name m k [] none some = absurd (some refl)
 first_name m k (e ∷ ns) none some =
-    ap (λ (o : Option Names). with_rows (insert m k (insert (unwrap_or o empty) e.0 e.1)) (map (λ e. (k, e.0, e.1)) ns)) none ∙ names_put m k (insert empty e.0 e.1) ns
+    ap (λ (o : Option Names). with_rows (insert m k (insert (unwrap_or o empty) e.0 e.1)) (map (λ e. (k, e.0, e.1)) ns)) none
+    ∙ names_put m k (insert empty e.0 e.1) ns
 
--- The rows of a new key put what stands there.
+-- The rows of a new key put what is there.
 key_put : (m : Table) (k : List (List ℕ)) (i : Names) → get m k ≡ None → is_empty i ≡ false → with_rows m (rows_at (k, i)) ≡ insert m k i
 key_put m k i none some =
     first_name m k (entries i) none (λ short. both_ways (is_empty i) some (is_no i (len-entries i ∙ short)))
@@ -73,7 +78,8 @@ keys_put : (m done : Table) (rest : List (List (List ℕ) × Names)) → IsFull 
 keys_put m done [] full whole = refilled key_total m done [] whole
 keys_put m done (e ∷ rest) full whole =
     with_rows-append done (rows_at e) (flat_map rows_at rest)
-    ∙ ap (λ (t : Table). with_rows t (flat_map rows_at rest)) (key_put done e.0 e.1 (new-next key_total m done rest e.0 e.1 whole) (full.each e.0 e.1 (stands-next key_total m done rest e.0 e.1 whole)))
+    ∙ ap (λ (t : Table). with_rows t (flat_map rows_at rest)) (key_put done e.0 e.1 (new-next key_total m done rest e.0 e.1 whole)
+    (full.each e.0 e.1 (stands-next key_total m done rest e.0 e.1 whole)))
     ∙ keys_put m (insert done e.0 e.1) rest full (whole-next key_total m done rest e.0 e.1 whole)
 
 -- All rows make the metadata.
@@ -91,9 +97,10 @@ still false c x y hx hy = hy
 -- A value stays while rows are put.
 stays : (m : Table) (rs : List Row) (k : List (List ℕ)) (n : List ℕ) → IsSome (value_at m k n) → IsSome (value_at (with_rows m rs) k n)
 stays m [] k n has = has
-stays m (r ∷ rs) k n has = stays (with_row m r) rs k n (subst IsSome (sym (value_at-with key_total bytes_total m r.0 k r.1 n r.2)) (still (eq_by_cmp key_cmp k r.0) (eq_by_cmp bytes_cmp n r.1) (Some r.2) (value_at m k n) refl has))
+stays m (r ∷ rs) k n has = stays (with_row m r) rs k n (subst IsSome (sym (value_at-with key_total bytes_total m r.0 k r.1 n r.2))
+    (still (eq_by_cmp key_cmp k r.0) (eq_by_cmp bytes_cmp n r.1) (Some r.2) (value_at m k n) refl has))
 
--- Each row of the metadata stands in it.
+-- Each row of the metadata is in it.
 row_stands : (m : Table) (first rest : List Row) (r : Row) → IsFull m → rows m ≡ first ++ r ∷ rest → IsSome (value_at m r.0 r.1)
 row_stands m first rest r full whole =
     subst (λ (t : Table). IsSome (value_at t r.0 r.1)) (sym (with_rows-append empty first (r ∷ rest)) ∙ ap (with_rows empty) (sym whole) ∙ all_put m full)
@@ -169,20 +176,24 @@ rows_begun d vs ws old read same = record {
 module _ (d : Data) (old now : Contents) (v : Value) (ws left : List Value) (next : ws ≡ v ∷ left) (filling : RowsFilling d old now (map view ws)) where
   -- The first of the values that are left is that of the next row.
   one : (m : Table) → IsMetadata m → old.metadata ≡ empty → d ≡ metadata_data m → NextRow m now.metadata (view v) (map view left)
-  one m valid none is = rows_next m now.metadata (view v) (map view left) valid (subst (RowsLeft m now.metadata) (ap (map view) next) (filling.each m valid none is))
+  one m valid none is = rows_next m now.metadata (view v) (map view left) valid
+      (subst (RowsLeft m now.metadata) (ap (map view) next) (filling.each m valid none is))
 
   -- The next row is put.
-  pub rows_put : (k : List (List ℕ)) (n : List ℕ) (x : Scalar) (later : Contents) → Reads IsRow row_data (view v) (Ok (k, n, x)) → later ≡ record now { metadata = with_value now.metadata k n x } → RowsFilling d old later (map view left)
+  pub rows_put : (k : List (List ℕ)) (n : List ℕ) (x : Scalar) (later : Contents) → Reads IsRow row_data (view v) (Ok (k, n, x))
+      → later ≡ record now { metadata = with_value now.metadata k n x } → RowsFilling d old later (map view left)
   rows_put k n x later reads put = record {
     each = λ m valid none is.
         let r = one m valid none is in
         let same : ◌≡◌ {A = Row} (k, n, x) r.row = reads.finds r.row r.valid r.is in
         subst (λ (t : Table). RowsLeft m t (map view left)) (sym (ap (λ (c : Contents). c.metadata) put ∙ ap (with_row now.metadata) same)) r.after;
-    same = put ∙ ap (λ (c : Contents). record c { metadata = with_value now.metadata k n x }) filling.same ∙ ap (λ (t : Table). record old { metadata = t }) (sym (ap (λ (c : Contents). c.metadata) put));
+    same = put ∙ ap (λ (c : Contents). record c { metadata = with_value now.metadata k n x }) filling.same
+        ∙ ap (λ (t : Table). record old { metadata = t }) (sym (ap (λ (c : Contents). c.metadata) put));
   }
 
   -- Its name is one of metadata.
-  pub rows_unnamed : (k : List (List ℕ)) (n : List ℕ) (x : Scalar) → Reads IsRow row_data (view v) (Ok (k, n, x)) → is_meta_name n ≡ false → PutsRows d old now (Err BadHeld)
+  pub rows_unnamed : (k : List (List ℕ)) (n : List ℕ) (x : Scalar) → Reads IsRow row_data (view v) (Ok (k, n, x)) → is_meta_name n ≡ false
+      → PutsRows d old now (Err BadHeld)
   rows_unnamed k n x reads not = record {
     puts = λ m valid none is.
         let r = one m valid none is in
@@ -190,17 +201,19 @@ module _ (d : Data) (old now : Contents) (v : Value) (ws left : List Value) (nex
         absurd (both_ways (is_meta_name n) not (subst (λ (q : Row). IsTrue (is_meta_name q.1)) (sym same) r.named));
   }
 
-  -- Where it was not read memory was wanting.
-  pub rows_refused : (e : HeldError) → Reads IsRow row_data (view v) (Err e) → (m : Table) → IsMetadata m → old.metadata ≡ empty → d ≡ metadata_data m → e ≡ Memory
+  -- Where it was not read, it ran out of memory.
+  pub rows_refused : (e : HeldError) → Reads IsRow row_data (view v) (Err e) → (m : Table) → IsMetadata m → old.metadata ≡ empty → d ≡ metadata_data m
+      → e ≡ Memory
   rows_refused e reads m valid none is = let r = one m valid none is in reads.finds r.row r.valid r.is
 
 -- At last all are put.
 pub rows_ended : (d : Data) (old now : Contents) (ws : List Value) → ws ≡ [] → RowsFilling d old now (map view ws) → PutsRows d old now (Ok tt)
 rows_ended d old now ws none filling = record {
-  puts = λ m valid bare is. filling.same ∙ ap (λ (t : Table). record old { metadata = t }) (rows_none m now.metadata valid (subst (RowsLeft m now.metadata) (ap (map view) none) (filling.each m valid bare is)));
+  puts = λ m valid bare is. filling.same ∙ ap (λ (t : Table). record old { metadata = t })
+      (rows_none m now.metadata valid (subst (RowsLeft m now.metadata) (ap (map view) none) (filling.each m valid bare is)));
 }
 
--- An error is right where no metadata of this value leaves another one than want of memory.
+-- An error is right where no metadata of this value leaves another one than out of memory.
 pub err_puts : (d : Data) (old new : Contents) (Q : HeldError → Type 0) (r : Result (Unit {0}) HeldError) → IsErrAnd r Q
     → ((m : Table) → IsMetadata m → old.metadata ≡ empty → d ≡ metadata_data m → (e : HeldError) → Q e → e ≡ Memory) → PutsRows d old new r
 err_puts d old new Q (Ok u) none memory = absurd none

@@ -61,7 +61,7 @@ pub record IsHeld (h : Held) : Type 0 where
   pub image : IsBytes h.image
   pub utf8 : IsUtf8 (held_text h)
 
--- The answer is this value, unless memory was wanting.
+-- The answer is this value, unless it ran out of memory.
 abbrev pub IsRead : {X : Type 0} → Result X HeldError → X → Type 0
 IsRead result x = MatchResult result (λ found. found ≡ x) (λ e. e ≡ Memory)
 
@@ -113,9 +113,10 @@ pub record PutsRows (d : Data) (old new : Contents) (result : Result (Unit {0}) 
 
 -- Where the JSON values are those of a content, the answer is this content.
 pub record ReadsContent (values metadata weak : Data) (result : Result Contents HeldError) : Type 0 where
-  pub finds : (c : Contents) → IsLive c → values ≡ map_data scalar_data c.values → metadata ≡ metadata_data c.metadata → weak ≡ keys_data c.weak → IsRead result c
+  pub finds : (c : Contents) → IsLive c → values ≡ map_data scalar_data c.values → metadata ≡ metadata_data c.metadata → weak ≡ keys_data c.weak
+      → IsRead result c
 
--- Where the JSON values are those of the metadata and the weak keys of a content, they were put beside its values.
+-- Where the JSON values are those of the metadata and the weak keys of a content, they were put next to its values.
 pub record PutsOthers (metadata weak : Data) (old new : Contents) (result : Result (Unit {0}) HeldError) : Type 0 where
   pub puts :
       (c : Contents) → IsLive c → old ≡ record no_content { values = c.values } → metadata ≡ metadata_data c.metadata → weak ≡ keys_data c.weak
@@ -151,7 +152,8 @@ first_members h ms =
 
 -- The last three members, and others.
 abbrev pub last_members : Held → Members → Members
-last_members h ms = member (codes "owed") (owed_data h.owed) (member (codes "pending") (pending_maps_data h.pending) (member (codes "weak") (keys_data h.live.weak) ms))
+last_members h ms = member (codes "owed") (owed_data h.owed) (member (codes "pending") (pending_maps_data h.pending)
+    (member (codes "weak") (keys_data h.live.weak) ms))
 
 -- Whatever members are written next, these are written before them.
 pub record WroteFirst (first : Members → Members) (old new : Written) : Type 0 where

@@ -29,7 +29,7 @@ key_data key = string (printed key)
 abbrev pub keys_data : List (List (List ℕ)) → Data
 keys_data keys = list_data (map key_data keys)
 
--- A key with what stands there is a list of the two.
+-- A key with what is there is a list of the two.
 abbrev pub pair_data : {V : Type 0} → (V → Data) → List (List ℕ) × V → Data
 pair_data written pair = list_data (key_data pair.0 ∷ written pair.1 ∷ [])
 
@@ -37,7 +37,7 @@ pair_data written pair = list_data (key_data pair.0 ∷ written pair.1 ∷ [])
 abbrev pub map_data : {V : Type 0} → (V → Data) → FinMap key_cmp V → Data
 map_data written m = list_data (map (pair_data written) (entries m))
 
--- A key, a name of it, and the value that stands there.
+-- A key, a name of it, and the value that is there.
 abbrev pub Row : Type 0
 Row = List (List ℕ) × List ℕ × Scalar
 

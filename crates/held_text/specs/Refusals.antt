@@ -6,12 +6,12 @@ use Rattle.json_trees.specs.declared.tree_error.TreeError.TheVariants as tree_er
 use Rattle.held_text.specs.declared.held_error.HeldError.{HeldError}
 use Rattle.held_text.specs.declared.held_error.HeldError.TheVariants.{BadHeld, Memory}
 
--- Want of memory stays it, and any fault of a key spoils the text.
+-- Out of memory stays out of memory, and any fault of a key spoils the text.
 abbrev pub of_key_fault : KeyFault → HeldError
 of_key_fault key_fault.Memory = Memory
 of_key_fault _ = BadHeld
 
--- Want of memory stays it, and any other refusal spoils the text.
+-- Out of memory stays out of memory, and any other refusal spoils the text.
 abbrev pub of_tree_error : TreeError → HeldError
 of_tree_error tree_error.Memory = Memory
 of_tree_error _ = BadHeld

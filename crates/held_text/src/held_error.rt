@@ -9,7 +9,7 @@ use std::alloc::{AllocError, AllocFailed};
 pub enum HeldError {
     /// The text is the print of no `Held`.
     BadHeld,
-    /// Memory was wanting. It says nothing of the text.
+    /// Out of memory. It says nothing of the text.
     Memory,
 }
 

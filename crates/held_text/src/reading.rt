@@ -12,8 +12,10 @@ ghost use Rattle.json_trees.specs.Nested.{IsSound};
 ghost use Rattle.settings_maps.specs.Maps.{is_empty};
 ghost use Rattle.settings_maps.specs.TxName.{is_tx_name};
 ghost use Rattle.settings_tree.specs.Content.{no_content};
-ghost use Rattle.held_text.specs.HeldText.{list_data, key_data, keys_data, pair_data, map_data, row_data, transaction_data, pending_maps_data, owed_data, image_data, held_data};
-ghost use Rattle.held_text.specs.HeldRules.{IsRow, IsMap, IsWholeTransaction, ArePending, IsHeld, Reads, HasValues, ReadsContent, ReadsRest, ReadsMembers, PutsRows, PutsOthers, member_values};
+ghost use Rattle.held_text.specs.HeldText.{list_data, key_data, keys_data, pair_data, map_data};
+ghost use Rattle.held_text.specs.HeldText.{row_data, transaction_data, pending_maps_data, owed_data, image_data, held_data};
+ghost use Rattle.held_text.specs.HeldRules.{IsRow, IsMap, IsWholeTransaction, ArePending, IsHeld, Reads};
+ghost use Rattle.held_text.specs.HeldRules.{HasValues, ReadsContent, ReadsRest, ReadsMembers, PutsRows, PutsOthers, member_values};
 ghost use Rattle.settings_tree.specs.Owed.{IsKeyList, IsOwed};
 ghost use Rattle.settings_tree.specs.Rule.{IsPrefixFree};
 ghost use Rattle.held_text.specs.declared.held_error.HeldError.TheVariants.{Memory};
@@ -39,7 +41,7 @@ fn list_of(value: Value) -> Result<Vec<Value>, HeldError>
     }
 }
 
-// The next value of a list. What stands behind the last one that is taken does not count here.
+// The next value of a list. What comes after the last one that is taken does not count here.
 fn next_of(values: &mut IntoIter<Value>) -> Result<Value, HeldError>
     ensures next { IfOk result (λ value. into_iter_items values.old ≡ value ∷ into_iter_items values.new) }
     ensures none { OnErr result (into_iter_items values.old ≡ []) }
@@ -68,7 +70,7 @@ fn three_of(values: &mut IntoIter<Value>) -> Result<(Value, Value, Value), HeldE
     Ok((first, second, third))
 }
 
-// The two values of a list. What stands behind them does not count here.
+// The two values of a list. What comes after them does not count here.
 fn couple_of(list: Value) -> Result<(Value, Value), HeldError>
     ensures ok { IfOk result (λ v. (a b : Data) → view list ≡ list_data (a ∷ b ∷ []) → (view v.0 ≡ a) × (view v.1 ≡ b)) }
     ensures err { OnErr result ((a b : Data) → view list ≢ list_data (a ∷ b ∷ [])) }
@@ -77,7 +79,7 @@ fn couple_of(list: Value) -> Result<(Value, Value), HeldError>
     two_of(&mut values)
 }
 
-// The three values of a list. What stands behind them does not count here.
+// The three values of a list. What comes after them does not count here.
 fn triple_of(list: Value) -> Result<(Value, Value, Value), HeldError>
     ensures ok { IfOk result (λ v. (a b c : Data) → view list ≡ list_data (a ∷ b ∷ c ∷ []) → (view v.0 ≡ a) × (view v.1 ≡ b) × (view v.2 ≡ c)) }
     ensures err { OnErr result ((a b c : Data) → view list ≢ list_data (a ∷ b ∷ c ∷ [])) }

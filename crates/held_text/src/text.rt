@@ -107,12 +107,12 @@ pub trait HeldText: Sized {
     /// - `weak`: a list of keys
     ///
     /// Keys are printed, and every list rises. It takes a logarithmic step for each entry. The only
-    /// error is want of memory.
+    /// error is out of memory.
     fn print(&self) -> Result<Text, AllocError>;
 
     /// What the text is the print of. It answers `BadHeld` exactly where the text is the print of
     /// nothing that a store may hold, so every other spelling and order is refused too, and `Memory`
-    /// where memory is wanting. It takes a logarithmic step for each entry.
+    /// where it runs out of memory. It takes a logarithmic step for each entry.
     fn read(alloc: Global, text: &[u8]) -> Result<Self, HeldError>;
 }
 

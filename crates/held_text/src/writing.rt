@@ -121,7 +121,7 @@ pub(crate) fn write_pending(writer: &mut Writer, pending: &PendMaps) -> Result<(
     writer.end_array()
 }
 
-/// Writes a list of keys, each printed, rising. The only error is want of memory, after which a part of it may have been
+/// Writes a list of keys, each printed, rising. The only error is out of memory, after which a part of it may have been
 /// written. It takes the time of printing each key.
 pub fn write_keys(writer: &mut Writer, keys: &KeyList) -> Result<(), AllocError>
     ensures wrote { OnOk result (Wrote (keys_data keys.now) writer.old writer.new) }
@@ -134,7 +134,7 @@ pub fn write_keys(writer: &mut Writer, keys: &KeyList) -> Result<(), AllocError>
     writer.end_array()
 }
 
-/// Writes the owed keys: `"all"`, or the list of them. The only error is want of memory, after which a part of it may have
+/// Writes the owed keys: `"all"`, or the list of them. The only error is out of memory, after which a part of it may have
 /// been written. It takes the time of printing each key.
 pub fn write_owed(writer: &mut Writer, owed: &Owed) -> Result<(), AllocError>
     ensures wrote { OnOk result (Wrote (owed_data owed.now) writer.old writer.new) }

@@ -6,7 +6,8 @@ use Rattle.host_client.specs.Words.{words_of, AsksNothing}
 -- the same words are those of the same question
 same_question : (m t n u : List ℕ) (b c : Option (List ℕ)) → words_of m t b ≡ words_of n u c → is_question m t b ≡ is_question n u c
 same_question m t n u None None e = let one : m ≡ n = cc in let two : t ≡ u = cc in λ i. is_question (one i) (two i) None
-same_question m t n u (Some b) (Some c) e = let one : m ≡ n = cc in let two : t ≡ u = cc in let three : b ≡ c = cc in λ i. is_question (one i) (two i) (Some (three i))
+same_question m t n u (Some b) (Some c) e = let one : m ≡ n = cc in let two : t ≡ u = cc in let three : b ≡ c = cc in
+    λ i. is_question (one i) (two i) (Some (three i))
 same_question m t n u None (Some c) e = cc
 same_question m t n u (Some b) None e = cc
 

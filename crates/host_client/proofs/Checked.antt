@@ -2,7 +2,7 @@
 use Rattle.std.proofs.Common.{◌≡◌, ◌≤◌, ◌<◌, ℕ, Option, Some, None, MatchOption, arith}
 use Rattle.std.specs.Option.{SomeIff}
 
--- What is told by no value.
+-- What no value tells.
 pub none_matches : {T : Type 0} (o : Option T) (P : Type 0) (Q : T → Type 0) → o ≡ None → P → MatchOption o P Q
 none_matches None P Q e p = p
 none_matches (Some x) P Q e p = cc

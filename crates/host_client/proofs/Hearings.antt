@@ -28,7 +28,8 @@ both text bytes old mid new sent heard = record {
 }
 
 -- a text is sent whole, and the input is read to its end
-pub whole_exchange : (text bytes : List ℕ) (a b c d : Option Exchange) → b ≡ a → Moves b c (IsSent text) → Moves c d (IsHeardToEnd bytes) → length bytes ≤ 16777216
+pub whole_exchange : (text bytes : List ℕ) (a b c d : Option Exchange) → b ≡ a → Moves b c (IsSent text) → Moves c d (IsHeardToEnd bytes)
+    → length bytes ≤ 16777216
     → Moves a d (IsWhole text bytes)
 whole_exchange text bytes a b c d same m n within = moves_after same (moves_then (λ old mid new sent heard.
     record { exchanged = both text bytes old mid new sent heard.heard; end = heard.end; within = within }) m n)
@@ -44,7 +45,8 @@ pub part_none : (text : List ℕ) (a b : Option Exchange) → b ≡ a → Moves 
 part_none text a b same = moves_after same (moves_stay (λ e. record { front = []; rest = text; split = refl; written = sym (append-nil e.written) }))
 
 -- the whole input is a reply
-pub answered : (text sent bytes read : List ℕ) (status : ℕ) (body : List ℕ) (a b : Option Exchange) → Moves a b (IsWhole sent bytes) → sent ≡ text → read ≡ bytes
+pub answered : (text sent bytes read : List ℕ) (status : ℕ) (body : List ℕ) (a b : Option Exchange) → Moves a b (IsWhole sent bytes) → sent ≡ text
+    → read ≡ bytes
     → IsReply read status body → Moves a b (IsAnswered status body text)
 answered text sent bytes read status body a b m same all reply = moves_map (λ old new whole.
     record { bytes = bytes; whole = subst (λ t. IsWhole t bytes old new) same whole; reply = subst (λ l. IsReply l status body) all reply }) m

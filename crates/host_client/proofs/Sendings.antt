@@ -9,7 +9,12 @@ use Rattle.host_client.specs.Exchanges.{after_writing, IsSent, IsSentBefore, IsS
 -- nothing is sent yet
 pub sent_none : (text : List ℕ) (a : Option Exchange) → Moves a a (IsSentBefore text text)
 sent_none text a =
-    moves_stay (λ e. record { front = []; split = refl; is = ap (λ (l : List ℕ). let x : Exchange = record { heard = e.heard; left = e.left; written = l; failed = e.failed } in x) (sym (append-nil e.written)) })
+    moves_stay (λ e. record {
+      front = [];
+      split = refl;
+      is = ap (λ (l : List ℕ). let x : Exchange =
+          record { heard = e.heard; left = e.left; written = l; failed = e.failed } in x) (sym (append-nil e.written));
+    })
 
 -- nothing is left to be sent
 pub sent_all : (text rest : List ℕ) (a b : Option Exchange) → Moves a b (IsSentBefore rest text) → rest ≡ [] → Moves a b (IsSent text)
@@ -18,6 +23,12 @@ sent_all text rest a b m none = moves_map (λ old new before.
 
 -- what is sent is a part
 pub sent_part : (text rest : List ℕ) (a b : Option Exchange) → Moves a b (IsSentBefore rest text) → Moves a b (IsSentInPart text)
-sent_part text rest a b m = moves_map (λ old new before. record { front = before.front; rest = rest; split = before.split; written = ap (λ (e : Exchange). e.written) before.is }) m
+sent_part text rest a b m = moves_map (λ old new before. record {
+  front = before.front;
+  rest = rest;
+  split = before.split;
+  written =
+      ap (λ (e : Exchange). e.written) before.is;
+}) m
 
 pub ruleset sendings = (sent_none, sent_all, sent_part)

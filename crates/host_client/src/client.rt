@@ -27,7 +27,7 @@ enum Refusal {
     BadReply,
     // The input is too long.
     TooLong,
-    // Want of memory.
+    // Out of memory.
     Memory,
 }
 
@@ -64,7 +64,7 @@ fn answer_to<L: Link>(alloc: Global, words: &[String], link: &mut L) -> Result<G
 /// | Status | Where | Line |
 /// |---|---|---|
 /// | 0 | a reply of 200 to 299 | its body, nothing for an empty one |
-/// | 1 | memory is wanting | `settingsctl: memory` |
+/// | 1 | it ran out of memory | `settingsctl: memory` |
 /// | 2 | the words aren't two or three, or can't be asked (`is_question`) | `settingsctl: usage` |
 /// | 4 | only where the link failed | `settingsctl: link` |
 /// | 12 | only where the output failed, in place of any other status but 1 | what was taken |

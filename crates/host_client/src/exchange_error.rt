@@ -15,7 +15,7 @@ pub enum AskError {
     /// The input has more than 16,777,216 bytes.
     #[error("the reply is too long")]
     TooLong,
-    /// Want of memory.
+    /// Out of memory.
     #[error("out of memory")]
     Memory,
 }

@@ -99,7 +99,7 @@ fn front_of(alloc: Global, method: &[u8], target: &[u8]) -> Result<Vec<u8>, Allo
     Ok(text)
 }
 
-/// The bytes that are sent for a question, an HTTP/1.1 request (RFC 9112) after which the connection is closed; or want
+/// The bytes that are sent for a question, an HTTP/1.1 request (RFC 9112) after which the connection is closed; or out
 /// of memory.
 pub fn question_text(
     alloc: Global,

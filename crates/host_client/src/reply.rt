@@ -42,8 +42,8 @@ fn parts_of(bytes: &[u8]) -> Option<(u16, usize)>
 /// fields, and then the body.
 ///
 /// `BadReply` exactly where the bytes don't begin with such a head, or it has more than one Content-Length, or one whose
-/// value isn't digits that give the number of the bytes after the head; that takes no memory. `Memory` where memory is
-/// wanting for the body. The cost is that of the bytes.
+/// value isn't digits that give the number of the bytes after the head; that takes no memory. `Memory` where it runs
+/// out of memory for the body. The cost is that of the bytes.
 pub fn read_reply(alloc: Global, bytes: &[u8]) -> Result<Got, ReplyError>
     ensures reply { IfOk result (λ got. IsReply bytes.now got.status got.body) }
     ensures every { (status : ℕ) (body : List ℕ) → IsReply bytes.now status body

@@ -11,7 +11,7 @@ pub enum ReplyError {
     /// They are no reply.
     #[error("no reply")]
     BadReply,
-    /// Want of memory.
+    /// Out of memory.
     #[error("memory")]
     Memory,
 }

@@ -1,5 +1,6 @@
 -- A tree whose leaves are some pairs flattens to these pairs.
-use Rattle.std.proofs.Common.{◌≡◌, ℕ, ◌<◌, List, [], ◌∷◌, ◌++◌, map, take, drop, length, Option, Ok, ok_or, option_map, true, append_assoc, append-nil, length-append, refl, sym, ap, ◌∙◌, subst, arith}
+use Rattle.std.proofs.Common.{◌≡◌, ℕ, ◌<◌, List, [], ◌∷◌, ◌++◌, map, take, drop, length, Option}
+use Rattle.std.proofs.Common.{Ok, ok_or, option_map, true, append_assoc, append-nil, length-append, refl, sym, ap, ◌∙◌, subst, arith}
 use Rattle.std.proofs.lemmas.List.{take-append-drop, length-map}
 use Rattle.std.specs.List.{AllByRecursion}
 use Rattle.std.specs.Map.{keys_of}
@@ -14,7 +15,7 @@ use Rattle.json_trees.proofs.Gathering.{members_pairs-member}
 use Rattle.json_trees.proofs.Segments.{is_key-first}
 
 module _ {V : Type 0} (leaf : Data → Option V) (written : V → Data) where
-  -- each pair stands at the path of its entry below a path, and is written as its value
+  -- each pair is at the path of its entry below a path, and is written as its value
   abbrev Match : Path → List (Path × V) → List (Path × Data) → Type 0
   Match path [] [] = Unit {0}
   Match path [] (e ∷ entries) = ⊥
@@ -31,7 +32,8 @@ module _ {V : Type 0} (leaf : Data → Option V) (written : V → Data) where
     front_sound : AllByRecursion (IsSound leaf written) front
     back_sound : AllByRecursion (IsSound leaf written) back
 
-  cut : (path : Path) (pairs : List (Path × V)) (first second : List (Path × Data)) → Match path pairs (first ++ second) → AllByRecursion (IsSound leaf written) pairs → Cut path pairs first second
+  cut : (path : Path) (pairs : List (Path × V)) (first second : List (Path × Data)) → Match path pairs (first ++ second)
+      → AllByRecursion (IsSound leaf written) pairs → Cut path pairs first second
   cut path pairs [] second h sound = record { front = []; back = pairs; are = refl; front_match = tt; back_match = h; front_sound = tt; back_sound = sound }
   cut path [] (e ∷ first) second h sound = absurd h
   cut path (p ∷ pairs) (e ∷ first) second h sound =
@@ -46,7 +48,8 @@ module _ {V : Type 0} (leaf : Data → Option V) (written : V → Data) where
         back_sound = c.back_sound;
       }
 
-  Match-below : (path : Path) (name : List ℕ) (pairs : List (Path × V)) (entries : List (Path × Data)) → Match path pairs (map (below name) entries) → Match (path ++ name ∷ []) pairs entries
+  Match-below : (path : Path) (name : List ℕ) (pairs : List (Path × V)) (entries : List (Path × Data)) → Match path pairs (map (below name) entries)
+      → Match (path ++ name ∷ []) pairs entries
   Match-below path name [] [] h = tt
   Match-below path name [] (e ∷ entries) h = absurd h
   Match-below path name (p ∷ pairs) [] h = absurd h
@@ -56,7 +59,8 @@ module _ {V : Type 0} (leaf : Data → Option V) (written : V → Data) where
       → ok_or (option_map (λ v. (key, v) ∷ []) (leaf d)) BadValue ≡ Ok pairs
   at_leaf key d [] h sound = absurd h
   at_leaf key d (p ∷ []) h sound =
-      ap (λ o. ok_or (option_map (λ v. (key, v) ∷ []) o) BadValue) (ap leaf h.1 ∙ sound.0.1.reads_as) ∙ ap (λ k. Ok ((k, p.1) ∷ [])) (sym (h.0 ∙ append-nil key))
+      ap (λ o. ok_or (option_map (λ v. (key, v) ∷ []) o) BadValue) (ap leaf h.1 ∙ sound.0.1.reads_as)
+      ∙ ap (λ k. Ok ((k, p.1) ∷ [])) (sym (h.0 ∙ append-nil key))
   at_leaf key d (p ∷ q ∷ pairs) h sound = absurd h.2
 
   no_empty : (key : Path) (pairs : List (Path × V)) → Match key pairs (([], object no_members) ∷ []) → AllByRecursion (IsSound leaf written) pairs → ⊥
@@ -64,7 +68,8 @@ module _ {V : Type 0} (leaf : Data → Option V) (written : V → Data) where
   no_empty key (p ∷ pairs) h sound = let none = ap as_object h.1 ∙ sound.0.1.no_object in cc
 
   -- the entries of a value are one or more, so that its path begins a key
-  first_key : (key : Path) (pairs : List (Path × V)) (entries : List (Path × Data)) → 0 < length key → 0 < length entries → Match key pairs entries → AllByRecursion (IsSound leaf written) pairs → is_key key ≡ true
+  first_key : (key : Path) (pairs : List (Path × V)) (entries : List (Path × Data)) → 0 < length key → 0 < length entries → Match key pairs entries
+      → AllByRecursion (IsSound leaf written) pairs → is_key key ≡ true
   first_key key pairs [] some more h sound = absurd (omega arith)
   first_key key [] (e ∷ entries) some more h sound = absurd h
   first_key key (p ∷ pairs) (e ∷ entries) some more h sound = is_key-first key e.0 some (rw h.0 at sound.0.0)
@@ -76,10 +81,17 @@ module _ {V : Type 0} (leaf : Data → Option V) (written : V → Data) where
   leaves_some (string s) = omega arith
   leaves_some (array ds) = omega arith
   leaves_some (object no_members) = omega arith
-  leaves_some (object (member name d ms)) = omega (arith, leaves_some d, length-append (map (below name) (leaves d)) (members_leaves ms), length-map {B = Path × Data} (leaves d) (below name))
+  leaves_some (object (member name d ms)) = omega (
+    arith,
+    leaves_some d,
+    length-append (map (below name) (leaves d)) (members_leaves ms),
+    length-map
+        {B = Path × Data} (leaves d) (below name),
+  )
 
   mutual
-    back_value : (key : Path) (d : Data) (pairs : List (Path × V)) → Match key pairs (leaves d) → AllByRecursion (IsSound leaf written) pairs → value_pairs leaf key d ≡ Ok pairs
+    back_value : (key : Path) (d : Data) (pairs : List (Path × V)) → Match key pairs (leaves d) → AllByRecursion (IsSound leaf written) pairs
+        → value_pairs leaf key d ≡ Ok pairs
     back_value key null pairs h sound = at_leaf key null pairs h sound
     back_value key (boolean b) pairs h sound = at_leaf key (boolean b) pairs h sound
     back_value key (number n) pairs h sound = at_leaf key (number n) pairs h sound
@@ -88,7 +100,8 @@ module _ {V : Type 0} (leaf : Data → Option V) (written : V → Data) where
     back_value key (object no_members) pairs h sound = absurd (no_empty key pairs h sound)
     back_value key (object (member name d ms)) pairs h sound = back_members key (member name d ms) pairs h sound
 
-    back_members : (path : Path) (ms : Members) (pairs : List (Path × V)) → Match path pairs (members_leaves ms) → AllByRecursion (IsSound leaf written) pairs → members_pairs leaf path ms ≡ Ok pairs
+    back_members : (path : Path) (ms : Members) (pairs : List (Path × V)) → Match path pairs (members_leaves ms) → AllByRecursion (IsSound leaf written) pairs
+        → members_pairs leaf path ms ≡ Ok pairs
     back_members path no_members [] h sound = refl
     back_members path no_members (p ∷ pairs) h sound = absurd h
     back_members path (member name d ms) pairs h sound =
@@ -100,11 +113,14 @@ module _ {V : Type 0} (leaf : Data → Option V) (written : V → Data) where
         ∙ ap (λ r. both r (members_pairs leaf path ms)) (back_value here d c.front matched c.front_sound)
         ∙ ap (both (Ok c.front)) (back_members path ms c.back c.back_match c.back_sound) ∙ ap Ok (sym c.are)
 
-  matches : (n : ℕ) (under : Path) (pairs : List (Path × V)) → AllByRecursion (λ key. take n key ≡ under) (keys_of pairs) → Match under pairs (nested_entries written n pairs)
+  matches : (n : ℕ) (under : Path) (pairs : List (Path × V)) → AllByRecursion (λ key. take n key ≡ under) (keys_of pairs)
+      → Match under pairs (nested_entries written n pairs)
   matches n under [] h = tt
   matches n under (p ∷ pairs) h = (sym (take-append-drop n p.0) ∙ ap (λ front. front ++ drop n p.0) h.0, refl, matches n under pairs h.1)
 
   -- below the first segments of the keys the members flatten to the pairs that are their leaves
-  pub members_pairs-back : (n : ℕ) (under : Path) (pairs : List (Path × V)) (ms : Members) → AllByRecursion (λ key. take n key ≡ under) (keys_of pairs) → AllByRecursion (IsSound leaf written) pairs
+  pub members_pairs-back : (n : ℕ) (under : Path) (pairs : List (Path × V)) (ms : Members) → AllByRecursion (λ key. take n key ≡ under) (keys_of pairs)
+      → AllByRecursion (IsSound leaf written) pairs
       → members_leaves ms ≡ nested_entries written n pairs → members_pairs leaf under ms ≡ Ok pairs
-  members_pairs-back n under pairs ms alike sound are = back_members under ms pairs (subst (λ l. Match under pairs l) (sym are) (matches n under pairs alike)) sound
+  members_pairs-back n under pairs ms alike sound are = back_members under ms pairs (subst (λ l. Match under pairs l) (sym are) (matches n under pairs alike))
+      sound

@@ -1,4 +1,4 @@
--- JSON in bytes: the test for UTF-8 beside the fact.
+-- JSON in bytes: the test for UTF-8 next to the fact.
 use Rattle.std.proofs.Common.{◌≡◌, ℕ, List, Option, None, Bool, true, false, if◌then◌else◌, refl, ap, ◌∙◌}
 use Rattle.std.specs.Str.{IsUtf8, is_utf8}
 use Rattle.std.proofs.lemmas.Str.{IsUtf8-from_is_utf8, is_utf8-from_IsUtf8}

@@ -28,9 +28,11 @@ gathered-append f [] ys = both-none (gathered f ys)
 gathered-append f (x ∷ xs) ys = ap (both (f x)) (gathered-append f xs ys) ∙ both-both (f x) (gathered f xs) (gathered f ys)
 
 -- one more that gives a value
-pub collected-push : {A B E : Type 0} (f : A → Result B E) (xs : List A) (x : A) (ys : List B) (y : B) → collected f xs ≡ Ok ys → f x ≡ Ok y → collected f (xs ++ x ∷ []) ≡ Ok (ys ++ y ∷ [])
+pub collected-push : {A B E : Type 0} (f : A → Result B E) (xs : List A) (x : A) (ys : List B) (y : B) → collected f xs ≡ Ok ys → f x ≡ Ok y
+    → collected f (xs ++ x ∷ []) ≡ Ok (ys ++ y ∷ [])
 collected-push f xs x ys y h k = gathered-append (λ x. result_map (λ y. y ∷ []) (f x)) xs (x ∷ []) ∙ rw (h, k) refl
 
 -- one more that is refused
-pub collected-refused : {A B E : Type 0} (f : A → Result B E) (xs : List A) (x : A) (rest : List A) (ys : List B) (e : E) → collected f xs ≡ Ok ys → f x ≡ Err e → collected f (xs ++ x ∷ rest) ≡ Err e
+pub collected-refused : {A B E : Type 0} (f : A → Result B E) (xs : List A) (x : A) (rest : List A) (ys : List B) (e : E) → collected f xs ≡ Ok ys → f x ≡ Err e
+    → collected f (xs ++ x ∷ rest) ≡ Err e
 collected-refused f xs x rest ys e h k = gathered-append (λ x. result_map (λ y. y ∷ []) (f x)) xs (x ∷ rest) ∙ rw (h, k) refl

@@ -1,5 +1,6 @@
 -- The keys of flattened trees are apart.
-use Rattle.std.proofs.Common.{◌≡◌, ℕ, List, [], ◌∷◌, ◌++◌, Option, Some, None, Result, Ok, Err, ok_or, option_map, Bool, true, false, ◌⊎◌, inl, inr, Less, take, length, length-append, ◌<◌, arith, append_assoc, append-nil, refl, sym, ap, ◌∙◌, subst}
+use Rattle.std.proofs.Common.{◌≡◌, ℕ, List, [], ◌∷◌, ◌++◌, Option, Some, None, Result, Ok, Err, ok_or, option_map, Bool, true}
+use Rattle.std.proofs.Common.{false, ◌⊎◌, inl, inr, Less, take, length, length-append, ◌<◌, arith, append_assoc, append-nil, refl, sym, ap, ◌∙◌, subst}
 use Rattle.std.specs.List.{All, AllByRecursion}
 use Rattle.std.specs.Map.{keys_of}
 use Rattle.std.proofs.lemmas.List.{map-append, take_at}
@@ -45,9 +46,17 @@ record Halves {V : Type 0} (front back : Result (List (Path × V)) TreeError) (w
 halves : {V : Type 0} (front back : Result (List (Path × V)) TreeError) (whole : List (Path × V)) → both front back ≡ Ok whole → Halves front back whole
 halves (Err e) back whole h = cc
 halves (Ok xs) (Err e) whole h = cc
-halves (Ok xs) (Ok ys) whole h = record { first = xs; second = ys; first_is = refl; second_is = refl; keys_are = let joined : whole ≡ xs ++ ys = cc in ap keys_of joined ∙ map-append (λ p. p.0) xs ys }
+halves (Ok xs) (Ok ys) whole h = record {
+  first = xs;
+  second = ys;
+  first_is = refl;
+  second_is = refl;
+  keys_are = let joined : whole ≡ xs ++ ys = cc in
+      ap keys_of joined ∙ map-append (λ p. p.0) xs ys;
+}
 
-across : (path : Path) (name : List ℕ) (ms : Members) (k l : Path) → AllNames (λ other. bytes_cmp name other ≡ Less) ms → IsBelow (path ++ name ∷ []) k → GoesOn path ms l → Parts k l
+across : (path : Path) (name : List ℕ) (ms : Members) (k l : Path) → AllNames (λ other. bytes_cmp name other ≡ Less) ms → IsBelow (path ++ name ∷ []) k
+    → GoesOn path ms l → Parts k l
 across path name ms k l rise below on =
     rw (below.1 ∙ append_assoc path (name ∷ []) below.0, on.3)
     (Parts-append path (name ∷ below.0) (on.0 ∷ on.1) (inl (holds_at (λ other. bytes_cmp name other ≡ Less) ms on.0 rise on.2)))
@@ -76,9 +85,11 @@ module _ {V : Type 0} (leaf : Data → Option V) where
     value_below key (number n) pairs e = (at_leaf key _ pairs e).0
     value_below key (string s) pairs e = (at_leaf key _ pairs e).0
     value_below key (array ds) pairs e = (at_leaf key _ pairs e).0
-    value_below key (object ms) pairs e = AllByRecursion-weaker (GoesOn key ms) (IsBelow key) (keys_of pairs) (λ k on. (on.0 ∷ on.1, on.3)) (members_below key ms pairs e)
+    value_below key (object ms) pairs e = AllByRecursion-weaker (GoesOn key ms) (IsBelow key) (keys_of pairs) (λ k on. (on.0 ∷ on.1, on.3))
+        (members_below key ms pairs e)
 
-    members_below : (path : Path) (ms : Members) (pairs : List (Path × V)) → members_pairs leaf path ms ≡ Ok pairs → AllByRecursion (GoesOn path ms) (keys_of pairs)
+    members_below : (path : Path) (ms : Members) (pairs : List (Path × V)) → members_pairs leaf path ms ≡ Ok pairs
+        → AllByRecursion (GoesOn path ms) (keys_of pairs)
     members_below path no_members pairs e = let none : pairs ≡ [] = cc in rw none tt
     members_below path (member name d ms) pairs e =
         let h = member_halves path name d ms pairs e in
@@ -86,7 +97,8 @@ module _ {V : Type 0} (leaf : Data → Option V) where
         let all = GoesOn path (member name d ms) in
         rw h.keys_are
         (AllByRecursion-append all (keys_of h.first) (keys_of h.second)
-        (AllByRecursion-weaker (IsBelow here) all (keys_of h.first) (λ k below. (name, below.0, inl refl, below.1 ∙ append_assoc path (name ∷ []) below.0)) (value_below here d h.first h.first_is))
+        (AllByRecursion-weaker (IsBelow here) all (keys_of h.first) (λ k below. (name, below.0, inl refl, below.1 ∙ append_assoc path (name ∷ []) below.0))
+        (value_below here d h.first h.first_is))
         (AllByRecursion-weaker (GoesOn path ms) all (keys_of h.second) (λ k on. (on.0, on.1, inr on.2, on.3)) (members_below path ms h.second h.second_is)))
 
   mutual
@@ -98,12 +110,14 @@ module _ {V : Type 0} (leaf : Data → Option V) where
     value_parted key (array ds) pairs rise e = (at_leaf key _ pairs e).1
     value_parted key (object ms) pairs rise e = members_parted key ms pairs rise e
 
-    members_parted : (path : Path) (ms : Members) (pairs : List (Path × V)) → NamesRise ms → members_pairs leaf path ms ≡ Ok pairs → Pairwise Parts (keys_of pairs)
+    members_parted : (path : Path) (ms : Members) (pairs : List (Path × V)) → NamesRise ms → members_pairs leaf path ms ≡ Ok pairs
+        → Pairwise Parts (keys_of pairs)
     members_parted path no_members pairs rise e = let none : pairs ≡ [] = cc in rw none tt
     members_parted path (member name d ms) pairs rise e =
         let h = member_halves path name d ms pairs e in
         rw h.keys_are
-        (Pairwise-append Parts (IsBelow (path ++ name ∷ [])) (GoesOn path ms) (keys_of h.first) (keys_of h.second) (λ k l below on. across path name ms k l rise.0 below on)
+        (Pairwise-append Parts (IsBelow (path ++ name ∷ [])) (GoesOn path ms) (keys_of h.first) (keys_of h.second)
+        (λ k l below on. across path name ms k l rise.0 below on)
         (value_below (path ++ name ∷ []) d h.first h.first_is) (members_below path ms h.second h.second_is)
         (value_parted (path ++ name ∷ []) d h.first rise.1 h.first_is) (members_parted path ms h.second rise.2 h.second_is))
 
@@ -112,13 +126,15 @@ module _ {V : Type 0} (leaf : Data → Option V) where
   AreApart-tree_pairs path (object ms) pairs rise e = AreApart-from_Pairwise (keys_of pairs) (members_parted path ms pairs rise e)
   AreApart-tree_pairs path _ pairs rise e = cc
 
-  -- the keys of the pairs of a JSON value that stands at a path go on from this path
+  -- the keys of the pairs of a JSON value that is at a path go on from this path
   pub ShareFirst-tree_pairs : (path : Path) (d : Data) (pairs : List (Path × V)) → tree_pairs leaf path d ≡ Ok pairs → ShareFirst (length path) (keys_of pairs)
   ShareFirst-tree_pairs path (object ms) pairs e =
       let n = length path in
       let below = members_below path ms pairs e in
-      let longer = AllByRecursion-weaker (GoesOn path ms) (λ key. n < length key) (keys_of pairs) (λ key on. omega (arith, ap length on.3, length-append path (on.0 ∷ on.1))) below in
-      let same = AllByRecursion-weaker (GoesOn path ms) (λ key. take n key ≡ path) (keys_of pairs) (λ key on. ap (take n) on.3 ∙ take_at path (on.0 ∷ on.1) n refl) below in
+      let longer = AllByRecursion-weaker (GoesOn path ms) (λ key. n < length key) (keys_of pairs)
+      (λ key on. omega (arith, ap length on.3, length-append path (on.0 ∷ on.1))) below in
+      let same = AllByRecursion-weaker (GoesOn path ms) (λ key. take n key ≡ path) (keys_of pairs)
+      (λ key on. ap (take n) on.3 ∙ take_at path (on.0 ∷ on.1) n refl) below in
       let alike = All-from (λ key. take n key ≡ path) (keys_of pairs) same in
       record {
         longer = All-from (λ key. n < length key) (keys_of pairs) longer;
@@ -126,9 +142,11 @@ module _ {V : Type 0} (leaf : Data → Option V) where
       }
   ShareFirst-tree_pairs path _ pairs e = cc
 
-  -- the keys of the pairs of a JSON value that stands at a path begin with this path
-  pub All_below-tree_pairs : (path : Path) (d : Data) (pairs : List (Path × V)) → tree_pairs leaf path d ≡ Ok pairs → All (λ key. take (length path) key ≡ path) (keys_of pairs)
+  -- the keys of the pairs of a JSON value that is at a path begin with this path
+  pub All_below-tree_pairs : (path : Path) (d : Data) (pairs : List (Path × V)) → tree_pairs leaf path d ≡ Ok pairs
+      → All (λ key. take (length path) key ≡ path) (keys_of pairs)
   All_below-tree_pairs path (object ms) pairs e =
       All-from (λ key. take (length path) key ≡ path) (keys_of pairs)
-      (AllByRecursion-weaker (GoesOn path ms) (λ key. take (length path) key ≡ path) (keys_of pairs) (λ key on. ap (take (length path)) on.3 ∙ take_at path (on.0 ∷ on.1) (length path) refl) (members_below path ms pairs e))
+      (AllByRecursion-weaker (GoesOn path ms) (λ key. take (length path) key ≡ path) (keys_of pairs)
+      (λ key on. ap (take (length path)) on.3 ∙ take_at path (on.0 ∷ on.1) (length path) refl) (members_below path ms pairs e))
   All_below-tree_pairs path _ pairs e = cc

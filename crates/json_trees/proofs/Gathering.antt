@@ -27,7 +27,7 @@ module _ {V : Type 0} (leaf : Data → Option V) where
   below_value path (array ds) = both-nothing _
   below_value path (object ms) = sym (both-none _)
 
-  -- where a member's path is a key, its pairs come first, and those of the other members behind them
+  -- where a member's path is a key, its pairs come first, and those of the other members after them
   pub members_pairs-member : (path key : Path) (name : List ℕ) (d : Data) (ms : Members) → key ≡ path ++ name ∷ [] → is_key key ≡ true
       → members_pairs leaf path (member name d ms) ≡ both (value_pairs leaf key d) (members_pairs leaf path ms)
   members_pairs-member path key name d ms named valid =
@@ -39,7 +39,8 @@ module _ {V : Type 0} (leaf : Data → Option V) where
       ∙ ap (λ r. both r (E (members_entries path ms))) (below_value key d)
 
   -- where it is none, the member is refused
-  pub members_pairs-no_key : (path : Path) (name : List ℕ) (d : Data) (ms : Members) → is_key (path ++ name ∷ []) ≡ false → members_pairs leaf path (member name d ms) ≡ Err BadKey
+  pub members_pairs-no_key : (path : Path) (name : List ℕ) (d : Data) (ms : Members) → is_key (path ++ name ∷ []) ≡ false
+      → members_pairs leaf path (member name d ms) ≡ Err BadKey
   members_pairs-no_key path name d ms no_key =
       let here = path ++ name ∷ [] in
       ap (λ test. both (if test then leaf_pairs leaf here d else Err BadKey) (gathered (entry_pairs leaf) (entries here d ++ members_entries path ms))) no_key
@@ -50,20 +51,23 @@ module _ {V : Type 0} (leaf : Data → Option V) where
 
   -- one more member's pairs are found
   pub gathering_grown : (path key : Path) (whole rest : Members) (name : List ℕ) (d : Data) (left : Members) (old new newer : List (Path × V))
-      → Gathering leaf path whole rest old new → rest ≡ member name d left → key ≡ path ++ name ∷ [] → is_key key ≡ true → Appends (value_pairs leaf key d) new newer
+      → Gathering leaf path whole rest old new → rest ≡ member name d left → key ≡ path ++ name ∷ [] → is_key key ≡ true
+      → Appends (value_pairs leaf key d) new newer
       → Gathering leaf path whole left old newer
   gathering_grown path key whole rest name d left old new newer so_far is named valid more = record {
     found = so_far.found ++ more.found;
     to_come =
         so_far.to_come ∙ ap (λ ms. both (Ok so_far.found) (members_pairs leaf path ms)) is
-        ∙ ap (both (Ok so_far.found)) (members_pairs-member path key name d left named valid ∙ ap (λ r. both r (members_pairs leaf path left)) more.none_refused)
+        ∙ ap (both (Ok so_far.found)) (members_pairs-member path key name d left named valid
+        ∙ ap (λ r. both r (members_pairs leaf path left)) more.none_refused)
         ∙ both-both (Ok so_far.found) (Ok more.found) (members_pairs leaf path left);
     appended = more.appended ∙ ap (λ l. l ++ more.found) so_far.appended ∙ append_assoc old so_far.found more.found;
   }
 
   -- the first bad entry of a member is the first of all
   pub gathering_refused : (path key : Path) (whole rest : Members) (name : List ℕ) (d : Data) (left : Members) (old new : List (Path × V)) (e : TreeError)
-      → Gathering leaf path whole rest old new → rest ≡ member name d left → key ≡ path ++ name ∷ [] → is_key key ≡ true → value_pairs leaf key d ≡ Err e → members_pairs leaf path whole ≡ Err e
+      → Gathering leaf path whole rest old new → rest ≡ member name d left → key ≡ path ++ name ∷ [] → is_key key ≡ true → value_pairs leaf key d ≡ Err e
+      → members_pairs leaf path whole ≡ Err e
   gathering_refused path key whole rest name d left old new e so_far is named valid refused =
       so_far.to_come ∙ ap (λ ms. both (Ok so_far.found) (members_pairs leaf path ms)) is
       ∙ ap (both (Ok so_far.found)) (members_pairs-member path key name d left named valid ∙ ap (λ r. both r (members_pairs leaf path left)) refused)
@@ -72,4 +76,5 @@ module _ {V : Type 0} (leaf : Data → Option V) where
   pub gathering_no_key : (path : Path) (whole rest : Members) (name : List ℕ) (d : Data) (left : Members) (old new : List (Path × V))
       → Gathering leaf path whole rest old new → rest ≡ member name d left → is_key (path ++ name ∷ []) ≡ false → members_pairs leaf path whole ≡ Err BadKey
   gathering_no_key path whole rest name d left old new so_far is no_key =
-      so_far.to_come ∙ ap (λ ms. both (Ok so_far.found) (members_pairs leaf path ms)) is ∙ ap (both (Ok so_far.found)) (members_pairs-no_key path name d left no_key)
+      so_far.to_come ∙ ap (λ ms. both (Ok so_far.found) (members_pairs leaf path ms)) is
+      ∙ ap (both (Ok so_far.found)) (members_pairs-no_key path name d left no_key)

@@ -18,7 +18,8 @@ use Rattle.json_trees.proofs.Integers.{IsReadable-of_integer, as_i64-of_integer}
 abbrev pub items_data : List Item → Items
 items_data items = items_of (map item_data items)
 
-items_tokens-items_data : (items : List Item) → items_tokens (items_outline (items_data items)) ≡ flat_map (λ item. data_tokens (item_data item)) items ++ token.end_array ∷ []
+items_tokens-items_data : (items : List Item) → items_tokens (items_outline (items_data items)) ≡ flat_map (λ item. data_tokens (item_data item)) items
+    ++ token.end_array ∷ []
 items_tokens-items_data [] = refl
 items_tokens-items_data (i ∷ items) =
     ap (λ ts. data_tokens (item_data i) ++ ts) (items_tokens-items_data items)
@@ -26,11 +27,13 @@ items_tokens-items_data (i ∷ items) =
 
 -- the tokens of an array of items are those of its items in brackets
 pub written_array : (items : List Item) (start opened filled closed : List token.Token) → opened ≡ start ++ token.begin_array ∷ []
-    → filled ≡ opened ++ flat_map (λ item. data_tokens (item_data item)) items → closed ≡ filled ++ token.end_array ∷ [] → closed ≡ start ++ data_tokens (array (items_data items))
+    → filled ≡ opened ++ flat_map (λ item. data_tokens (item_data item)) items → closed ≡ filled ++ token.end_array ∷ []
+    → closed ≡ start ++ data_tokens (array (items_data items))
 written_array items start opened filled closed a b c =
     let inside = flat_map (λ (i : Item). data_tokens (item_data i)) items in
     c ∙ ap (λ ts. ts ++ token.end_array ∷ []) (b ∙ ap (λ ts. ts ++ inside) a)
-    ∙ append_assoc (start ++ token.begin_array ∷ []) inside (token.end_array ∷ []) ∙ append_assoc start (token.begin_array ∷ []) (inside ++ token.end_array ∷ [])
+    ∙ append_assoc (start ++ token.begin_array ∷ []) inside (token.end_array ∷ [])
+    ∙ append_assoc start (token.begin_array ∷ []) (inside ++ token.end_array ∷ [])
     ∙ ap (λ ts. start ++ token.begin_array ∷ ts) (sym (items_tokens-items_data items))
 
 IsReadable-item_data : (i : Item) → ItemInRange i → IsReadable 0 (item_data i)

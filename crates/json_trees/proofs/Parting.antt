@@ -1,5 +1,6 @@
 -- Keys that part at a segment.
-use Rattle.std.proofs.Common.{◌≡◌, ◌<◌, ◌+◌, ℕ, zero, suc, length, get_or, drop, drop-cons, add-one, arith, inl, inr, false, List, [], ◌∷◌, ◌++◌, Less, Equal, Greater, refl, sym, ap, ◌∙◌}
+use Rattle.std.proofs.Common.{◌≡◌, ◌<◌, ◌+◌, ℕ, zero, suc, length, get_or, drop, drop-cons, add-one, arith, inl}
+use Rattle.std.proofs.Common.{inr, false, List, [], ◌∷◌, ◌++◌, Less, Equal, Greater, refl, sym, ap, ◌∙◌}
 use Rattle.std.specs.Ordering.{ordering_reverse}
 use Rattle.std.specs.List.{AllByRecursion, AllPairs, All}
 use Rattle.std.specs.List.Sorted.{IsStrictlySortedBy}
@@ -54,11 +55,15 @@ AllByRecursion-weaker P Q [] f h = tt
 AllByRecursion-weaker P Q (x ∷ xs) f h = (f x h.0, AllByRecursion-weaker P Q xs f h.1)
 
 -- what holds within two lists, and of each of the first and each of the second, holds within both
-pub Pairwise-append : {X : Type 0} (R : X → X → Type 0) (P Q : X → Type 0) (xs ys : List X) → ((x y : X) → P x → Q y → R x y) → AllByRecursion P xs → AllByRecursion Q ys
+pub Pairwise-append : {X : Type 0} (R : X → X → Type 0) (P Q : X → Type 0) (xs ys : List X) → ((x y : X) → P x → Q y → R x y) → AllByRecursion P xs
+    → AllByRecursion Q ys
     → Pairwise R xs → Pairwise R ys → Pairwise R (xs ++ ys)
 Pairwise-append R P Q [] ys across p q h k = k
-Pairwise-append R P Q (x ∷ xs) ys across p q h k =
-    (AllByRecursion-append (λ y. R x y) xs ys h.0 (AllByRecursion-weaker Q (λ y. R x y) ys (λ y held. across x y p.0 held) q), Pairwise-append R P Q xs ys across p.1 q h.1 k)
+Pairwise-append R P Q (x ∷ xs) ys across p q h k = (
+  AllByRecursion-append (λ y. R x y) xs ys h.0 (AllByRecursion-weaker Q (λ y. R x y) ys (λ y held. across x y p.0 held) q),
+  Pairwise-append R P Q xs ys
+      across p.1 q h.1 k,
+)
 
 rising : (keys : List (List (List ℕ))) → Pairwise Parts keys → IsStrictlySortedBy key_cmp keys
 unfolding IsStrictlySortedBy
@@ -75,7 +80,8 @@ unlike : (keys : List (List (List ℕ))) → Pairwise Parts keys → AllPairs (�
 unlike [] h = λ i j d before within. absurd (omega arith)
 unlike (k ∷ keys) h =
     AllPairs-cons (λ key other. overlaps key other ≡ false) k keys
-    (All-from (λ l. overlaps k l ≡ false) keys (AllByRecursion-weaker (λ l. Parts k l) (λ l. overlaps k l ≡ false) keys (λ l. Parts-apart k l) h.0)) (unlike keys h.1)
+    (All-from (λ l. overlaps k l ≡ false) keys (AllByRecursion-weaker (λ l. Parts k l) (λ l. overlaps k l ≡ false) keys (λ l. Parts-apart k l) h.0))
+    (unlike keys h.1)
 
 -- keys of which each parts with each later one are apart
 pub AreApart-from_Pairwise : (keys : List (List (List ℕ))) → Pairwise Parts keys → AreApart keys

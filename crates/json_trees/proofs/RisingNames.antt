@@ -1,5 +1,6 @@
--- The members of the objects that are read stand in the order of their names.
-use Rattle.std.proofs.Common.{◌≡◌, ℕ, List, Bool, true, false, if◌then◌else◌, Option, Some, None, option_map, option_and_then, Ordering, Less, Equal, Greater, refl, ap, ◌∙◌, subst}
+-- The members of the objects that are read are in the order of their names.
+use Rattle.std.proofs.Common.{◌≡◌, ℕ, List, Bool, true, false, if◌then◌else◌, Option, Some, None}
+use Rattle.std.proofs.Common.{option_map, option_and_then, Ordering, Less, Equal, Greater, refl, ap, ◌∙◌, subst}
 use Rattle.std.specs.Bool.{⊤}
 use Rattle.std.specs.Str.{is_utf8}
 use Rattle.std.proofs.lemmas.Option.{option_and_then_some}
@@ -16,7 +17,7 @@ abbrev pub AllNames : (List ℕ → Type 0) → Members → Type 0
 AllNames P no_members = ⊤
 AllNames P (member name d ms) = P name × AllNames P ms
 
--- the names of each object rise; what stands in arrays is left out
+-- the names of each object rise; what is in arrays is left out
 abbrev mutual
   pub HasRisingNames : Data → Type 0
   HasRisingNames null = ⊤
@@ -45,7 +46,8 @@ AllNames-put : (P : List ℕ → Type 0) (k : List ℕ) (d : Data) (ms : Members
 AllNames-put P k d no_members here rest = (here, tt)
 AllNames-put P k d (member l e ms) here rest = AllNames-put_at P (bytes_cmp k l) k l d e ms here rest.0 rest.1 (AllNames-put P k d ms here rest.1)
 
-NamesRise-put_at : (o : Ordering) (k l : List ℕ) (d e : Data) (ms : Members) → bytes_cmp k l ≡ o → HasRisingNames d → NamesRise (member l e ms) → NamesRise (put k d ms)
+NamesRise-put_at : (o : Ordering) (k l : List ℕ) (d e : Data) (ms : Members) → bytes_cmp k l ≡ o → HasRisingNames d → NamesRise (member l e ms)
+    → NamesRise (put k d ms)
     → NamesRise (match_ordering o (member k d (member l e ms)) (member l d ms) (member l e (put k d ms)))
 NamesRise-put_at Less k l d e ms is value rise later =
     ((is, AllNames-weaker (λ m. bytes_cmp l m ≡ Less) (λ m. bytes_cmp k m ≡ Less) ms (λ m h. bytes_total.trans k l m is h) rise.0), value, rise)
@@ -94,5 +96,6 @@ pub HasRisingNames-data_of : (text : List ℕ) (d : Data) → data_of text ≡ S
 HasRisingNames-data_of text d e = by (is_utf8 text) e
   where
     by : (test : Bool) → (if test then read text else None) ≡ Some d → HasRisingNames d
-    by true e = option_and_then_some of_json (option_and_then (λ p. json.if_last p.0 p.1) (json.value max_depth (tokens text))) d e (λ j _ is. read_value j d is)
+    by true e = option_and_then_some of_json (option_and_then (λ p. json.if_last p.0 p.1) (json.value max_depth (tokens text))) d e
+        (λ j _ is. read_value j d is)
     by false e = cc

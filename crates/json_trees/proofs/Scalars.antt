@@ -35,4 +35,5 @@ scalar_of-scalar_data (scalar.List items) h = scalar_of-array (map item_data ite
 -- a text of UTF-8 with the tokens of a scalar in range reads as this scalar
 pub scalar_read-tokens : (s : Scalar) (text : List ℕ) → ScalarInRange s → IsUtf8 text → tokens text ≡ data_tokens (scalar_data s) → scalar_read text ≡ Ok s
 scalar_read-tokens s text h utf8 is =
-    ap (λ o. result_and_then scalar_of (ok_or o NotJson)) (data_of-tokens (scalar_data s) 1 text (IsReadable-scalar_data s h) (omega arith) utf8 is) ∙ scalar_of-scalar_data s h
+    ap (λ o. result_and_then scalar_of (ok_or o NotJson)) (data_of-tokens (scalar_data s) 1 text (IsReadable-scalar_data s h) (omega arith) utf8 is)
+    ∙ scalar_of-scalar_data s h

@@ -1,5 +1,6 @@
--- Keys that are apart and share their first segments part behind them.
-use Rattle.std.proofs.Common.{◌≡◌, ℕ, zero, suc, ◌<◌, ◌⊎◌, inl, inr, ◌||◌, Bool, true, false, List, [], ◌∷◌, map, take, drop, length, Ordering, Less, Equal, Greater, refl, sym, ap, ◌∙◌, arith}
+-- Keys that are apart and share their first segments part after them.
+use Rattle.std.proofs.Common.{◌≡◌, ℕ, zero, suc, ◌<◌, ◌⊎◌, inl, inr, ◌||◌, Bool, true, false, List, []}
+use Rattle.std.proofs.Common.{◌∷◌, map, take, drop, length, Ordering, Less, Equal, Greater, refl, sym, ap, ◌∙◌, arith}
 use Rattle.std.specs.List.{All, AllPairs, AllByRecursion}
 use Rattle.std.specs.List.Sorted.{IsStrictlySortedBy}
 use Rattle.std.proofs.lemmas.Cmp.{tied_itself}
@@ -31,12 +32,13 @@ cons_first a b k l e = cc
 cons_rest : (a b : List ℕ) (k l : Path) → a ∷ k ≡ b ∷ l → k ≡ l
 cons_rest a b k l e = cc
 
--- keys that part and have the same first segments part behind them
+-- keys that part and have the same first segments part after them
 Parts-drop : (n : ℕ) (k l : Path) → take n k ≡ take n l → Parts k l → Parts (drop n k) (drop n l)
 Parts-drop zero k l same parted = parted
 Parts-drop (suc n) [] l same parted = absurd parted
 Parts-drop (suc n) (a ∷ k) [] same parted = absurd parted
-Parts-drop (suc n) (a ∷ k) (b ∷ l) same (inl less) = let tied : bytes_cmp a b ≡ Equal = ap (bytes_cmp a) (sym (cons_first a b (take n k) (take n l) same)) ∙ tied_itself bytes_total a in cc
+Parts-drop (suc n) (a ∷ k) (b ∷ l) same (inl less) = let tied : bytes_cmp a b ≡ Equal = ap (bytes_cmp a) (sym (cons_first a b (take n k) (take n l) same))
+    ∙ tied_itself bytes_total a in cc
 Parts-drop (suc n) (a ∷ k) (b ∷ l) same (inr later) = Parts-drop n k l (cons_rest a b (take n k) (take n l) same) later.1
 
 -- what holds of each by its index holds of each by recursion
@@ -50,20 +52,27 @@ later_ones R x xs h i d within = h zero (suc i) d (omega arith) (omega arith)
 others : {X : Type 0} (R : X → X → Type 0) (x : X) (xs : List X) → AllPairs R (x ∷ xs) → AllPairs R xs
 others R x xs h i j d before within = h (suc i) (suc j) d (omega arith) (omega arith)
 
-first_parts : (n : ℕ) (k : Path) (keys : List Path) → AllByRecursion (λ l. key_cmp k l ≡ Less) keys → AllByRecursion (λ l. overlaps k l ≡ false) keys → AllByRecursion (λ l. take n k ≡ take n l) keys
+first_parts : (n : ℕ) (k : Path) (keys : List Path) → AllByRecursion (λ l. key_cmp k l ≡ Less) keys → AllByRecursion (λ l. overlaps k l ≡ false) keys
+    → AllByRecursion (λ l. take n k ≡ take n l) keys
     → AllByRecursion (λ l. Parts (drop n k) l) (map (λ l. drop n l) keys)
 first_parts n k [] rising apart alike = tt
 first_parts n k (l ∷ keys) rising apart alike =
     (Parts-drop n k l alike.0 (Parts-from k l rising.0 (or_left (is_prefix k l) (is_prefix l k) apart.0)), first_parts n k keys rising.1 apart.1 alike.1)
 
-all_part : (n : ℕ) (keys : List Path) → IsStrictlySortedBy key_cmp keys → AllPairs (λ k l. overlaps k l ≡ false) keys → AllPairs (λ k l. take n k ≡ take n l) keys → Pairwise Parts (map (λ k. drop n k) keys)
+all_part : (n : ℕ) (keys : List Path) → IsStrictlySortedBy key_cmp keys → AllPairs (λ k l. overlaps k l ≡ false) keys
+    → AllPairs (λ k l. take n k ≡ take n l) keys → Pairwise Parts (map (λ k. drop n k) keys)
 unfolding IsStrictlySortedBy
 all_part n [] rising apart alike = tt
 all_part n (k ∷ keys) rising apart alike = (
-  first_parts n k keys rising.0 (each (λ l. overlaps k l ≡ false) keys (later_ones (λ k l. overlaps k l ≡ false) k keys apart)) (each (λ l. take n k ≡ take n l) keys (later_ones (λ k l. take n k ≡ take n l) k keys alike)),
+  first_parts n k keys rising.0 (each (λ l. overlaps k l ≡ false) keys (later_ones (λ k l. overlaps k l ≡ false) k keys apart))
+      (each (λ l. take n k ≡ take n l) keys (later_ones (λ k l. take n k ≡ take n l) k keys alike)),
   all_part n keys rising.1 (others (λ k l. overlaps k l ≡ false) k keys apart) (others (λ k l. take n k ≡ take n l) k keys alike),
 )
 
--- keys that are apart and share their first n segments are nestable behind these
+-- keys that are apart and share their first n segments are nestable after these
 pub IsNestable-shared : (n : ℕ) (keys : List Path) → AreApart keys → ShareFirst n keys → IsNestable n keys
-IsNestable-shared n keys apart shared = record { longer = each (λ key. n < length key) keys shared.longer; parted = all_part n keys apart.rising apart.no_prefix shared.alike }
+IsNestable-shared n keys apart shared = record {
+  longer = each (λ key. n < length key) keys shared.longer;
+  parted =
+      all_part n keys apart.rising apart.no_prefix shared.alike;
+}

@@ -17,10 +17,16 @@ use Rattle.json_trees.proofs.Back.{members_pairs-back}
 use Rattle.json_trees.proofs.Shared.{each}
 use Rattle.json_trees.proofs.Trip.{data_of-tokens}
 
-module _ {V : Type 0} (leaf : Data → Option V) (written : V → Data) (n : ℕ) (pairs : List (Path × V)) (ms : Members) (tree : IsTreeOf leaf written n pairs ms) (text : List ℕ) where
+module _ {V : Type 0} (leaf : Data → Option V) (written : V → Data) (n : ℕ) (pairs : List (Path × V)) (ms : Members) (tree : IsTreeOf leaf written n pairs ms)
+    (text : List ℕ) where
   reads_as : IsUtf8 text → tokens text ≡ data_tokens (object ms) → data_of text ≡ Some (object ms)
   reads_as utf8 is =
-      data_of-tokens (object ms) 33 text (record { reads_back = ap (option_map object) tree.reads_back; numbers = tree.numbers; shallow = omega (arith, tree.shallow) }) (omega arith) utf8 is
+      data_of-tokens (object ms) 33 text (record {
+        reads_back = ap (option_map object) tree.reads_back;
+        numbers = tree.numbers;
+        shallow =
+            omega (arith, tree.shallow);
+      }) (omega arith) utf8 is
 
   -- the text of the tree of some pairs is what they nest as
   pub NestsAs-text : (ts : List Token) → text ≡ print ts → IsUtf8 text → tokens text ≡ ts → ts ≡ data_tokens (object ms) → NestsAs written n pairs text

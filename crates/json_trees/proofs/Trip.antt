@@ -6,7 +6,8 @@ use Rattle.json.specs.Lex.{tokens}
 use Rattle.json.specs.Json as json
 use Rattle.json.specs.Tree as tree
 use Rattle.json.proofs.Printed.Trees.{value-json_tokens}
-use Rattle.serde_json.specs.Data.{Data, null, boolean, number, string, array, object, Items, no_items, item, Members, no_members, member, depth, items_depth, members_depth}
+use Rattle.serde_json.specs.Data.{Data, null, boolean, number, string, array, object, Items}
+use Rattle.serde_json.specs.Data.{no_items, item, Members, no_members, member, depth, items_depth, members_depth}
 use Rattle.serde_json.specs.Read.{of_json, max_depth}
 use Rattle.serde_json.specs.Written.{outline, items_outline, members_outline}
 use Rattle.json_trees.specs.Json.{data_of}
@@ -34,7 +35,9 @@ abbrev whole : Option (json.Json × List Token) → Option Data
 whole o = option_and_then of_json (option_and_then (λ p. json.if_last p.0 p.1) o)
 
 -- a text of UTF-8 with the tokens of a readable value is JSON of this value
-pub data_of-tokens : (d : Data) (most : ℕ) (text : List ℕ) → IsReadable most d → most ≤ max_depth → IsUtf8 text → tokens text ≡ data_tokens d → data_of text ≡ Some d
+pub data_of-tokens : (d : Data) (most : ℕ) (text : List ℕ) → IsReadable most d → most ≤ max_depth → IsUtf8 text → tokens text ≡ data_tokens d
+    → data_of text ≡ Some d
 data_of-tokens d most text readable bound utf8 is =
-    data_of-text text utf8 ∙ ap whole (ap (json.value max_depth) (is ∙ sym (append-nil (data_tokens d))) ∙ value-json_tokens (outline d) max_depth [] (omega (arith, depth-outline d, readable.shallow)))
+    data_of-text text utf8 ∙ ap whole (ap (json.value max_depth) (is ∙ sym (append-nil (data_tokens d)))
+    ∙ value-json_tokens (outline d) max_depth [] (omega (arith, depth-outline d, readable.shallow)))
     ∙ readable.reads_back

@@ -15,10 +15,12 @@ values_of-items_of [] = refl
 values_of-items_of (d ∷ ds) = ap (λ l. d ∷ l) (values_of-items_of ds)
 
 -- an array of some values is the list of the items that they are
-pub scalar_of-array : (ds : List Data) (items : Result (List Item) ScalarError) → collected item_of ds ≡ items → scalar_of (array (items_of ds)) ≡ result_map scalar.List items
+pub scalar_of-array : (ds : List Data) (items : Result (List Item) ScalarError) → collected item_of ds ≡ items
+    → scalar_of (array (items_of ds)) ≡ result_map scalar.List items
 scalar_of-array ds items h = ap (λ l. result_map scalar.List (collected item_of l)) (values_of-items_of ds) ∙ ap (result_map scalar.List) h
 
 -- the same of an array as it is read
-pub scalar_of-Array : (value : Value) (values : Vec Value Global) (items : Result (List Item) ScalarError) → value ≡ Array values → collected item_of (map view values.items) ≡ items
+pub scalar_of-Array : (value : Value) (values : Vec Value Global) (items : Result (List Item) ScalarError) → value ≡ Array values
+    → collected item_of (map view values.items) ≡ items
     → scalar_of (view value) ≡ result_map scalar.List items
 scalar_of-Array value values items is h = ap (λ v. scalar_of (view v)) is ∙ ap scalar_of (view-Array values) ∙ scalar_of-array (map view values.items) items h

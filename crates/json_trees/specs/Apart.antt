@@ -1,4 +1,4 @@
--- Keys of which each may have a value beside the others.
+-- Keys of which each may have a value besides the others.
 use Rattle.std.specs.Prelude.{◌≡◌, ◌⊎◌, ℕ, List, [], ◌∷◌, false, ⊤}
 use Rattle.std.specs.declared.cmp.Ordering.TheVariants.{Less}
 use Rattle.std.specs.List.{AllPairs, AllByRecursion}

@@ -113,4 +113,5 @@ WritesTree leaf written n pairs old new = (ms : Members) × IsTreeOf leaf writte
 
 -- A member was written that has the pairs' name at a level.
 abbrev pub WritesMember : {V : Type 0} → (Data → Option V) → (V → Data) → ℕ → List (Path × V) → List Token → List Token → Type 0
-WritesMember leaf written n pairs old new = (d : Data) × IsBranchOf leaf written n pairs d × (new ≡ old ++ Token.key (first_name n (keys_of pairs)) ∷ data_tokens d)
+WritesMember leaf written n pairs old new = (d : Data) × IsBranchOf leaf written n pairs d
+    × (new ≡ old ++ Token.key (first_name n (keys_of pairs)) ∷ data_tokens d)

@@ -1,4 +1,4 @@
--- JSON trees: what stands in them, which names lead there, and which pairs they are.
+-- JSON trees: what is in them, which names lead there, and which pairs they are.
 use Rattle.std.specs.Prelude.{◌≡◌, ℕ, List, [], ◌∷◌, ◌++◌, Option, Some, Result, Ok, Err, ok_or, option_map, unwrap_or, if◌then◌else◌}
 use Rattle.std.specs.Borrow.{Bor}
 use Rattle.std.specs.Option.{option_copied}
@@ -42,7 +42,7 @@ pending_data Gone = null
 
 -- ---- a tree flattened
 
--- What stands below a path, in order of names: each value, directly before what stands below it.
+-- What is below a path, in order of names: each value, directly before what is below it.
 abbrev mutual
   pub entries : Path → Data → List (Path × Data)
   entries path null = []
@@ -69,23 +69,23 @@ entry_pairs leaf entry = if is_key entry.0 then leaf_pairs leaf entry.0 entry.1 
 abbrev pub members_pairs : {V : Type 0} → (Data → Option V) → Path → Members → Result (List (Path × V)) TreeError
 members_pairs leaf path ms = gathered (entry_pairs leaf) (members_entries path ms)
 
--- The pairs of a JSON value that stands at a path.
+-- The pairs of a JSON value that is at a path.
 abbrev pub tree_pairs : {V : Type 0} → (Data → Option V) → Path → Data → Result (List (Path × V)) TreeError
 tree_pairs leaf path (object ms) = members_pairs leaf path ms
 tree_pairs leaf path d = Err NotObject
 
--- The pairs of a JSON text that stands at a path.
+-- The pairs of a JSON text that is at a path.
 abbrev pub flattened : {V : Type 0} → (Data → Option V) → Path → List ℕ → Result (List (Path × V)) TreeError
 flattened leaf path text = result_and_then (tree_pairs leaf path) (ok_or (data_of text) NotJson)
 
 -- ---- for private clauses
 
--- A fault of a key is a bad key, but for want of memory.
+-- A fault of a key is a bad key, unless it is out of memory.
 abbrev pub refusal_of : KeyFault → TreeError
 refusal_of key_fault.Memory = Memory
 refusal_of _ = BadKey
 
--- The pairs of a JSON value that stands at a key: its own, or those of the entries below it.
+-- The pairs of a JSON value that is at a key: its own, or those of the entries below it.
 abbrev pub value_pairs : {V : Type 0} → (Data → Option V) → Path → Data → Result (List (Path × V)) TreeError
 value_pairs leaf path (object ms) = members_pairs leaf path ms
 value_pairs leaf path d = leaf_pairs leaf path d

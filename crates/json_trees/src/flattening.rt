@@ -15,7 +15,7 @@ use key_names::Key;
 use serde_json::{Map, Value};
 use std::alloc::Global;
 
-/// The pairs of a JSON object that stands below a key, or below none: each value in it that is no
+/// The pairs of a JSON object that is below a key, or below none: each value in it that is no
 /// object, with the key that the names down to it spell, rising by key. `NotJson` is answered
 /// where `serde_json` doesn't read the text, and `NotObject` where the whole value is no object.
 /// Then the first bad entry in order of names decides: `BadKey` where the names down to it are
@@ -39,7 +39,7 @@ pub fn flatten(
     pairs_of(alloc, under, json)
 }
 
-/// The pairs of a patch that stands below a key. It is `flatten`, but that `null` as an entry is a
+/// The pairs of a patch that is below a key. It is `flatten`, but that `null` as an entry is a
 /// removal.
 pub fn flatten_patch(
     alloc: Global,
@@ -98,7 +98,7 @@ fn object_pairs<L: Leaf + Drop>(
     }
 }
 
-// Appends the pairs of the members that stand below a key, or below none.
+// Appends the pairs of the members that are below a key, or below none.
 #[cycle(flatten)]
 fn push_members<L: Leaf + Drop>(
     alloc: Global,
@@ -120,7 +120,7 @@ fn push_members<L: Leaf + Drop>(
     Ok(())
 }
 
-// Appends the pairs of a value that stands at a key.
+// Appends the pairs of a value that is at a key.
 #[cycle(flatten)]
 fn push_value<L: Leaf + Drop>(
     alloc: Global,

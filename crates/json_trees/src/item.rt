@@ -16,7 +16,7 @@ pub enum Item {
 }
 
 impl Item {
-    /// A copy of the item. The only error is want of memory.
+    /// A copy of the item. The only error is out of memory.
     pub fn copy(&self) -> Result<Item, AllocError>
         ensures { IfOk result (λ item. item ≡ self.now) }
     {

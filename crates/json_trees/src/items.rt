@@ -45,7 +45,7 @@ impl Items {
         &self.items
     }
 
-    /// A copy of the list. The only error is want of memory.
+    /// A copy of the list. The only error is out of memory.
     pub fn copy(&self) -> Result<Items, AllocError>
         ensures { IfOk result (λ items. items ≡ self.now) }
     {

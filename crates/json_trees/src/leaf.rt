@@ -1,4 +1,4 @@
-//! What may stand at a key of a tree: a scalar, or in a patch also a removal.
+//! What may be at a key of a tree: a scalar, or in a patch also a removal.
 ghost use Rattle.std.specs.Prelude.{◌≡◌, ◌≢◌, ◌++◌, Some, None, IfOk, IfErr, OnOk};
 ghost use Rattle.serde_json.specs.View.{view};
 ghost use Rattle.json_trees.specs.Nested.{IsWritable};
@@ -29,7 +29,7 @@ pub trait Leaf: Sized {
         ensures err { IfErr result
             (λ e. e ≢ Memory → (e ≡ BadValue) × (leaf (view value) ≡ None)) };
 
-    /// Writes the tokens of the leaf. The only error is want of memory; after it the writer's tokens
+    /// Writes the tokens of the leaf. The only error is out of memory; after it the writer's tokens
     /// are any, so that what was written is to be dropped.
     fn write(&self, writer: &mut Writer) -> Result<(), AllocError>
         ensures tokens { OnOk result

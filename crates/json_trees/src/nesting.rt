@@ -16,7 +16,7 @@ use std::alloc::{AllocError, Global};
 /// The compact JSON text of the object that the pairs are, without the first `drop` segments of
 /// their keys; no pairs give `{}`. The keys have to rise, none may be a prefix of another, each
 /// has to be longer than `drop`, and all have to share their first `drop` segments. To flatten the
-/// text under these segments gives the pairs again. The only error is want of memory. It takes
+/// text under these segments gives the pairs again. The only error is out of memory. It takes
 /// time linear in the pairs.
 pub fn nest(alloc: Global, pairs: &[(Key, Scalar)], drop: usize) -> Result<Text, AllocError>
     requires apart { AreApart (keys_of pairs.now) }

@@ -14,7 +14,7 @@ pub enum Pending {
 }
 
 impl Pending {
-    /// A copy. The only error is want of memory.
+    /// A copy. The only error is out of memory.
     pub fn copy(&self) -> Result<Pending, AllocError>
         ensures { IfOk result (λ pending. pending ≡ self.now) }
     {

@@ -42,7 +42,7 @@ impl Scalar {
         }
     }
 
-    /// The compact JSON text of the scalar, which reads back as it. The only error is want of
+    /// The compact JSON text of the scalar, which reads back as it. The only error is out of
     /// memory.
     pub fn print(&self, alloc: Global) -> Result<Text, AllocError>
         ensures text { IfOk result (λ text. text ≡ json_text self.now) }
@@ -53,7 +53,7 @@ impl Scalar {
         Ok(text_of(writer))
     }
 
-    /// A copy of the scalar. The only error is want of memory.
+    /// A copy of the scalar. The only error is out of memory.
     pub fn copy(&self) -> Result<Scalar, AllocError>
         ensures { IfOk result (λ scalar. scalar ≡ self.now) }
     {

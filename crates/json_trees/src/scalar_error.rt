@@ -15,7 +15,7 @@ pub enum ScalarError {
     Object,
     /// An item of a list is a list or an object.
     Nested,
-    /// Memory was wanting. It says nothing of the text.
+    /// Out of memory. It says nothing of the text.
     Memory,
 }
 

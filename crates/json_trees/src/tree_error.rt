@@ -11,9 +11,9 @@ pub enum TreeError {
     NotObject,
     /// The names that lead to an entry are together no key.
     BadKey,
-    /// An entry is neither an object nor a value that may stand at a key.
+    /// An entry is neither an object nor a value that may be at a key.
     BadValue,
-    /// Memory was wanting. It says nothing of the text.
+    /// Out of memory. It says nothing of the text.
     Memory,
 }
 

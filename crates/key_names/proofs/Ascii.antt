@@ -24,7 +24,7 @@ quotable_low b quotable = grind (arith, nat_tests)
 pub bare_text : (bytes : List ℕ) → list_all is_bare bytes ≡ true → IsUtf8 bytes
 bare_text bytes bare = IsUtf8-from_ascii bytes (all_ascii is_bare bare_low bytes bare)
 
--- bytes that may stand in quotes are text
+-- bytes that are allowed in quotes are text
 pub quotable_text : (bytes : List ℕ) → list_all is_quotable bytes ≡ true → IsUtf8 bytes
 quotable_text bytes quotable = IsUtf8-from_ascii bytes (all_ascii is_quotable quotable_low bytes quotable)
 

@@ -46,4 +46,9 @@ module _ (text : List ℕ) (segments : List (List ℕ)) (spells : Spells text se
 
 -- what a text spells within the limits is a key
 pub is_key-spelled : (text : List ℕ) (segments : List (List ℕ)) → Spells text segments → IsTrue (fits segments) → IsTrue (is_key segments)
-is_key-spelled text segments spells fit = is_key-from segments (record { some = Spells_some segments text spells; valid = Spells_valid segments text spells; fits = Fits-from segments fit })
+is_key-spelled text segments spells fit = is_key-from segments (record {
+  some = Spells_some segments text spells;
+  valid =
+      Spells_valid segments text spells;
+  fits = Fits-from segments fit;
+})

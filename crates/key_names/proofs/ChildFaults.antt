@@ -24,8 +24,9 @@ one_limit (too_long few short wide) (too_many many) = absurd (omega arith)
 one_limit (too_long few short wide) (segment_too_long few' long) = absurd (true≢false (sym short ∙ long))
 one_limit (too_long few short wide) (too_long few' short' wide') = refl
 
--- the first bad byte stands behind the run of bytes that may stand in quotes
-bad_place : (bytes front : List ℕ) (b : ℕ) (rest : List ℕ) → bytes ≡ front ++ b ∷ rest → IsTrue (list_all is_quotable front) → is_quotable b ≡ false → length front ≡ prefix_len is_quotable bytes
+-- the first bad byte comes after the run of bytes that are allowed in quotes
+bad_place : (bytes front : List ℕ) (b : ℕ) (rest : List ℕ) → bytes ≡ front ++ b ∷ rest → IsTrue (list_all is_quotable front) → is_quotable b ≡ false
+    → length front ≡ prefix_len is_quotable bytes
 bad_place bytes front b rest is good bad = sym (ap (prefix_len is_quotable) is ∙ prefix_len-run is_quotable front (b ∷ rest) good (inr (b, rest, refl, bad)))
 
 -- what has a byte is not empty
@@ -42,14 +43,21 @@ one_segment_fault {bytes} (bad_byte front b rest is good bad) (bad_byte front' b
 
 -- a segment has no fault
 no_segment_fault : {bytes : List ℕ} {kind : KeyFault} {place : ℕ} → SegmentFault bytes kind place → is_segment bytes ≢ true
-no_segment_fault {bytes} (no_bytes none) valid = omega (arith, ap length none, leb-true 1 (length bytes) (and_parts (nat_lt 0 (length bytes)) (list_all is_quotable bytes) valid).0)
+no_segment_fault {bytes} (no_bytes none) valid = omega (
+  arith,
+  ap length none,
+  leb-true 1 (length bytes)
+      (and_parts (nat_lt 0 (length bytes)) (list_all is_quotable bytes) valid).0,
+)
 no_segment_fault {bytes} (bad_byte front b rest is good bad) valid =
     let all = (and_parts (nat_lt 0 (length bytes)) (list_all is_quotable bytes) valid).1 in
-    let both = and_parts (list_all is_quotable front) (list_all is_quotable (b ∷ rest)) (sym (list_all-append is_quotable front (b ∷ rest)) ∙ ap (list_all is_quotable) (sym is) ∙ all) in
+    let both = and_parts (list_all is_quotable front) (list_all is_quotable (b ∷ rest))
+    (sym (list_all-append is_quotable front (b ∷ rest)) ∙ ap (list_all is_quotable) (sym is) ∙ all) in
     true≢false (sym (and_parts (is_quotable b) (list_all is_quotable rest) both.1).0 ∙ bad)
 
 -- a child has one fault
-one_child_fault : {key : List (List ℕ)} {segment : List ℕ} {a b : KeyFault} {p q : ℕ} → RefusesChild key segment a p → RefusesChild key segment b q → (a ≡ b) × (p ≡ q)
+one_child_fault : {key : List (List ℕ)} {segment : List ℕ} {a b : KeyFault} {p q : ℕ} → RefusesChild key segment a p → RefusesChild key segment b q
+    → (a ≡ b) × (p ≡ q)
 one_child_fault (segment_fault a p f) (segment_fault b q g) = one_segment_fault f g
 one_child_fault (segment_fault a p f) (child_limit b valid breaks) = absurd (no_segment_fault f valid)
 one_child_fault (child_limit a valid breaks) (segment_fault b q g) = absurd (no_segment_fault g valid)
@@ -60,16 +68,19 @@ error_is : (e : KeyError) (kind : KeyFault) (place : ℕ) → (e.kind ≡ kind) 
 error_is e kind place both = ap (λ k. record { kind = k; place = e.place }) both.0 ∙ ap (λ p. record { kind = kind; place = p }) both.1
 
 -- the fault that was found is any fault that there is
-pub fault_is : (key : List (List ℕ)) (segment : List ℕ) (e : KeyError) → RefusesChild key segment e.kind e.place → (kind : KeyFault) (place : ℕ) → RefusesChild key segment kind place → e ≡ record { kind = kind; place = place }
+pub fault_is : (key : List (List ℕ)) (segment : List ℕ) (e : KeyError) → RefusesChild key segment e.kind e.place → (kind : KeyFault) (place : ℕ)
+    → RefusesChild key segment kind place → e ≡ record { kind = kind; place = place }
 fault_is key segment e found kind place f = error_is e kind place (one_child_fault found f)
 
 -- a child of a segment within the limits has no fault
-pub no_child_fault : (key : List (List ℕ)) (segment : List ℕ) → IsTrue (is_segment segment) × IsTrue (fits (key ++ segment ∷ [])) → (kind : KeyFault) (place : ℕ) → RefusesChild key segment kind place → ⊥
+pub no_child_fault : (key : List (List ℕ)) (segment : List ℕ) → IsTrue (is_segment segment) × IsTrue (fits (key ++ segment ∷ []))
+    → (kind : KeyFault) (place : ℕ) → RefusesChild key segment kind place → ⊥
 no_child_fault key segment fine kind place (segment_fault kind' place' f) = no_segment_fault f fine.0
 no_child_fault key segment fine kind place (child_limit kind' valid' breaks) = breaks_none breaks fine.1
 
 -- what is refused as a child is no key
-pub refused_no_key : (key : List (List ℕ)) (segment : List ℕ) (kind : KeyFault) (place : ℕ) → RefusesChild key segment kind place → is_key (key ++ segment ∷ []) ≡ false
+pub refused_no_key : (key : List (List ℕ)) (segment : List ℕ) (kind : KeyFault) (place : ℕ) → RefusesChild key segment kind place
+    → is_key (key ++ segment ∷ []) ≡ false
 refused_no_key key segment kind place fault = by (is_key (key ++ segment ∷ [])) refl
   where
     by : (b : Bool) → is_key (key ++ segment ∷ []) ≡ b → is_key (key ++ segment ∷ []) ≡ false

@@ -1,5 +1,6 @@
 -- Texts cut at their zero bytes.
-use Rattle.std.proofs.Common.{◌≡◌, ◌≤◌, ◌<◌, ◌+◌, ℕ, List, [], ◌∷◌, length, refl, Option, Some, None, MatchOption, Bor, Bool, true, false, cond, not, ◌==◌, sym, ◌∙◌, ap, arith}
+use Rattle.std.proofs.Common.{◌≡◌, ◌≤◌, ◌<◌, ◌+◌, ℕ, List, [], ◌∷◌, length, refl, Option, Some}
+use Rattle.std.proofs.Common.{None, MatchOption, Bor, Bool, true, false, cond, not, ◌==◌, sym, ◌∙◌, ap, arith}
 use Rattle.std.specs.List.{onto_first, position_or_len, before_first, after_first}
 use Rattle.std.proofs.lemmas.List.Splits.{slice_split_first}
 use Rattle.key_names.specs.Packed.{parts}
@@ -16,9 +17,10 @@ one_part (x ∷ xs) h =
       | false ↦ λ k. ap (onto_first x) (one_part xs (omega arith))
     ] h
 
--- Another is the part before its first zero byte, and the parts of what stands behind it.
+-- Another is the part before its first zero byte, and the parts of what comes after it.
 pub cut_parts : (text : List ℕ) (r : Option (Bor (List ℕ) × Bor (List ℕ)))
-    → MatchOption r (position_or_len is_zero text ≡ length text) (λ x. (position_or_len is_zero text < length text) × (x.0.now ≡ before_first is_zero text) × (x.1.now ≡ after_first is_zero text))
+    → MatchOption r (position_or_len is_zero text ≡ length text) (λ x. (position_or_len is_zero text < length text) × (x.0.now ≡ before_first is_zero text)
+    × (x.1.now ≡ after_first is_zero text))
     → MatchOption r (parts text ≡ text ∷ []) (λ p. parts text ≡ p.0.now ∷ parts p.1.now)
 cut_parts text None past = one_part text (omega (arith, past))
 cut_parts text (Some x) at = slice_split_first is_zero text 0 at.0 ∙ (λ i. sym at.1 i ∷ parts (sym at.2 i))

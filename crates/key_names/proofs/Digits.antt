@@ -29,5 +29,6 @@ in_range : (c : ℕ) → is_ascii_digit c ≡ true → IsInRange 48 57 c
 in_range c h = search rules
 
 -- The value of a digit of a number, of one digit and more.
-pub digit_at : (digits : List ℕ) (i : ℕ) → (nat_lt 0 (length digits) && list_all is_ascii_digit digits) ≡ true → i < length digits → digit_value (get_or digits i 0) + 48 ≡ get_or digits i 0
+pub digit_at : (digits : List ℕ) (i : ℕ) → (nat_lt 0 (length digits) && list_all is_ascii_digit digits) ≡ true → i < length digits
+    → digit_value (get_or digits i 0) + 48 ≡ get_or digits i 0
 digit_at digits i valid within = digit_value_digit _ (in_range _ (AllPass-from_list_all is_ascii_digit digits (second _ _ valid) i 0 within))

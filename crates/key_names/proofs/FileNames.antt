@@ -1,5 +1,6 @@
 -- The file name of a segment is its percent-encoding, and decoding gives the segment back.
-use Rattle.std.proofs.Common.{Result, Ok, Err, Option, Some, None, ◌≤◌, length, length-append, ◌≡◌, ℕ, zero, suc, ◌<◌, List, [], ◌∷◌, ◌++◌, Bool, true, false, not, ◌&&◌, if◌then◌else◌, get_or, refl, sym, ap, ◌∙◌, arith, inl, inr, nat_le}
+use Rattle.std.proofs.Common.{Result, Ok, Err, Option, Some, None, ◌≤◌, length, length-append, ◌≡◌, ℕ, zero, suc, ◌<◌, List, []}
+use Rattle.std.proofs.Common.{◌∷◌, ◌++◌, Bool, true, false, not, ◌&&◌, if◌then◌else◌, get_or, refl, sym, ap, ◌∙◌, arith, inl, inr, nat_le}
 use Rattle.std.specs.Prelude.{IfOk, IfSome}
 use Rattle.std.proofs.lemmas.Bool.{and_parts, leb-true, cases_eq}
 use Rattle.std.proofs.lemmas.List.Elements.{All-from_get_or}
@@ -56,10 +57,11 @@ unfolding percent_encode file_name
 file_name-percent_encode [] h = refl
 file_name-percent_encode (b ∷ s) h = rw (same_glyph b (h 0)) (ap (λ l. glyph b ++ l) (file_name-percent_encode s (λ i. h (suc i))))
 
--- what may stand in quotes are bytes
+-- what is allowed in quotes are bytes
 small_quotable : (s : List ℕ) → list_all is_quotable s ≡ true → (i : ℕ) → get_or s i 0 < 256
 small_quotable [] h i = omega arith
-small_quotable (b ∷ s) h zero = let p = and_parts (is_quotable b) _ h in let q = and_parts (nat_le 32 b && nat_le b 126) _ p.0 in omega (arith, leb-true b 126 (and_parts _ _ q.0).1)
+small_quotable (b ∷ s) h zero = let p = and_parts (is_quotable b) _ h in let q = and_parts (nat_le 32 b && nat_le b 126) _ p.0 in
+    omega (arith, leb-true b 126 (and_parts _ _ q.0).1)
 small_quotable (b ∷ s) h (suc i) = small_quotable s (and_parts (is_quotable b) _ h).1 i
 
 -- `%` itself is escaped

@@ -1,5 +1,6 @@
 -- The segment at the head of a text, or its fault, by the longest run of bytes that it may have.
-use Rattle.std.proofs.Common.{◌≡◌, ◌≢◌, ◌<◌, ◌+◌, ℕ, List, [], ◌∷◌, ◌++◌, length, length-append, length-drop, get_or, take, drop, refl, sym, ◌∙◌, ap, subst, arith, inl, inr}
+use Rattle.std.proofs.Common.{◌≡◌, ◌≢◌, ◌<◌, ◌+◌, ℕ, List, [], ◌∷◌, ◌++◌, length, length-append}
+use Rattle.std.proofs.Common.{length-drop, get_or, take, drop, refl, sym, ◌∙◌, ap, subst, arith, inl, inr}
 use Rattle.std.specs.Prelude.{IsTrue}
 use Rattle.std.specs.List.{list_all}
 use Rattle.std.proofs.lemmas.List.{take_all, take-append-drop, append_assoc}
@@ -47,9 +48,10 @@ bare_bad text n unquoted run more = subst (λ k. FaultAt text BadByte k) run.lon
 module _ (inside : List ℕ) (n : ℕ) (run : IsRun is_quotable inside n) where
   -- an opening quote is never closed
   pub unclosed : length (drop n inside) ≡ 0 → FaultAt (34 ∷ inside) Unclosed 0
-  unclosed none = never_closed inside refl (subst (λ s. IsTrue (list_all is_quotable s)) (take_all n inside (omega (arith, length-drop n inside, none))) run.all)
+  unclosed none = never_closed inside refl (subst (λ s. IsTrue (list_all is_quotable s)) (take_all n inside (omega (arith, length-drop n inside, none)))
+      run.all)
 
-  -- a byte that may not stand in quotes
+  -- a byte that is not allowed in quotes
   pub bad_inside : (b : ℕ) (behind : List ℕ) → drop n inside ≡ b ∷ behind → b ≢ 34 → FaultAt (34 ∷ inside) BadByte (n + 1)
   bad_inside b behind is other =
       let place : 1 + length (take n inside) ≡ n + 1 = omega (arith, run.long) in
@@ -66,7 +68,7 @@ module _ (inside : List ℕ) (n : ℕ) (run : IsRun is_quotable inside n) where
   nothing_inside behind none is = no_segment (inr (behind, ap (λ s. 34 ∷ s) (sym (ap (λ k. drop k inside) none) ∙ is)))
 
   module _ (behind : List ℕ) (some : 0 < n) (is : drop n inside ≡ 34 ∷ behind) where
-    -- what stands in the quotes is a segment
+    -- what is in the quotes is a segment
     segment : IsTrue (is_segment (take n inside))
     segment = is_segment-from (take n inside) (omega (arith, run.long)) run.all
 
@@ -78,13 +80,14 @@ module _ (inside : List ℕ) (n : ℕ) (run : IsRun is_quotable inside n) where
     long : length (quoted (take n inside)) ≡ n + 2
     long = omega (arith, run.long, length-append (take n inside) (34 ∷ []))
 
-    -- a byte behind a quoted segment that does not end it
+    -- a byte after a quoted segment that does not end it
     pub bad_behind : (Ends 46 behind → ⊥) → FaultAt (34 ∷ inside) BadByte (n + 2)
     bad_behind more = subst (λ k. FaultAt (34 ∷ inside) BadByte k) long (at_stop behind refl)
       where
         at_stop : (s : List ℕ) → behind ≡ s → FaultAt (34 ∷ inside) BadByte (length (quoted (take n inside)))
         at_stop [] none = absurd (more (inl none))
-        at_stop (b ∷ rest) rest_is = behind_quotes (take n inside) b rest (text_is ∙ ap (λ s. quoted (take n inside) ++ s) rest_is) segment (λ dot. more (inr (rest, rest_is ∙ ap (λ x. x ∷ rest) dot)))
+        at_stop (b ∷ rest) rest_is = behind_quotes (take n inside) b rest (text_is ∙ ap (λ s. quoted (take n inside) ++ s) rest_is) segment
+            (λ dot. more (inr (rest, rest_is ∙ ap (λ x. x ∷ rest) dot)))
 
     -- a segment in quotes
     pub quoted_head : Ends 46 behind → IsHead (34 ∷ inside) (take n inside) (n + 2)

@@ -1,5 +1,6 @@
 -- The limits of a key, and of a key with one segment more.
-use Rattle.std.proofs.Common.{◌≡◌, ◌<◌, ◌≤◌, ◌+◌, ℕ, List, [], ◌∷◌, ◌++◌, Bool, true, false, true≢false, ◌&&◌, nat_lt, nat_le, length, length-append, refl, sym, ◌∙◌, ap, arith}
+use Rattle.std.proofs.Common.{◌≡◌, ◌<◌, ◌≤◌, ◌+◌, ℕ, List, [], ◌∷◌, ◌++◌, Bool, true}
+use Rattle.std.proofs.Common.{false, true≢false, ◌&&◌, nat_lt, nat_le, length, length-append, refl, sym, ◌∙◌, ap, arith}
 use Rattle.std.specs.Prelude.{IsTrue}
 use Rattle.std.specs.List.{list_all, sum_by}
 use Rattle.std.proofs.lemmas.Bool.{and_parts, leb-true, le-leb}
@@ -63,7 +64,8 @@ breaks_none {segments} (segment_too_long few long) fit = true≢false (sym (Fits
 breaks_none {segments} (too_long few short wide) fit = omega (arith, (Fits-from segments fit).narrow)
 
 -- the last segment passes or fails the test, as the others pass
-list_all-push : (p : List ℕ → Bool) (segments : List (List ℕ)) (segment : List ℕ) → IsTrue (list_all p segments) → list_all p (segments ++ segment ∷ []) ≡ p segment
+list_all-push : (p : List ℕ → Bool) (segments : List (List ℕ)) (segment : List ℕ) → IsTrue (list_all p segments)
+    → list_all p (segments ++ segment ∷ []) ≡ p segment
 list_all-push p segments segment all = list_all-append p segments (segment ∷ []) ∙ ap (λ t. t && (p segment && true)) all ∙ and_true (p segment)
   where
     and_true : (t : Bool) → (t && true) ≡ t
@@ -81,13 +83,15 @@ module _ (key : List (List ℕ)) (segment : List ℕ) where
       segment_too_long (omega (arith, length-append key (segment ∷ []))) (list_all-push has_short_name key segment (Fits-from key fit).short ∙ long)
 
   -- a child with too long a text
-  pub child_too_long : IsTrue (fits key) → length key < 32 → IsTrue (has_short_name segment) → 1024 < sum_by (λ s. length (printed_segment s) + 1) key + length (printed_segment segment) → Breaks (key ++ segment ∷ []) TooLong
+  pub child_too_long : IsTrue (fits key) → length key < 32 → IsTrue (has_short_name segment)
+      → 1024 < sum_by (λ s. length (printed_segment s) + 1) key + length (printed_segment segment) → Breaks (key ++ segment ∷ []) TooLong
   child_too_long fit few short wide =
       too_long (omega (arith, length-append key (segment ∷ []))) (list_all-push has_short_name key segment (Fits-from key fit).short ∙ short)
       (omega (arith, length-printed-push key segment))
 
   -- a child within the limits
-  pub child_fits : IsTrue (fits key) → length key < 32 → IsTrue (has_short_name segment) → sum_by (λ s. length (printed_segment s) + 1) key + length (printed_segment segment) ≤ 1024 → IsTrue (fits (key ++ segment ∷ []))
+  pub child_fits : IsTrue (fits key) → length key < 32 → IsTrue (has_short_name segment) → sum_by (λ s. length (printed_segment s) + 1) key + length
+      (printed_segment segment) ≤ 1024 → IsTrue (fits (key ++ segment ∷ []))
   child_fits fit few short narrow =
       fits-from (key ++ segment ∷ []) (record {
         few = omega (arith, length-append key (segment ∷ []));

@@ -24,7 +24,11 @@ one_listed = record { one = λ f r g s x y is ends is' ends' same. parts f r g s
 
 -- so is the fault there
 one_piece_fault : OneFault SpellsKey 44 PieceFault
-one_piece_fault = record { none = λ f r x kind offset is ends wrong. nothing f r x kind offset is ends wrong; one = λ text a b i j wrong wrong'. same text a b i j wrong wrong' }
+one_piece_fault = record {
+  none = λ f r x kind offset is ends wrong. nothing f r x kind offset is ends wrong;
+  one =
+      λ text a b i j wrong wrong'. same text a b i j wrong wrong';
+}
   where
     nothing : (f r : List ℕ) (x : List (List ℕ)) (kind : KeyFault) (offset : ℕ) → SpellsKey f x → Ends 44 r → PieceFault (f ++ r) kind offset → ⊥
     nothing f r x kind offset is ends wrong =
@@ -44,14 +48,18 @@ module _
   pub listed_read : (keys : List (List (List ℕ))) → Lists text keys → MatchResult result (λ read. items read ≡ keys) (λ e. e.kind ≡ Memory)
   listed_read keys lists = of_result result ok refused
     where
-      of_result : (r : Result V KeyError) → IfOk r (λ read. Lists text (items read)) → IfErr r (λ e. e.kind ≢ Memory → RefusesList text e.kind e.place) → MatchResult r (λ read. items read ≡ keys) (λ e. e.kind ≡ Memory)
+      of_result : (r : Result V KeyError) → IfOk r (λ read. Lists text (items read)) → IfErr r (λ e. e.kind ≢ Memory → RefusesList text e.kind e.place)
+          → MatchResult r (λ read. items read ≡ keys) (λ e. e.kind ≡ Memory)
       of_result (Ok read) lists' refused = one_joined SpellsKey 44 one_listed (items read) keys text lists' lists
-      of_result (Err e) ok refused = memory_left e.kind (λ other. no_fault_behind SpellsKey 44 one_listed PieceFault one_piece_fault keys text e.kind e.place lists (refused other))
+      of_result (Err e) ok refused = memory_left e.kind (λ other. no_fault_behind SpellsKey 44 one_listed PieceFault one_piece_fault keys text e.kind e.place
+          lists (refused other))
 
   -- where the text is refused, the answer is the fault
   pub list_fault_read : (kind : KeyFault) (place : ℕ) → RefusesList text kind place → IsRefused result kind place
   list_fault_read kind place f = of_result result ok refused
     where
-      of_result : (r : Result V KeyError) → IfOk r (λ read. Lists text (items read)) → IfErr r (λ e. e.kind ≢ Memory → RefusesList text e.kind e.place) → IsRefused r kind place
+      of_result : (r : Result V KeyError) → IfOk r (λ read. Lists text (items read)) → IfErr r (λ e. e.kind ≢ Memory → RefusesList text e.kind e.place)
+          → IsRefused r kind place
       of_result (Ok read) lists refused = no_fault_behind SpellsKey 44 one_listed PieceFault one_piece_fault (items read) text kind place lists f
-      of_result (Err e) ok refused = λ other. one_fault_behind SpellsKey 44 one_listed PieceFault one_piece_fault text e.kind kind e.place place (refused other) f
+      of_result (Err e) ok refused = λ other. one_fault_behind SpellsKey 44 one_listed PieceFault one_piece_fault text e.kind kind e.place place (refused other)
+          f

@@ -18,18 +18,19 @@ module _ {X : Type 0} (IsText : List ℕ → X → Type 0) (separator : ℕ) whe
   more : (rest : List ℕ) → Ends separator (separator ∷ rest)
   more rest = inr (rest, refl)
 
-  -- what leads goes on behind its first item
+  -- what leads goes on after its first item
   behind_first : (text lead rest front tail : List ℕ) → text ≡ lead ++ rest → lead ≡ front ++ separator ∷ tail → text ≡ front ++ separator ∷ (tail ++ rest)
   behind_first text lead rest front tail is parts = is ∙ ap (λ s. s ++ rest) parts ∙ append_assoc front (separator ∷ tail) rest
 
   module _ (item : OneItem IsText separator) where
-    -- two first items with a separator behind each are one
-    same_first : (text f r g s : List ℕ) (x y : X) → text ≡ f ++ separator ∷ r → IsText f x → text ≡ g ++ separator ∷ s → IsText g y → (f ≡ g) × (x ≡ y) × (r ≡ s)
+    -- two first items with a separator after each are one
+    same_first : (text f r g s : List ℕ) (x y : X) → text ≡ f ++ separator ∷ r → IsText f x → text ≡ g ++ separator ∷ s → IsText g y
+        → (f ≡ g) × (x ≡ y) × (r ≡ s)
     same_first text f r g s x y parts is parts' is' =
         let same = item.one f (separator ∷ r) g (separator ∷ s) x y is (more r) is' (more s) (sym parts ∙ parts') in
         (same.0, same.1, (let tails = same.2 in cc))
 
-    -- a last item and one with a separator behind it are two
+    -- a last item and one with a separator after it are two
     last_and_more : (text g s : List ℕ) (x y : X) → IsText text x → text ≡ g ++ separator ∷ s → IsText g y → ⊥
     last_and_more text g s x y is parts is' =
         let same = item.one text [] g (separator ∷ s) x y is (inl refl) is' (more s) (append-nil text ∙ parts) in
@@ -50,32 +51,37 @@ module _ {X : Type 0} (IsText : List ℕ → X → Type 0) (separator : ℕ) whe
         λ i. same.1 i ∷ tails i
 
     -- as many items lead to one place
-    pub one_place : (xs ys : List X) (text f r g s : List ℕ) → length xs ≡ length ys → Leads IsText separator f xs → text ≡ f ++ r → Leads IsText separator g ys → text ≡ g ++ s → length f ≡ length g
+    pub one_place : (xs ys : List X) (text f r g s : List ℕ) → length xs ≡ length ys → Leads IsText separator f xs → text ≡ f ++ r → Leads IsText separator g ys
+        → text ≡ g ++ s → length f ≡ length g
     unfolding Leads
     one_place [] [] text f r g s as_many none is none' is' = ap length (none ∙ sym none')
     one_place [] (y ∷ ys) text f r g s as_many leads is leads' is' = absurd (omega (arith, as_many))
     one_place (x ∷ xs) [] text f r g s as_many leads is leads' is' = absurd (omega (arith, as_many))
     one_place (x ∷ xs) (y ∷ ys) text f r g s as_many (f', tail, parts, is_x, leads) is (g', tail', parts', is_y, leads') is' =
-        let same = same_first text f' (tail ++ r) g' (tail' ++ s) x y (behind_first text f r f' tail is parts) is_x (behind_first text g s g' tail' is' parts') is_y in
+        let same = same_first text f' (tail ++ r) g' (tail' ++ s) x y (behind_first text f r f' tail is parts) is_x (behind_first text g s g' tail' is' parts')
+        is_y in
         let fewer : length xs ≡ length ys = omega (arith, as_many) in
         let tails = one_place xs ys (tail ++ r) tail r tail' s fewer leads refl leads' same.2 in
         omega (arith, tails, ap length same.0, ap length parts, ap length parts', length-append f' (separator ∷ tail), length-append g' (separator ∷ tail'))
 
     module _ (Fails : List ℕ → KeyFault → ℕ → Type 0) (fault : OneFault IsText separator Fails) where
-      -- a fault is not at the head of an item with a separator behind it
+      -- a fault is not at the head of an item with a separator after it
       no_fault_before : (text f r : List ℕ) (x : X) (kind : KeyFault) (offset : ℕ) → text ≡ f ++ separator ∷ r → IsText f x → Fails text kind offset → ⊥
-      no_fault_before text f r x kind offset parts is wrong = fault.none f (separator ∷ r) x kind offset is (more r) (subst (λ t. Fails t kind offset) parts wrong)
+      no_fault_before text f r x kind offset parts is wrong = fault.none f (separator ∷ r) x kind offset is (more r)
+          (subst (λ t. Fails t kind offset) parts wrong)
 
-      -- a fault behind no items is one at the head
+      -- a fault after no items is one at the head
       at_head : (text lead rest : List ℕ) (kind : KeyFault) (offset : ℕ) → lead ≡ [] → text ≡ lead ++ rest → Fails rest kind offset → Fails text kind offset
       at_head text lead rest kind offset none is wrong = subst (λ t. Fails t kind offset) (sym (is ∙ ap (λ s. s ++ rest) none)) wrong
 
-      -- a text that joins items has no fault behind some of them
-      joined_faultless : (before xs : List X) (text lead rest : List ℕ) (kind : KeyFault) (offset : ℕ) → Leads IsText separator lead before → text ≡ lead ++ rest → Fails rest kind offset → Joins IsText separator text xs → ⊥
+      -- a text that joins items has no fault after some of them
+      joined_faultless : (before xs : List X) (text lead rest : List ℕ) (kind : KeyFault) (offset : ℕ) → Leads IsText separator lead before
+          → text ≡ lead ++ rest → Fails rest kind offset → Joins IsText separator text xs → ⊥
       unfolding Joins Leads
       joined_faultless before [] text lead rest kind offset leads is wrong none = none
       joined_faultless [] (x ∷ []) text lead rest kind offset none is wrong is_x =
-          fault.none text [] x kind offset is_x (inl refl) (subst (λ t. Fails t kind offset) (sym (append-nil text)) (at_head text lead rest kind offset none is wrong))
+          fault.none text [] x kind offset is_x (inl refl) (subst (λ t. Fails t kind offset) (sym (append-nil text))
+          (at_head text lead rest kind offset none is wrong))
       joined_faultless [] (x ∷ x' ∷ xs) text lead rest kind offset none is wrong (f, r, parts, is_x, after) =
           no_fault_before text f r x kind offset parts is_x (at_head text lead rest kind offset none is wrong)
       joined_faultless (o ∷ before) (x ∷ []) text lead rest kind offset (front, tail, parts, is_o, leads) is wrong is_x =
@@ -85,26 +91,43 @@ module _ {X : Type 0} (IsText : List ℕ → X → Type 0) (separator : ℕ) whe
           joined_faultless before (x' ∷ xs) r tail rest kind offset leads same.2 wrong after
 
       -- so it has no fault
-      pub no_fault_behind : (xs : List X) (text : List ℕ) (kind : KeyFault) (place : ℕ) → Joins IsText separator text xs → FaultBehind IsText separator Fails text kind place → ⊥
+      pub no_fault_behind : (xs : List X) (text : List ℕ) (kind : KeyFault) (place : ℕ) → Joins IsText separator text xs
+          → FaultBehind IsText separator Fails text kind place → ⊥
       no_fault_behind xs text kind place joins f = joined_faultless f.items xs text f.front f.rest kind f.offset f.leads f.text_is f.fault joins
 
-      -- two faults behind items are one, at one place
-      one_fault : (xs ys : List X) (text lead rest lead' rest' : List ℕ) (a b : KeyFault) (i j : ℕ) → Leads IsText separator lead xs → text ≡ lead ++ rest → Fails rest a i → Leads IsText separator lead' ys → text ≡ lead' ++ rest' → Fails rest' b j → (a ≡ b) × (length lead + i ≡ length lead' + j)
+      -- two faults after items are one, at one place
+      one_fault : (xs ys : List X) (text lead rest lead' rest' : List ℕ) (a b : KeyFault) (i j : ℕ) → Leads IsText separator lead xs → text ≡ lead ++ rest
+          → Fails rest a i → Leads IsText separator lead' ys → text ≡ lead' ++ rest' → Fails rest' b j → (a ≡ b) × (length lead + i ≡ length lead' + j)
       unfolding Leads
       one_fault [] [] text lead rest lead' rest' a b i j none is wrong none' is' wrong' =
           let same = fault.one text a b i j (at_head text lead rest a i none is wrong) (at_head text lead' rest' b j none' is' wrong') in
           (same.0, omega (arith, ap length none, ap length none', same.1))
       one_fault [] (y ∷ ys) text lead rest lead' rest' a b i j none is wrong (front, tail, parts, is_y, leads) is' wrong' =
-          absurd (no_fault_before text front (tail ++ rest') y a i (behind_first text lead' rest' front tail is' parts) is_y (at_head text lead rest a i none is wrong))
+          absurd (no_fault_before text front (tail ++ rest') y a i (behind_first text lead' rest' front tail is' parts) is_y
+          (at_head text lead rest a i none is wrong))
       one_fault (x ∷ xs) [] text lead rest lead' rest' a b i j (front, tail, parts, is_x, leads) is wrong none' is' wrong' =
-          absurd (no_fault_before text front (tail ++ rest) x b j (behind_first text lead rest front tail is parts) is_x (at_head text lead' rest' b j none' is' wrong'))
+          absurd (no_fault_before text front (tail ++ rest) x b j (behind_first text lead rest front tail is parts) is_x
+          (at_head text lead' rest' b j none' is' wrong'))
       one_fault (x ∷ xs) (y ∷ ys) text lead rest lead' rest' a b i j (f, tail, parts, is_x, leads) is wrong (g, tail', parts', is_y, leads') is' wrong' =
-          let same = same_first text f (tail ++ rest) g (tail' ++ rest') x y (behind_first text lead rest f tail is parts) is_x (behind_first text lead' rest' g tail' is' parts') is_y in
-          let tails = one_fault xs ys (tail ++ rest) tail rest tail' rest' a b i j leads refl wrong leads' same.2 wrong' in
-          (tails.0, omega (arith, tails.1, ap length same.0, ap length parts, ap length parts', length-append f (separator ∷ tail), length-append g (separator ∷ tail')))
+          let same = same_first text f (tail ++ rest) g (tail' ++ rest') x y (behind_first text lead rest f tail is parts) is_x
+          (behind_first text lead' rest' g tail' is' parts') is_y in
+          let tails = one_fault xs ys (tail ++ rest) tail rest tail' rest' a b i j leads refl wrong leads' same.2 wrong' in (
+            tails.0,
+            omega (
+              arith,
+              tails.1,
+              ap length same.0,
+              ap length parts,
+              ap length parts',
+              length-append f (separator ∷ tail),
+              length-append g
+                  (separator ∷ tail'),
+            ),
+          )
 
-      -- a text has one fault behind items
-      pub one_fault_behind : (text : List ℕ) (a b : KeyFault) (p q : ℕ) → FaultBehind IsText separator Fails text a p → FaultBehind IsText separator Fails text b q → (a ≡ b) × (p ≡ q)
+      -- a text has one fault after items
+      pub one_fault_behind : (text : List ℕ) (a b : KeyFault) (p q : ℕ) → FaultBehind IsText separator Fails text a p
+          → FaultBehind IsText separator Fails text b q → (a ≡ b) × (p ≡ q)
       one_fault_behind text a b p q f g =
           let same = one_fault f.items g.items text f.front f.rest g.front g.rest a b f.offset g.offset f.leads f.text_is f.fault g.leads g.text_is g.fault in
           (same.0, f.place_is ∙ same.1 ∙ sym g.place_is)

@@ -1,5 +1,6 @@
 -- One text leads the other just where the list of its parts is a prefix of the other's.
-use Rattle.std.proofs.Common.{arith, ◌≤◌, inl, inr, eq-eqb, eqb-true, cond, length, take, drop, nat_lt, ◌≡◌, ◌≢◌, ℕ, zero, suc, Bool, true, false, ◌==◌, ◌&&◌, List, [], ◌∷◌, refl, sym, ◌∙◌, ap}
+use Rattle.std.proofs.Common.{arith, ◌≤◌, inl, inr, eq-eqb, eqb-true, cond, length, take, drop, nat_lt, ◌≡◌, ◌≢◌, ℕ}
+use Rattle.std.proofs.Common.{zero, suc, Bool, true, false, ◌==◌, ◌&&◌, List, [], ◌∷◌, refl, sym, ◌∙◌, ap}
 use Rattle.std.specs.declared.cmp.Ordering.{Ordering}
 use Rattle.std.specs.declared.cmp.Ordering.TheVariants.{Less, Equal, Greater}
 use Rattle.std.specs.Ordering.{ordering_then, nat_cmp, eq_by_cmp, is_eq}
@@ -52,7 +53,8 @@ prefix (suc m ∷ a) (suc n ∷ b) =
     ]
 
 -- Where the other text begins with this one, what follows decides.
-pub leads-on : (a b back : List ℕ) → pointwise (λ x y. x == y) (take (length a) b) a ≡ true → back ≡ drop (length a) b → length a ≤ length b → leads a b ≡ leads [] back
+pub leads-on : (a b back : List ℕ) → pointwise (λ x y. x == y) (take (length a) b) a ≡ true → back ≡ drop (length a) b → length a ≤ length b
+    → leads a b ≡ leads [] back
 leads-on [] b back same is long = ap (leads []) (sym is)
 leads-on (x ∷ a) [] back same is long = absurd (omega (arith, long))
 leads-on (x ∷ a) (y ∷ b) back same is long =
@@ -65,6 +67,7 @@ leads-off [] b other = absurd (true≢false other)
 leads-off (x ∷ a) [] other = refl
 leads-off (x ∷ a) (y ∷ b) other =
     elim (cases_eq x y) [
-      | inl same ↦ ap (λ t. t && leads a b) (eq-eqb x y same) ∙ leads-off a b (sym (ap (λ t. t && pointwise (λ x' y'. x' == y') (take (length a) b) a) (eq-eqb y x (sym same))) ∙ other)
+      | inl same ↦ ap (λ t. t && leads a b) (eq-eqb x y same) ∙ leads-off a b
+          (sym (ap (λ t. t && pointwise (λ x' y'. x' == y') (take (length a) b) a) (eq-eqb y x (sym same))) ∙ other)
       | inr apart ↦ ap (λ t. t && leads a b) (ne_eqb x y apart)
     ]

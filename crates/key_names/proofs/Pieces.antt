@@ -1,5 +1,6 @@
 -- The piece at the head of a text, up to the first comma outside quotes, is determined; the text of a key is one.
-use Rattle.std.proofs.Common.{zero-add, cond, ◌≡◌, ◌≢◌, ◌<◌, ◌+◌, ◌%◌, ◌⊎◌, ℕ, suc, List, [], ◌∷◌, ◌++◌, Bool, true, false, not, nat_lt, ◌&&◌, ◌==◌, if◌then◌else◌, length, get_or, length-take, take, drop, refl, sym, ◌∙◌, ap, arith, inl, inr}
+use Rattle.std.proofs.Common.{zero-add, cond, ◌≡◌, ◌≢◌, ◌<◌, ◌+◌, ◌%◌, ◌⊎◌, ℕ, suc, List, [], ◌∷◌, ◌++◌, Bool, true, false}
+use Rattle.std.proofs.Common.{not, nat_lt, ◌&&◌, ◌==◌, if◌then◌else◌, length, get_or, length-take, take, drop, refl, sym, ◌∙◌, ap, arith, inl, inr}
 use Rattle.std.specs.Prelude.{IsTrue, count_by}
 use Rattle.std.specs.List.{list_all}
 use Rattle.std.proofs.Math.Seq.{drop-cons}
@@ -13,19 +14,21 @@ use Rattle.key_names.specs.Spelling.{IsSpelling, Spells}
 use Rattle.key_names.specs.Listing.{is_closed, IsPiece}
 
 -- the part before a comma outside quotes is a piece
-pub IsPiece-at : (text : List ℕ) (i : ℕ) → i < length text → get_or text i 0 ≡ 44 → IsTrue (is_closed (take i text)) → ((k : ℕ) → k < i → get_or text k 0 ≡ 44 → is_closed (take k text) ≡ false) → IsPiece text (take i text)
+pub IsPiece-at : (text : List ℕ) (i : ℕ) → i < length text → get_or text i 0 ≡ 44 → IsTrue (is_closed (take i text))
+    → ((k : ℕ) → k < i → get_or text k 0 ≡ 44 → is_closed (take k text) ≡ false) → IsPiece text (take i text)
 IsPiece-at text i within comma closed commas = record {
   rest = drop i text;
   text_is = sym (take-append-drop i text);
   commas = λ k before here.
       let below : k < i = omega (arith, length-take i text, before) in
-      let taken : take k (take i text) ≡ take k text = sym (take-append-le k (take i text) (drop i text) (omega (arith, length-take i text))) ∙ ap (take k) (take-append-drop i text) in
+      let taken : take k (take i text) ≡ take k text = sym (take-append-le k (take i text) (drop i text) (omega (arith, length-take i text)))
+      ∙ ap (take k) (take-append-drop i text) in
       ap is_closed taken ∙ commas k below (sym (get_or-take i text k 0 below) ∙ here);
   ends = inr (drop (suc i) text, drop-cons text i 0 within ∙ ap (λ b. b ∷ drop (suc i) text) comma);
   closed = λ _. closed;
 }
 
--- whether a byte stands outside quotes, behind a text that begins outside or inside them
+-- whether a byte is outside quotes, after a text that begins outside or inside them
 abbrev outside : Bool → List ℕ → Bool
 outside now [] = now
 outside now (b ∷ text) = outside (if b == 34 then not now else now) text
@@ -44,7 +47,8 @@ is_closed-cons b text =
     ]
 
 -- two choices by tests are one
-choices : (quote closed now : Bool) → (if closed then (if quote then not now else now) else not (if quote then not now else now)) ≡ (if (if quote then not closed else closed) then now else not now)
+choices : (quote closed now : Bool) → (if closed then (if quote then not now else now) else not (if quote then not now else now)) ≡
+    (if (if quote then not closed else closed) then now else not now)
 choices true true true = refl
 choices true true false = refl
 choices true false true = refl
@@ -52,7 +56,7 @@ choices true false false = refl
 choices false true now = refl
 choices false false now = refl
 
--- behind a text that begins outside quotes a byte stands outside where the text's quotes are closed
+-- after a text that begins outside quotes a byte is outside where the text's quotes are closed
 outside-is : (now : Bool) (text : List ℕ) → outside now text ≡ (if is_closed text then now else not now)
 outside-is now [] = refl
 outside-is now (b ∷ text) =
@@ -71,7 +75,10 @@ closed_outside text = outside-is true text ∙ itself (is_closed text)
 -- a text cut at its first comma outside quotes
 abbrev pub cut : Bool → List ℕ → List ℕ × List ℕ
 cut now [] = ([], [])
-cut now (b ∷ text) = if now && b == 44 then ([], b ∷ text) else (b ∷ (cut (if b == 34 then not now else now) text).0, (cut (if b == 34 then not now else now) text).1)
+cut now (b ∷ text) = if now && b == 44 then ([], b ∷ text) else (
+  b ∷ (cut (if b == 34 then not now else now) text).0,
+  (cut (if b == 34 then not now else now) text).1,
+)
 
 -- what is not also false is false
 and_false : (t : Bool) → (t && false) ≡ false
@@ -79,7 +86,8 @@ and_false true = refl
 and_false false = refl
 
 -- a piece is cut off
-cut-piece : (piece rest : List ℕ) (now : Bool) → ((i : ℕ) → i < length piece → get_or piece i 0 ≡ 44 → outside now (take i piece) ≡ false) → Ends 44 rest → (rest ≢ [] → outside now piece ≡ true) → cut now (piece ++ rest) ≡ (piece, rest)
+cut-piece : (piece rest : List ℕ) (now : Bool) → ((i : ℕ) → i < length piece → get_or piece i 0 ≡ 44 → outside now (take i piece) ≡ false) → Ends 44 rest
+    → (rest ≢ [] → outside now piece ≡ true) → cut now (piece ++ rest) ≡ (piece, rest)
 cut-piece [] rest now commas (inl none) closed = rw none refl
 cut-piece [] rest now commas (inr (more, comma)) closed = rw (comma, closed (λ none. cc)) refl
 cut-piece (b ∷ piece) rest now commas ends closed =
@@ -103,7 +111,7 @@ passes_bare (b ∷ s) text bare =
     passes_byte b (s ++ text) (λ quote. false≢true (ap is_bare (sym quote) ∙ parts.0)) (λ comma. false≢true (ap is_bare (sym comma) ∙ parts.0))
     ∙ ap (λ (p : List ℕ × List ℕ). (b ∷ p.0, p.1)) (passes_bare s text parts.1)
 
--- so is what may stand in quotes, inside them
+-- so is what is allowed in quotes, inside them
 passes_inside : (s text : List ℕ) → IsTrue (list_all is_quotable s) → cut false (s ++ text) ≡ (s ++ (cut false text).0, (cut false text).1)
 passes_inside [] text good = refl
 passes_inside (b ∷ s) text good =
@@ -119,10 +127,12 @@ passes_quoted s text good =
     ∙ ap (λ (t : List ℕ). (34 ∷ t, (cut true text).1)) (sym (append_assoc s (34 ∷ []) (cut true text).0))
 
 -- so is a spelling
-passes_spelling : (spelling segment text : List ℕ) → IsSpelling spelling segment → cut true (spelling ++ text) ≡ (spelling ++ (cut true text).0, (cut true text).1)
+passes_spelling : (spelling segment text : List ℕ) → IsSpelling spelling segment
+    → cut true (spelling ++ text) ≡ (spelling ++ (cut true text).0, (cut true text).1)
 passes_spelling spelling segment text spelled = by_form spelled.form
   where
-    by_form : (spelling ≡ quoted segment) ⊎ ((spelling ≡ segment) × IsTrue (list_all is_bare segment)) → cut true (spelling ++ text) ≡ (spelling ++ (cut true text).0, (cut true text).1)
+    by_form : (spelling ≡ quoted segment) ⊎ ((spelling ≡ segment) × IsTrue (list_all is_bare segment))
+        → cut true (spelling ++ text) ≡ (spelling ++ (cut true text).0, (cut true text).1)
     by_form (inl is) = rw is (passes_quoted segment text (and_parts (nat_lt 0 (length segment)) (list_all is_quotable segment) spelled.valid).1)
     by_form (inr (is, bare)) = rw is (passes_bare segment text bare)
 
@@ -150,4 +160,5 @@ cut-key key front rest spells ends = passes_spelled key front rest spells ∙ at
 pub cut-IsPiece : {text piece : List ℕ} → (p : IsPiece text piece) → cut true text ≡ (piece, p.rest)
 cut-IsPiece {text} {piece} p =
     ap (cut true) p.text_is
-    ∙ cut-piece piece p.rest true (λ i within comma. closed_outside (take i piece) ∙ p.commas i within comma) p.ends (λ some. closed_outside piece ∙ p.closed some)
+    ∙ cut-piece piece p.rest true (λ i within comma. closed_outside (take i piece) ∙ p.commas i within comma) p.ends
+    (λ some. closed_outside piece ∙ p.closed some)

@@ -7,7 +7,7 @@ use Rattle.std.proofs.lemmas.Map.Views.{tells_apart}
 use Rattle.key_names.specs.Key.{is_prefix}
 use Rattle.key_names.specs.Order.{bytes_cmp}
 
--- What a key has behind a path that it begins with.
+-- What a key has after a path that it begins with.
 pub behind : (p k : List (List ℕ)) → is_prefix p k ≡ true → (rest : List (List ℕ)) × (k ≡ p ++ rest)
 behind [] k begins = (k, refl)
 behind (n ∷ p) [] begins = absurd (grind arith)

@@ -29,8 +29,9 @@ length-printed (segment ∷ next ∷ segments) some =
       sum_by-cons (λ (s : List ℕ). length (printed_segment s) + 1) segment (next ∷ segments),
     )
 
--- one segment more is printed behind the others, each with a dot behind it
-pub length-printed-push : (segments : List (List ℕ)) (segment : List ℕ) → length (printed (segments ++ segment ∷ [])) ≡ sum_by (λ s. length (printed_segment s) + 1) segments + length (printed_segment segment)
+-- one segment more is printed after the others, each with a dot after it
+pub length-printed-push : (segments : List (List ℕ)) (segment : List ℕ) → length (printed (segments ++ segment ∷ [])) ≡ sum_by
+    (λ s. length (printed_segment s) + 1) segments + length (printed_segment segment)
 length-printed-push segments segment =
     omega (
       arith,
@@ -40,7 +41,8 @@ length-printed-push segments segment =
 
 -- quotes add two bytes
 pub length-printed_segment : (segment : List ℕ) → length (printed_segment segment) ≤ length segment + 2
-length-printed_segment segment = elim (list_all is_bare segment) as (λ t. length (if t then segment else quoted segment) ≤ length segment + 2) [ true ↦ omega arith | false ↦ omega (arith, length-append segment (34 ∷ [])) ]
+length-printed_segment segment = elim (list_all is_bare segment) as (λ t. length (if t then segment else quoted segment) ≤ length segment + 2)
+    [ true ↦ omega arith | false ↦ omega (arith, length-append segment (34 ∷ [])) ]
 
 -- a segment with a short file name prints short
 pub short_printed : (segment : List ℕ) → IsTrue (has_short_name segment) → length (printed_segment segment) ≤ 129

@@ -6,7 +6,7 @@ use Rattle.std.proofs.Math.Numerals.{one-add}
 use Rattle.std.proofs.lemmas.Bool.{and_parts}
 use Rattle.std.proofs.lemmas.List.Folds.{length-prefix_len}
 
--- the list ends, or what stands here fails the test
+-- the list ends, or what is here fails the test
 abbrev pub Stops : {X : Type 0} → (X → Bool) → List X → Type 0
 Stops {X} p text = (text ≡ []) ⊎ ((x : X) × (rest : List X) × (text ≡ x ∷ rest) × (p x ≡ false))
 
@@ -38,7 +38,8 @@ Stops-drop_run p (x ∷ s) =
 pub prefix_len-run : {X : Type 0} (p : X → Bool) (run rest : List X) → IsTrue (list_all p run) → Stops p rest → prefix_len p (run ++ rest) ≡ length run
 prefix_len-run p [] rest all (inl none) = ap (prefix_len p) none
 prefix_len-run p [] rest all (inr (b, more, is, fails)) = rw is (rw fails refl)
-prefix_len-run p (x ∷ run) rest all stops = let parts = and_parts (p x) (list_all p run) all in rw (parts.0) (rw (prefix_len-run p run rest parts.1 stops) (one-add (length run)))
+prefix_len-run p (x ∷ run) rest all stops = let parts = and_parts (p x) (list_all p run) all in
+    rw (parts.0) (rw (prefix_len-run p run rest parts.1 stops) (one-add (length run)))
 
 -- the run has this length
 pub IsRun-from : {p : ℕ → Bool} {s : List ℕ} {n : ℕ} → n ≡ prefix_len p s → IsRun p s n

@@ -1,5 +1,6 @@
--- What a segment is, by its longest run of bytes that may stand in quotes.
-use Rattle.std.proofs.Common.{◌≡◌, ◌<◌, ◌≤◌, ℕ, List, [], ◌∷◌, ◌++◌, Bool, true, false, ◌&&◌, nat_lt, length, take, drop, length-drop, refl, sym, ◌∙◌, ap, subst, arith, inl, inr}
+-- What a segment is, by its longest run of bytes that are allowed in quotes.
+use Rattle.std.proofs.Common.{◌≡◌, ◌<◌, ◌≤◌, ℕ, List, [], ◌∷◌, ◌++◌, Bool, true, false, ◌&&◌}
+use Rattle.std.proofs.Common.{nat_lt, length, take, drop, length-drop, refl, sym, ◌∙◌, ap, subst, arith, inl, inr}
 use Rattle.std.specs.Prelude.{IsTrue}
 use Rattle.std.specs.List.{list_all}
 use Rattle.std.proofs.lemmas.List.{take_all, take-append-drop}
@@ -21,7 +22,7 @@ pub empty_list : {A : Type 0} (s : List A) → length s ≡ 0 → s ≡ []
 empty_list [] none = refl
 empty_list (x ∷ s) some = absurd (omega arith)
 
--- some bytes that may stand in quotes are a segment
+-- some bytes that are allowed in quotes are a segment
 pub is_segment-from : (bytes : List ℕ) → 0 < length bytes → IsTrue (list_all is_quotable bytes) → IsTrue (is_segment bytes)
 is_segment-from bytes some good = both (nat_lt 0 (length bytes)) (list_all is_quotable bytes) (le-leb 1 (length bytes) some) good
 
@@ -31,13 +32,14 @@ bad_at_run bytes n run within = subst (λ k. SegmentFault bytes BadByte k) run.l
   where
     at_stop : Stops is_quotable (drop n bytes) → SegmentFault bytes BadByte (length (take n bytes))
     at_stop (inl none) = absurd (omega (arith, length-drop n bytes, ap length none))
-    at_stop (inr (b, rest, rest_is, fails)) = bad_byte (take n bytes) b rest (sym (take-append-drop n bytes) ∙ ap (λ s. take n bytes ++ s) rest_is) run.all fails
+    at_stop (inr (b, rest, rest_is, fails)) = bad_byte (take n bytes) b rest (sym (take-append-drop n bytes) ∙ ap (λ s. take n bytes ++ s) rest_is) run.all
+        fails
 
 -- bytes that are one run are a segment, if there are some
 pub segment_at_run : (bytes : List ℕ) (n : ℕ) → IsRun is_quotable bytes n → length bytes ≤ n → 0 < length bytes → IsTrue (is_segment bytes)
 segment_at_run bytes n run whole some = is_segment-from bytes some (subst (λ s. IsTrue (list_all is_quotable s)) (take_all n bytes whole) run.all)
 
--- a bare character may stand in quotes
+-- a bare character is allowed in quotes
 bare_quotable : (b : ℕ) → IsTrue (is_bare b) → IsTrue (is_quotable b)
 bare_quotable b bare = grind (arith, nat_tests)
 

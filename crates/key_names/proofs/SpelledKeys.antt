@@ -8,7 +8,12 @@ use Rattle.key_names.proofs.Spellings.{Spells-printed, Spells_some, Spells_valid
 
 -- A text that spells something spells a key.
 pub spelled_key : (text : List ℕ) (key : List (List ℕ)) → SpellsKey text key → IsTrue (is_key key)
-spelled_key text key spells = is_key-from key (record { some = Spells_some key text spells.spells; valid = Spells_valid key text spells.spells; fits = Fits-from key spells.within })
+spelled_key text key spells = is_key-from key (record {
+  some = Spells_some key text spells.spells;
+  valid = Spells_valid key text spells.spells;
+  fits =
+      Fits-from key spells.within;
+})
 
 -- A key's printed text spells it.
 pub printed_key : (key : List (List ℕ)) → IsTrue (is_key key) → SpellsKey (printed key) key

@@ -14,7 +14,8 @@ IsSpelling-printed_segment : (segment : List ℕ) → IsTrue (is_segment segment
 IsSpelling-printed_segment segment valid = record {
   valid = valid;
   form =
-      elim (list_all is_bare segment) as (λ t. list_all is_bare segment ≡ t → ((if t then segment else quoted segment) ≡ quoted segment) ⊎ (((if t then segment else quoted segment) ≡ segment) × IsTrue (list_all is_bare segment))) [
+      elim (list_all is_bare segment) as (λ t. list_all is_bare segment ≡ t → ((if t then segment else quoted segment) ≡ quoted segment)
+      ⊎ (((if t then segment else quoted segment) ≡ segment) × IsTrue (list_all is_bare segment))) [
         | true ↦ λ bare. inr (refl, bare)
         | false ↦ λ other. inl refl
       ] refl;
@@ -26,8 +27,14 @@ unfolding Joins printed
 Spells-printed [] some valid = absurd (omega arith)
 Spells-printed (segment ∷ []) some valid = IsSpelling-printed_segment segment (and_parts (is_segment segment) true valid).0
 Spells-printed (segment ∷ next ∷ segments) some valid =
-    let parts = and_parts (is_segment segment) (list_all is_segment (next ∷ segments)) valid in
-    (printed_segment segment, printed (next ∷ segments), refl, IsSpelling-printed_segment segment parts.0, Spells-printed (next ∷ segments) (omega arith) parts.1)
+    let parts = and_parts (is_segment segment) (list_all is_segment (next ∷ segments)) valid in (
+      printed_segment segment,
+      printed (next ∷ segments),
+      refl,
+      IsSpelling-printed_segment segment parts.0,
+      Spells-printed (next ∷ segments) (omega arith)
+          parts.1,
+    )
 
 -- a text spells one segment or more
 pub Spells_some : (segments : List (List ℕ)) (text : List ℕ) → Spells text segments → 0 < length segments
@@ -40,4 +47,5 @@ pub Spells_valid : (segments : List (List ℕ)) (text : List ℕ) → Spells tex
 unfolding Joins
 Spells_valid [] text none = refl
 Spells_valid (segment ∷ []) text spelled = both (is_segment segment) true spelled.valid refl
-Spells_valid (segment ∷ next ∷ segments) text (spelling, rest, is, spelled, more) = both (is_segment segment) (list_all is_segment (next ∷ segments)) spelled.valid (Spells_valid (next ∷ segments) rest more)
+Spells_valid (segment ∷ next ∷ segments) text (spelling, rest, is, spelled, more) =
+    both (is_segment segment) (list_all is_segment (next ∷ segments)) spelled.valid (Spells_valid (next ∷ segments) rest more)

@@ -9,29 +9,29 @@ use Rattle.key_names.specs.Key.{printed}
 use Rattle.key_names.specs.Joined.{Begins, Ends, Leads, FaultBehind}
 use Rattle.key_names.specs.Spelling.{IsSpelling, Spells}
 
--- In this text, where a segment is wanted, this fault stands at this place.
+-- In this text, where a segment is wanted, this fault is at this place.
 pub data FaultAt (text : List ℕ) : KeyFault → ℕ → Type 0 where
-  -- The text ends, or a dot or `""` stands here.
+  -- The text ends, or a dot or `""` is here.
   no_segment : Ends 46 text ⊎ Begins text (34 ∷ 34 ∷ []) → FaultAt text Empty 0
-  -- Every byte after the opening quote may stand inside quotes.
+  -- Every byte after the opening quote is allowed inside quotes.
   never_closed : (inside : List ℕ) → text ≡ 34 ∷ inside → IsTrue (list_all is_quotable inside) → FaultAt text Unclosed 0
-  -- Behind bare characters, or none, a byte that neither is one nor ends them nor opens quotes.
+  -- After bare characters, or none, a byte that neither is one nor ends them nor opens quotes.
   in_bare :
       (run : List ℕ) (b : ℕ) (rest : List ℕ) → text ≡ run ++ b ∷ rest
       → IsTrue (list_all is_bare run) → is_bare b ≡ false → b ≢ 46 → (b ≡ 34 → run ≢ [])
       → FaultAt text BadByte (length run)
-  -- Inside quotes, a byte that may not stand there.
+  -- Inside quotes, a byte that is not allowed there.
   in_quotes :
       (inside : List ℕ) (b : ℕ) (rest : List ℕ) → text ≡ 34 ∷ inside ++ b ∷ rest
       → IsTrue (list_all is_quotable inside) → is_quotable b ≡ false → b ≢ 34
       → FaultAt text BadByte (1 + length inside)
-  -- Behind a quoted segment, a byte other than a dot.
+  -- After a quoted segment, a byte other than a dot.
   behind_quotes :
       (segment : List ℕ) (b : ℕ) (rest : List ℕ) → text ≡ quoted segment ++ b ∷ rest
       → IsTrue (is_segment segment) → b ≢ 46
       → FaultAt text BadByte (length (quoted segment))
 
--- Behind spellings of some segments, with a dot behind each, this fault stands.
+-- After spellings of some segments, with a dot after each, there is this fault.
 abbrev pub GrammarFault : List ℕ → KeyFault → ℕ → Type 0
 GrammarFault = FaultBehind IsSpelling 46 FaultAt
 
@@ -73,7 +73,7 @@ pub data Refuses (text : List ℕ) (kind : KeyFault) (place : ℕ) : Type 0 wher
 -- The bytes are no segment, with this fault at this place.
 pub data SegmentFault (bytes : List ℕ) : KeyFault → ℕ → Type 0 where
   no_bytes : bytes ≡ [] → SegmentFault bytes Empty 0
-  -- At the first byte that may not stand in quotes.
+  -- At the first byte that is not allowed in quotes.
   bad_byte :
       (front : List ℕ) (b : ℕ) (rest : List ℕ) → bytes ≡ front ++ b ∷ rest
       → IsTrue (list_all is_quotable front) → is_quotable b ≡ false
@@ -84,10 +84,10 @@ pub data RefusesChild (key : List (List ℕ)) (segment : List ℕ) : KeyFault �
   segment_fault : (kind : KeyFault) (place : ℕ) → SegmentFault segment kind place → RefusesChild key segment kind place
   child_limit : (kind : KeyFault) → IsTrue (is_segment segment) → Breaks (key ++ segment ∷ []) kind → RefusesChild key segment kind 0
 
--- The answer is this value, unless memory was wanting.
+-- The answer is this value, unless it ran out of memory.
 abbrev pub IsRead : {T : Type 0} → Result T KeyError → T → Type 0
 IsRead result value = MatchResult result (λ v. v ≡ value) (λ e. e.kind ≡ Memory)
 
--- The answer is this fault, unless memory was wanting.
+-- The answer is this fault, unless it ran out of memory.
 abbrev pub IsRefused : {T : Type 0} → Result T KeyError → KeyFault → ℕ → Type 0
 IsRefused result kind place = MatchResult result (λ _. ⊥) (λ e. e.kind ≢ Memory → (e.kind ≡ kind) × (e.place ≡ place))

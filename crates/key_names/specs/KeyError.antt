@@ -1,7 +1,7 @@
--- The error that stands for want of memory.
+-- The error that represents being out of memory.
 use Rattle.key_names.specs.declared.key_error.KeyError.{KeyError}
 use Rattle.key_names.specs.declared.key_error.KeyFault.TheVariants.{Memory}
 
--- Want of memory has the place 0.
+-- Out of memory has the place 0.
 abbrev pub want_of_memory : KeyError
 want_of_memory = record { kind = Memory; place = 0 }

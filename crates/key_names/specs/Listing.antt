@@ -13,8 +13,8 @@ Lists = Joins SpellsKey 44
 abbrev pub is_closed : List ℕ → Bool
 is_closed text = count_by (λ b. b == 34) text % 2 == 0
 
--- The piece is what stands in this text before the first comma outside quotes: each comma of the piece
--- stands inside quotes, and behind it the text ends or, where its quotes are closed, a comma stands.
+-- The piece is what is in this text before the first comma outside quotes: each comma of the piece
+-- is inside quotes, and after it the text ends or, where its quotes are closed, a comma comes.
 pub record IsPiece (text piece : List ℕ) : Type 0 where
   pub rest : List ℕ
   pub text_is : text ≡ piece ++ rest
@@ -28,6 +28,6 @@ pub record PieceFault (text : List ℕ) (kind : KeyFault) (offset : ℕ) : Type 
   pub is_piece : IsPiece text piece
   pub fault : Refuses piece kind offset
 
--- Behind spellings of some keys, with a comma behind each, the piece is no key, with this fault.
+-- After spellings of some keys, with a comma after each, the piece is no key, with this fault.
 abbrev pub RefusesList : List ℕ → KeyFault → ℕ → Type 0
 RefusesList = FaultBehind SpellsKey 44 PieceFault

@@ -2,7 +2,8 @@
 use Rattle.std.specs.Prelude.{ℕ, List}
 use Rattle.std.specs.declared.cmp.Ordering.{Ordering}
 use Rattle.std.specs.Ordering.{nat_cmp, eq_by_cmp, as_partial_cmp}
-use Rattle.std.specs.Cmp.{IsTotalOrder, IsEquivalence, IsPartialEquivalence, IsPartialOrder, partial_equiv_from_equiv, eq_by_cmp_equiv, partial_order_from_total}
+use Rattle.std.specs.Cmp.{IsTotalOrder, IsEquivalence, IsPartialEquivalence}
+use Rattle.std.specs.Cmp.{IsPartialOrder, partial_equiv_from_equiv, eq_by_cmp_equiv, partial_order_from_total}
 use Rattle.std.specs.Cmp.Lexicographic.{slice_cmp, lists_total, nat_list_cmp_total}
 use Rattle.std.specs.FinMap.{IsAntisymmetric, nat_cmp-IsAntisymmetric, slice_cmp-IsAntisymmetric}
 

@@ -7,7 +7,7 @@ use Rattle.key_names.specs.Spelling.{IsSpelling}
 use Rattle.key_names.specs.Joined.{Ends}
 use Rattle.key_names.specs.Faults.{LimitAt}
 
--- The text begins with a spelling of the segment, of this length, and the segment ends behind it.
+-- The text begins with a spelling of the segment, of this length, and the segment ends after it.
 pub record IsHead (text segment : List ℕ) (len : ℕ) : Type 0 where
   pub spelling : List ℕ
   pub rest : List ℕ

@@ -9,15 +9,15 @@ use Rattle.percent_encoding.specs.Percent.{percent_encode_byte}
 abbrev pub is_bare : ℕ → Bool
 is_bare b = is_ascii_alphanumeric b || (b == 95 || b == 45)
 
--- The bytes that may stand in quotes: 0x20 to 0x7E other than `"`.
+-- The bytes that are allowed in quotes: 0x20 to 0x7E other than `"`.
 abbrev pub is_quotable : ℕ → Bool
 is_quotable b = (nat_le 32 b && nat_le b 126) && not (b == 34)
 
--- A segment is one or more bytes that may stand in quotes.
+-- A segment is one or more bytes that are allowed in quotes.
 abbrev pub is_segment : List ℕ → Bool
 is_segment bytes = nat_lt 0 (length bytes) && list_all is_quotable bytes
 
--- A bare character stands for itself, any other byte is `%` and two upper-case hexadecimal digits.
+-- A bare character represents itself, any other byte is `%` and two upper-case hexadecimal digits.
 abbrev pub glyph : ℕ → List ℕ
 glyph b = if is_bare b then b ∷ [] else percent_encode_byte b
 

@@ -36,7 +36,7 @@ impl Bytes {
         &self.bytes
     }
 
-    /// A copy of the bytes. The only error is want of memory.
+    /// A copy of the bytes. The only error is out of memory.
     pub fn copy(&self) -> Result<Bytes, AllocError>
         ensures { IfOk result (λ bytes. bytes ≡ self.now) }
     {

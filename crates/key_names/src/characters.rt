@@ -13,7 +13,7 @@ pub(crate) fn is_bare(b: u8) -> bool
     b.is_ascii_alphanumeric() || b == b'_' || b == b'-'
 }
 
-/// Whether the byte may stand in quotes: 0x20 to 0x7E other than `"`.
+/// Whether the byte is allowed in quotes: 0x20 to 0x7E other than `"`.
 pub fn is_quotable(b: u8) -> bool
     ensures { result ≡ is_quotable b }
 {
@@ -35,7 +35,7 @@ pub fn bare_len(bytes: &[u8]) -> usize
     bytes.iter().take_while(|b| is_bare(**b)).count()
 }
 
-/// How many bytes at the front may stand in quotes.
+/// How many bytes at the front are allowed in quotes.
 pub fn quotable_len(bytes: &[u8]) -> usize
     ensures value { result ≡ prefix_len is_quotable bytes.now }
     ensures bound { result ≤ length bytes.now }
@@ -50,14 +50,14 @@ pub fn is_segment(bytes: &[u8]) -> bool
     !bytes.is_empty() && are_quotable(bytes)
 }
 
-/// Whether each byte may stand in a quoted segment. It takes no memory.
+/// Whether each byte is allowed in a quoted segment. It takes no memory.
 pub fn are_quotable(bytes: &[u8]) -> bool
     ensures { result ≡ list_all is_quotable bytes.now }
 {
     bytes.iter().all(|b| is_quotable(*b))
 }
 
-/// Why the bytes are no segment, if they aren't: they are empty, or one may not stand in quotes.
+/// Why the bytes are no segment, if they aren't: they are empty, or one is not allowed in quotes.
 pub fn segment_fault(bytes: &[u8]) -> Option<KeyError>
     ensures { MatchOption result (IsTrue (is_segment bytes.now))
         (λ e. SegmentFault bytes.now e.kind e.place) }

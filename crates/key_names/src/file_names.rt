@@ -22,7 +22,7 @@ fn encoded(alloc: Global, segment: &[u8]) -> Result<Vec<u8>, AllocError>
 }
 
 /// The file name of a segment: each byte other than a bare character becomes `%` and two upper-case
-/// hexadecimal digits, as in RFC 3986. The only error is want of memory.
+/// hexadecimal digits, as in RFC 3986. The only error is out of memory.
 pub fn file_name(alloc: Global, segment: &[u8]) -> Result<Bytes, AllocError>
     ensures { IfOk result (λ name. name ≡ file_name segment.now) }
 {
@@ -54,7 +54,7 @@ fn segment_named(alloc: Global, name: &[u8]) -> Result<Option<Bytes>, AllocError
 
 /// The segment whose file name this is, or `None` where the name has no or more than 127 bytes or is
 /// no segment's file name: so where it has a broken escape, one in lower case, or one of a bare
-/// character. The only error is want of memory.
+/// character. The only error is out of memory.
 pub fn of_file_name(alloc: Global, name: &[u8]) -> Result<Option<Bytes>, AllocError>
     ensures some { IfOk result (λ o. IfSome o (IsFileNameOf name.now)) }
 

@@ -51,7 +51,7 @@ fn bare_head(text: &[u8]) -> Result<Head<'_>, KeyError>
     Ok(Head { segment, len })
 }
 
-// The segment behind an opening quote.
+// The segment after an opening quote.
 fn quoted_head(inside: &[u8]) -> Result<Head<'_>, KeyError>
     ensures ok { IfOk result (λ head. IsHead (34 ∷ inside.now) head.segment.now head.len) }
     ensures within { IfOk result (λ head. head.len ≤ length inside.now + 1) }
@@ -90,7 +90,7 @@ fn quoted_head(inside: &[u8]) -> Result<Head<'_>, KeyError>
     })
 }
 
-/// The segment at the head of a text, up to a dot or the text's end, or why none stands there.
+/// The segment at the head of a text, up to a dot or the text's end, or why none is there.
 pub fn head_of(text: &[u8]) -> Result<Head<'_>, KeyError>
     ensures ok { IfOk result (λ head. IsHead text.now head.segment.now head.len) }
     ensures within { IfOk result (λ head. head.len ≤ length text.now) }

@@ -41,7 +41,7 @@ impl Model for Key {
     ghost invariant = { λ k. IsTrue (is_key (segments_of k.segments.value)) };
 }
 
-// Whether a text ends here, or a zero byte stands here.
+// Whether a text ends here, or a zero byte is here.
 fn ends(rest: &[u8]) -> bool
     ensures { result ≡ leads [] rest.now }
 {
@@ -97,8 +97,8 @@ impl Key {
     /// quotes, or bare where it has only bare characters (ASCII letters and digits, `_`, `-`).
     ///
     /// Refused are, at the first place in the text: `Empty`, where a segment is wanted and the text
-    /// ends, or a dot or `""` stands; `BadByte`, at a byte that can't stand there; `Unclosed`, at a
-    /// quote behind which every byte may stand in quotes and none closes. Only where the grammar holds
+    /// ends, or a dot or `""` is there; `BadByte`, at a byte that can't be there; `Unclosed`, at a
+    /// quote after which every byte is allowed in quotes and none closes. Only where the grammar holds
     /// come the limits, in this order: `TooMany` at the 33rd segment, `SegmentTooLong` at the first
     /// segment with a file name over 127 bytes, `TooLong` at the text's end where the printed text has
     /// over 1,024 bytes. It takes one pass over the text.
@@ -134,9 +134,9 @@ impl Key {
     }
 
     /// The key of one segment. Refused are, in this order: an empty segment (`Empty`); one with a byte
-    /// that may not stand in quotes (`BadByte`, at the first such); and one with a file name over 127
+    /// that is not allowed in quotes (`BadByte`, at the first such); and one with a file name over 127
     /// bytes (`SegmentTooLong`). The place is 0 but for `BadByte`. These come before any memory is
-    /// asked for; the only other error is want of memory.
+    /// asked for; the only other error is out of memory.
     pub fn of_segment(alloc: Global, segment: &[u8]) -> Result<Key, KeyError>
         ensures ok { IfOk result (λ key. key ≡ segment.now ∷ []) }
         ensures valid { IfOk result (λ key. IsTrue (is_key key)) }
@@ -149,9 +149,9 @@ impl Key {
     }
 
     /// The key with one segment more. Refused are, in this order: an empty segment (`Empty`); one with
-    /// a byte that may not stand in quotes (`BadByte`, at the first such); and a child that breaks a
+    /// a byte that is not allowed in quotes (`BadByte`, at the first such); and a child that breaks a
     /// limit (`TooMany`, `SegmentTooLong`, `TooLong`). The place is 0 but for `BadByte`. These come
-    /// before any memory is asked for; the only other error is want of memory.
+    /// before any memory is asked for; the only other error is out of memory.
     pub fn child(&self, segment: &[u8]) -> Result<Key, KeyError>
         ensures ok { IfOk result (λ key. key ≡ self.now ++ segment.now ∷ []) }
         ensures valid { IfOk result (λ key. IsTrue (is_key key)) }
@@ -164,7 +164,7 @@ impl Key {
     }
 
     /// The printed text: the segments joined by dots, in quotes those that hold another byte than bare
-    /// characters. It reads back as this key. The only error is want of memory.
+    /// characters. It reads back as this key. The only error is out of memory.
     pub fn print(&self) -> Result<Text, AllocError>
         ensures value { IfOk result (λ text. text ≡ printed self.now) }
         ensures reads_back { IfOk result (λ text. SpellsKey text self.now) }
@@ -205,8 +205,8 @@ impl Key {
         self.is_prefix(other) || other.is_prefix(self)
     }
 
-    /// A copy that shares the segments: it costs one step and no memory. The only error is want of
-    /// memory, answered where as many copies as can be counted stand.
+    /// A copy that shares the segments: it costs one step and no memory. The only error is out of
+    /// memory, answered where there are as many copies as can be counted.
     pub fn copy(&self) -> Result<Key, AllocError>
         ensures { IfOk result (λ key. key ≡ self.now) }
     {

@@ -5,9 +5,9 @@ use std::alloc::{AllocError, AllocFailed};
 /// What is wrong.
 #[derive(Clone, Copy, Debug, PartialEq, Eq)]
 pub enum KeyFault {
-    /// A segment is wanted where the text ends, or where a dot or `""` stands.
+    /// A segment is wanted where the text ends, or where a dot or `""` is.
     Empty,
-    /// A byte that can't stand at its place.
+    /// A byte that can't be at its place.
     BadByte,
     /// A quote that is never closed.
     Unclosed,
@@ -17,11 +17,11 @@ pub enum KeyFault {
     SegmentTooLong,
     /// A key whose printed text has more than 1,024 bytes.
     TooLong,
-    /// Memory was wanting. It says nothing of the text, and nor does its place.
+    /// Out of memory. It says nothing of the text, and nor does its place.
     Memory,
 }
 
-/// A fault, and the place of the byte in the text at which it stands, counted from 0.
+/// A fault, and the place of the byte in the text at which it is, counted from 0.
 #[derive(Clone, Copy, Debug, PartialEq, Eq)]
 pub struct KeyError {
     /// What is wrong.

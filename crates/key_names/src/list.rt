@@ -50,7 +50,7 @@ fn keys_of(alloc: Global, text: &[u8]) -> Result<Vec<Key>, KeyError>
         if start == text.len() {
             return Ok(keys);
         }
-        // behind the comma
+        // after the comma
         start += 1;
     }
 }

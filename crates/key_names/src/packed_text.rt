@@ -8,7 +8,7 @@ ghost use Rattle.key_names.specs.Packed.{parts, segments_of, longer};
 use crate::Text;
 use std::alloc::{AllocError, Global};
 
-/// The first part of a text, and what stands behind the zero byte at its end; None of a text of one part. It takes no
+/// The first part of a text, and what comes after the zero byte at its end; None of a text of one part. It takes no
 /// memory.
 pub fn cut(text: &str) -> Option<(&str, &str)>
     ensures parts { MatchOption result (parts text.now ≡ text.now ∷ [])
@@ -69,7 +69,7 @@ fn push_longer(text: &mut String, segment: &str) -> Result<(), AllocError>
     text.push_str(segment)
 }
 
-/// Adds the segment behind those of the text. The only error is want of memory.
+/// Adds the segment after those of the text. The only error is out of memory.
 pub fn push(text: &mut String, segment: &[u8]) -> Result<(), AllocError>
     requires { IsTrue (is_segment segment.now) }
     ensures { OnOk result (string_bytes text.new ≡ longer (string_bytes text.old) segment.now) }
@@ -77,7 +77,7 @@ pub fn push(text: &mut String, segment: &[u8]) -> Result<(), AllocError>
     push_longer(text, text_of(segment))
 }
 
-/// The segments of the text and one behind them. The only error is want of memory.
+/// The segments of the text and one after them. The only error is out of memory.
 pub fn with_segment(alloc: Global, text: &str, segment: &[u8]) -> Result<Text, AllocError>
     requires { IsTrue (is_segment segment.now) }
     ensures { IfOk result (λ more. segments_of more ≡ segments_of text.now ++ segment.now ∷ []) }

@@ -21,7 +21,7 @@ fn push_segment(text: &mut String, segment: &str) -> Result<(), AllocError>
     }
 }
 
-/// The printed parts of a text, joined by dots. The only error is want of memory.
+/// The printed parts of a text, joined by dots. The only error is out of memory.
 pub fn printed(alloc: Global, text: &str) -> Result<String, AllocError>
     ensures { IfOk result (λ out. string_bytes out ≡ printed (parts text.now)) }
 {
@@ -72,7 +72,7 @@ fn dotted_parts_len(text: &str) -> usize
     len + dotted_segment_len(rest)
 }
 
-/// The length of the printed segments of a text with a dot behind each, where they are few and short enough.
+/// The length of the printed segments of a text with a dot after each, where they are few and short enough.
 pub fn dotted_len(text: &str) -> usize
     requires few { length (segments_of text.now) ≤ 32 }
     requires short { IsTrue (list_all has_short_name (segments_of text.now)) }

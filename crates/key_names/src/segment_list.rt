@@ -1,4 +1,4 @@
-//! Segments that are read one behind the other.
+//! Segments that are read one after the other.
 ghost use Rattle.std.specs.Prelude.{◌≡◌, ◌++◌, ◌∷◌, [], length, IfOk, IsTrue};
 ghost use Rattle.std.specs.List.{list_all};
 ghost use Rattle.key_names.specs.Segment.{is_segment};
@@ -38,7 +38,7 @@ impl Segments {
         }
     }
 
-    /// These segments, and one behind them. The only error is want of memory.
+    /// These segments, and one after them. The only error is out of memory.
     pub fn with(self, segment: &[u8]) -> Result<Segments, AllocError>
         requires { IsTrue (is_segment segment.now) }
         ensures { IfOk result (λ more. more ≡ self ++ segment.now ∷ []) }

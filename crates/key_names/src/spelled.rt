@@ -140,7 +140,7 @@ pub fn spelled_by(alloc: Global, text: &[u8]) -> Result<Spelled, KeyError>
         if start == text.len() {
             return Ok(spelled);
         }
-        // behind the dot
+        // after the dot
         start += 1;
     }
 }

@@ -29,7 +29,7 @@ impl Text {
         Text { text }
     }
 
-    /// A copy of this text. It costs its length. The only error is want of memory.
+    /// A copy of this text. It costs its length. The only error is out of memory.
     pub fn from_str(alloc: Global, text: &str) -> Result<Text, AllocError>
         ensures { IfOk result (λ copy. copy ≡ text.now) }
     {
@@ -49,7 +49,7 @@ impl Text {
         *self.text.allocator()
     }
 
-    /// A copy with the same bytes. The only error is want of memory.
+    /// A copy with the same bytes. The only error is out of memory.
     pub fn copy(&self) -> Result<Text, AllocError>
         ensures { IfOk result (λ text. text ≡ self.now) }
     {
@@ -58,7 +58,7 @@ impl Text {
     }
 }
 
-/// Copies of the texts, in their order. It costs the texts' length. The only error is want of memory.
+/// Copies of the texts, in their order. It costs the texts' length. The only error is out of memory.
 pub fn copy_texts(alloc: Global, texts: &[Text]) -> Result<Vec<Text>, AllocError>
     ensures { IfOk result (λ copies. copies.items ≡ texts.now) }
 {

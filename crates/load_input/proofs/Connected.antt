@@ -11,7 +11,8 @@ first_input : (x y : Input) (xs ys : List Input) → x ∷ xs ≡ y ∷ ys → x
 first_input x y xs ys e = cc
 
 -- It is accepted with all of its bytes to come.
-pub connected : (old new : MemoryDoor) (came : Result Bool Failed) → IsUnused old → TakesInput old new came → came ≡ Ok true → (input : Input) → inputs_of old ≡ input ∷ []
+pub connected : (old new : MemoryDoor) (came : Result Bool Failed) → IsUnused old → TakesInput old new came → came ≡ Ok true → (input : Input)
+    → inputs_of old ≡ input ∷ []
     → exchanges_of new ≡ fresh (joined input.pieces.items) ∷ []
 connected old new came unused takes is input one =
     let next = takes.next is in

@@ -10,7 +10,8 @@ use Rattle.load_input.specs.Starting.{IsNodeOf, AreNodesOf}
 use Rattle.std.proofs.Common.{map}
 use Rattle.std.proofs.lemmas.List.{map-append}
 
-nodes_push : (fs : List File) (ns : List (Names × Node)) (f : File) (n : Names × Node) → AreNodesOf fs ns → IsNodeOf f n → AreNodesOf (fs ++ f ∷ []) (ns ++ n ∷ [])
+nodes_push : (fs : List File) (ns : List (Names × Node)) (f : File) (n : Names × Node) → AreNodesOf fs ns → IsNodeOf f n
+    → AreNodesOf (fs ++ f ∷ []) (ns ++ n ∷ [])
 nodes_push [] [] f n are is = (is, tt)
 nodes_push [] (m ∷ ms) f n are is = absurd are
 nodes_push (g ∷ gs) [] f n are is = absurd are

@@ -38,7 +38,8 @@ clash : (b : Bool) → b ≡ false → b ≡ true → ⊥
 clash true off on = absurd (cc off)
 clash false off on = absurd (cc on)
 
-counts-append : (I : Image) (W : World) (es fs : List Event) (n : Counts) → with_events I W (es ++ fs) n ≡ with_events I (after I W es) fs (with_events I W es n)
+counts-append : (I : Image) (W : World) (es fs : List Event) (n : Counts) → with_events I W (es ++ fs) n ≡ with_events I (after I W es) fs
+    (with_events I W es n)
 counts-append I W [] fs n = refl
 counts-append I W (e ∷ es) fs n = counts-append I (next I W e) es fs (with_event I W e n)
 
@@ -66,7 +67,8 @@ both_asked [] cs (q ∷ qs) ps first second = absurd first
 both_asked (b ∷ bs) cs [] ps first second = absurd first
 both_asked (b ∷ bs) cs (q ∷ qs) ps first second = (first.0, both_asked bs cs qs ps first.1 second)
 
-asked-append : (bs cs : List (List ℕ)) (es fs : List Event) → AreAskedBy bs (requests_in es) → AreAskedBy cs (requests_in fs) → AreAskedBy (bs ++ cs) (requests_in (es ++ fs))
+asked-append : (bs cs : List (List ℕ)) (es fs : List Event) → AreAskedBy bs (requests_in es) → AreAskedBy cs (requests_in fs)
+    → AreAskedBy (bs ++ cs) (requests_in (es ++ fs))
 asked-append bs cs es fs first second =
     subst (AreAskedBy (bs ++ cs)) (sym (requests-append es fs)) (both_asked bs cs (requests_in es) (requests_in fs) first second)
 
@@ -113,18 +115,21 @@ alone (Unopened at) first is = absurd is
 alone (Faulted taken) first is = (is, refl)
 
 -- One request, where no call of the disk has failed: its reply is one of success or not.
-pub counted_reply : (bytes : List ℕ) (c now : Core) (q : Request) (sent : Sent) (fine : Bool) (n m : Counts) (runs : List Run) (old new : History) → c.faulted ≡ false
+pub counted_reply : (bytes : List ℕ) (c now : Core) (q : Request) (sent : Sent) (fine : Bool) (n m : Counts) (runs : List Run) (old new : History)
+    → c.faulted ≡ false
     → (core_state c).job ≡ Idle → IsAskedBy bytes q → is_of_success sent.status ≡ fine → m ≡ with_reply fine n → Handles c q (came.Answered sent) now old new
     → Counted (bytes ∷ []) c now n m runs runs old new
 counted_reply bytes c now q sent fine n m runs old new calm idle by_bytes success is handles = record { each = by } where
   by : (I : Image) → IsGood I → HoldsImage I c.image → (folder : Folder) (W V : World) → Kept I folder W V old (core_state c) → runs ≡ W.runs
       → CountedBy I folder W V (bytes ∷ []) c now n m runs old new
   by I good of folder W V kept are =
-      let h : IsHandled I folder W V q (came.Answered sent) c now old new = handles.each I good of folder (λ faulted opened. absurd (clash c.faulted calm faulted)) W V kept in
+      let h : IsHandled I folder W V q (came.Answered sent) c now old new =
+      handles.each I good of folder (λ faulted opened. absurd (clash c.faulted calm faulted)) W V kept in
       let e : Handled I c.faulted W q h.replied h.events = h.handled_by in
       let a : (e.first ≡ []) × Reopens false e.outcome [] = alone e.outcome e.first (subst (λ (b : Bool). Reopens b e.outcome e.first) calm e.reopens) in
       let made : h.events ≡ Asked q e.outcome ∷ [] = e.made ∙ ap (λ (l : List Event). l ++ Asked q e.outcome ∷ []) a.0 in
-      let replied : h.replied ≡ (request_next I W q e.outcome).reply = e.replied ∙ ap (λ (l : List Event). (request_next I (after I W l) q e.outcome).reply) a.0 in
+      let replied : h.replied ≡ (request_next I W q e.outcome).reply = e.replied ∙ ap (λ (l : List Event). (request_next I (after I W l) q e.outcome).reply) a.0
+      in
       let says : Says (request_next I W q e.outcome).reply sent = subst (λ (r : Reply). Says r sent) replied h.says in
       let told : fine ≡ is_success (request_next I W q e.outcome).reply = sym success ∙ says_success (request_next I W q e.outcome).reply sent says in
       record {
@@ -151,7 +156,7 @@ one_left : (I : Image) (W : World) (es : List Event) → is_running W.job ≡ tr
 one_left I W [] running (inl none) = let is : 1 ≡ 0 = none in absurd (omega (arith, is))
 one_left I W [] running (inr still) = absurd (clash (is_running W.job) still running)
 one_left I W (Turned a ∷ []) running is = (a, refl)
-one_left I W (Turned a ∷ e ∷ es) running is = absurd (none_left I (turn_next I W a) e es is.2)
+one_left I W (Turned a ∷ e ∷ es) running is = absurd (none_left I (turn_next I W a) e es is.3)
 one_left I W (Opened boot o ∷ es) running is = absurd is
 one_left I W (Asked q o ∷ es) running is = absurd is
 one_left I W (Unread ∷ es) running is = absurd is
@@ -160,7 +165,8 @@ one_left I W (Moved v held ∷ es) running is = absurd is
 
 -- One turn of a running job: whether a program more was run, and whether the job goes on.
 pub counted_turn : (c now : Core) (n m : Counts) (r s : List Run) (old new : History) → is_running (core_state c).job ≡ true
-    → m ≡ with_turn (nat_lt (length r) (length s)) (is_running (core_state now).job) n → Turns c (Some 1) now (Some r) (Some s) old new → Counted [] c now n m r s old new
+    → m ≡ with_turn (nat_lt (length r) (length s)) (is_running (core_state now).job) n → Turns c (Some 1) now (Some r) (Some s) old new
+    → Counted [] c now n m r s old new
 counted_turn c now n m r s old new running is turns = record { each = by } where
   by : (I : Image) → IsGood I → HoldsImage I c.image → (folder : Folder) (W V : World) → Kept I folder W V old (core_state c) → r ≡ W.runs
       → CountedBy I folder W V [] c now n m s old new
@@ -220,7 +226,8 @@ heard_by bytes ask old new is last =
     }
 
 -- With no bytes more, and by other words for the same bytes.
-pub counted_whole : (bs cs : List (List ℕ)) (c now : Core) (n m : Counts) (r s : List Run) (old new : History) → bs ≡ cs → Counted (bs ++ []) c now n m r s old new
+pub counted_whole : (bs cs : List (List ℕ)) (c now : Core) (n m : Counts) (r s : List Run) (old new : History) → bs ≡ cs
+    → Counted (bs ++ []) c now n m r s old new
     → Counted cs c now n m r s old new
 counted_whole bs cs c now n m r s old new same counted = subst (λ (l : List (List ℕ)). Counted l c now n m r s old new) (append-nil bs ∙ same) counted
 
@@ -234,7 +241,8 @@ counted_from bs cs c now n m r s old new same none unrun counted =
     (subst (λ (x : Counts). Counted bs c now x m [] s old new) none (subst (λ (l : List Run). Counted bs c now n m l s old new) unrun counted))
 
 -- There are as many replies as requests.
-pub all_counted : (bs cs : List (List ℕ)) (n m : Counts) → bs ≡ cs → n ≡ no_counts → m.ok + m.refused ≡ n.ok + n.refused + length bs → m.ok + m.refused ≡ length cs
+pub all_counted : (bs cs : List (List ℕ)) (n m : Counts) → bs ≡ cs → n ≡ no_counts → m.ok + m.refused ≡ n.ok + n.refused + length bs
+    → m.ok + m.refused ≡ length cs
 all_counted bs cs n m same none all =
     let ok : n.ok ≡ 0 = ap (λ (x : Counts). x.ok) none in
     let refused : n.refused ≡ 0 = ap (λ (x : Counts). x.refused) none in

@@ -46,7 +46,8 @@ AskedIdle I W (Asked q o ∷ es) = (is_running W.job ≡ false) × AskedIdle I (
 AskedIdle I W (e ∷ es) = AskedIdle I (next I W e) es
 
 -- Events of the machine from W on, on the disk, in the core and in the programs that were run, the bytes that ask their requests, and what is counted of them.
-pub record CountedBy (I : Image) (folder : Folder) (W V : World) (bytes : List (List ℕ)) (c now : Core) (n m : Counts) (ran_after : List Run) (old new : History) : Type 0 where
+pub record CountedBy (I : Image) (folder : Folder) (W V : World) (bytes : List (List ℕ)) (c now : Core) (n m : Counts) (ran_after : List Run)
+    (old new : History) : Type 0 where
   pub events : List Event
   pub made : Ran I folder W V events old new (core_state c) (core_state now)
   pub runs : ran_after ≡ (after I W events).runs

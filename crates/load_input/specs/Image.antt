@@ -1,4 +1,4 @@
--- The image of a load run: ten services with a file each, and settings that concern them in turn.
+-- The image of a load run: ten services with a file each, and settings that affect them in turn.
 use Rattle.std.specs.Prelude.{ℕ, List, [], ◌∷◌, ◌++◌, ◌%◌, ◌==◌, if◌then◌else◌, map, codes, decimal}
 use Rattle.std.specs.List.{flat_map}
 use Rattle.load_input.specs.Numbers.{below}
@@ -19,7 +19,7 @@ service_lines j =
     ++ codes "\"]\n[configuration-files.f" ++ decimal j ++ codes "]\npath = \"/etc/load/f" ++ decimal j
     ++ codes "\"\ntemplate-path = \"f" ++ decimal j ++ codes "\"\n"
 
--- The lines of a setting, which concerns one service.
+-- The lines of a setting, which affects one service.
 unfoldable pub setting_lines : ℕ → List ℕ
 setting_lines i =
     codes "[metadata.settings.load.k" ++ decimal i ++ codes "]\naffected-services = [\"s" ++ decimal (i % 10) ++ codes "\"]\n"
@@ -32,11 +32,11 @@ model_text n = type_lines ++ flat_map service_lines (below 10) ++ flat_map setti
 unfoldable pub value_line : ℕ → List ℕ
 value_line i = codes "{{default 0 settings.load.k" ++ decimal i ++ codes "}}\n"
 
--- The line of a setting in the template of a service that it concerns, and nothing in another.
+-- The line of a setting in the template of a service that it affects, and nothing in another.
 unfoldable pub line_in : ℕ → ℕ → List ℕ
 line_in j i = if i % 10 == j then value_line i else []
 
--- The template of a service: a line for each setting that concerns it.
+-- The template of a service: a line for each setting that affects it.
 abbrev pub template_text : ℕ → ℕ → List ℕ
 template_text n j = flat_map (line_in j) (below n)
 

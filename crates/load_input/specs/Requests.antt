@@ -25,7 +25,7 @@ commit_and_apply_of r = codes "POST /tx/commit_and_apply?tx=t" ++ decimal r ++ c
 unfoldable pub apply_request : List ℕ
 apply_request = codes "POST /tx/apply HTTP/1.1\r\n\r\n"
 
--- The change of a setting, and behind each hundredth the commit of its transaction.
+-- The change of a setting, and after each hundredth the commit of its transaction.
 unfoldable pub changes_of : ℕ → List (List ℕ)
 changes_of i = patch_of i ∷ (if i % 100 == 99 then commit_and_apply_of (i % 7) ∷ [] else [])
 

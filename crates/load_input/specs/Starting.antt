@@ -15,7 +15,7 @@ use Rattle.api_core.specs.Cores.{core_state}
 use Rattle.api_core.specs.declared.serving.Core.{Core}
 use Rattle.load_input.specs.Image.{File, image_files}
 
--- The node stands for the file: at its path, with its bytes.
+-- The node represents the file: at its path, with its bytes.
 pub record IsNodeOf (f : File) (at : Names × Node) : Type 0 where
   pub path : path_of f.0 ≡ Ok at.0
   pub bytes : at.1 ≡ node.File f.1
@@ -26,7 +26,7 @@ AreNodesOf [] [] = Unit {0}
 AreNodesOf (f ∷ fs) (n ∷ ns) = IsNodeOf f n × AreNodesOf fs ns
 AreNodesOf _ _ = ⊥
 
--- Nothing stands on the disk but the image for so many settings, and no change was made.
+-- Nothing is on the disk but the image for so many settings, and no change was made.
 pub record HasImage (count : ℕ) (h : History) : Type 0 where
   pub nodes : List (Names × Node)
   pub are : AreNodesOf (image_files count) nodes

@@ -73,7 +73,7 @@ fn connection(alloc: Global, request: &Bytes) -> Result<MemoryDoor, AllocError>
     Ok(door)
 }
 
-// What the connection at hand asks. Each connection of the run asks something whole, so nothing else comes but for want of memory.
+// What the connection at hand asks. Each connection of the run asks something whole, so nothing else comes unless it runs out of memory.
 fn asked(alloc: Global, door: &mut MemoryDoor) -> Result<Request, AllocError>
     requires busy { (state door.old).busy ≡ true }
     ensures heard { IfOk result (λ request. Moves (told door.old) (told door.new) (LastBy (IsHeard (Heard.Asked request)))) }
@@ -100,7 +100,7 @@ fn count(counts: &mut Counts, reply: &Reply) -> Result<(), AllocError>
 }
 
 /// Makes one connection with these bytes: reads its request, has it handled, writes the reply, ends the connection, and counts the
-/// reply. The only error is want of memory.
+/// reply. The only error is out of memory.
 pub(crate) fn answer<D: Disk>(
     alloc: Global,
     core: &mut Core,
@@ -120,7 +120,7 @@ pub(crate) fn answer<D: Disk>(
     let mut door = connection(alloc, request)?;
     let request = asked(alloc, &mut door)?;
     let Handled::Answered(reply) = handle(alloc, core, &request, disk) else {
-        // Memory was wanting: this disk never fails.
+        // It ran out of memory: this disk never fails.
         return Err(AllocError);
     };
     say(&mut door, reply.bytes());

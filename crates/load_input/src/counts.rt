@@ -18,7 +18,7 @@ pub(crate) struct Counts {
     pub(crate) runs: u64,
 }
 
-// One more, or want of room for it.
+// One more, or no room for it.
 fn one_more(n: u64) -> Result<u64, AllocError>
     ensures { IfOk result (λ more. more ≡ n + 1) }
 {

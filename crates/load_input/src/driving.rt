@@ -67,7 +67,7 @@ fn ended(job: &JobState) -> Result<(), AllocError>
     }
 }
 
-/// Makes turns until the job is idle, and counts them. The only error is want of memory: the devices and the commands of the run
+/// Makes turns until the job is idle, and counts them. The only error is out of memory: the devices and the commands of the run
 /// fail for nothing else, and each template renders.
 pub(crate) fn drive<D: Disk>(
     alloc: Global,

@@ -22,7 +22,7 @@ fn node_of(alloc: Global, file: &LoadFile) -> Result<(Path, Node), AllocError>
     }
 }
 
-/// A disk on which nothing stands but the image for so many settings. The only error is want of memory.
+/// A disk on which there is nothing but the image for so many settings. The only error is out of memory.
 pub(crate) fn image_disk(alloc: Global, count: u32) -> Result<MemoryDisk, AllocError>
     requires some { 1 ≤ count }
     requires most { count ≤ 10000 }

@@ -42,8 +42,8 @@ fn template_file(alloc: Global, count: u32, service: u32) -> Result<LoadFile, Al
 /// The files of the image for so many settings: `image/model.toml`, then `image/templates/f0` to `image/templates/f9`.
 ///
 /// The model has one type for all settings, ten services with a file and a restart command each, and for each setting the one
-/// service that it concerns, in turn. The template of a service has a line for each setting that concerns it. The only error is
-/// want of memory. It takes time and memory in proportion to the count.
+/// service that it affects, in turn. The template of a service has a line for each setting that affects it. The only error is
+/// out of memory. It takes time and memory in proportion to the count.
 pub fn files(alloc: Global, count: u32) -> Result<Vec<LoadFile>, AllocError>
     requires some { 1 ≤ count }
     requires most { count ≤ 10000 }

@@ -64,7 +64,7 @@ fn files_in(core: &Core) -> Result<u64, AllocError>
     Ok(names.len() as u64)
 }
 
-/// The lines of what was counted, and of what the core holds. The only error is want of memory.
+/// The lines of what was counted, and of what the core holds. The only error is out of memory.
 pub(crate) fn lines(alloc: Global, counts: &Counts, core: &Core) -> Result<Bytes, AllocError>
     ensures { IfOk result (λ text. text ≡ lines_of counts.now (live_settings core.now) (files_in core.now)) }
 {

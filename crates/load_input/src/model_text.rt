@@ -64,7 +64,7 @@ fn services_text(alloc: Global) -> Result<Vec<u8>, AllocError>
     Ok(text)
 }
 
-/// The text of the model for so many settings. The only error is want of memory.
+/// The text of the model for so many settings. The only error is out of memory.
 pub(crate) fn model_text(alloc: Global, count: u32) -> Result<Vec<u8>, AllocError>
     ensures { IfOk result (λ text. text.items ≡ model_text count) }
 {

@@ -41,7 +41,7 @@ fn open<D: Disk>(alloc: Global, disk: &mut D) -> Result<Core, AllocError>
     }
 }
 
-/// Begins a store and opens it, without boot. The only error is want of memory: a disk in memory fails for nothing else, and a
+/// Begins a store and opens it, without boot. The only error is out of memory: a disk in memory fails for nothing else, and a
 /// generated image is one.
 pub(crate) fn open_first<D: Disk>(alloc: Global, disk: &mut D) -> Result<Core, AllocError>
     ensures starts { IfOk result (λ core. Moves (D.told disk.old) (D.told disk.new) (Starts core)) }

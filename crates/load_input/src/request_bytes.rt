@@ -69,7 +69,7 @@ fn apply_request(alloc: Global) -> Result<Bytes, AllocError>
     Ok(Bytes::of(text))
 }
 
-// Adds the change of a setting, and behind each hundredth the commit of its transaction.
+// Adds the change of a setting, and after each hundredth the commit of its transaction.
 #[tactic(auto, unfolding(crate::specs::Requests::changes_of))]
 fn push_changes(out: &mut Vec<Bytes>, i: u32) -> Result<(), AllocError>
     requires { i < 10000 }
@@ -96,8 +96,8 @@ fn push_commits(out: &mut Vec<Bytes>) -> Result<(), AllocError>
 
 /// The bytes of the requests for so many settings, in their order.
 ///
-/// Each setting is changed once, in the transactions `t0` to `t6` in turn; behind each hundredth its transaction is committed and
-/// what is owed is applied. At the end each transaction is committed, and what is owed is applied. The only error is want of
+/// Each setting is changed once, in the transactions `t0` to `t6` in turn; after each hundredth its transaction is committed and
+/// what is owed is applied. At the end each transaction is committed, and what is owed is applied. The only error is out of
 /// memory. It takes time and memory in proportion to the count.
 pub fn requests(alloc: Global, count: u32) -> Result<Vec<Bytes>, AllocError>
     requires some { 1 ≤ count }

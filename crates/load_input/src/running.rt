@@ -62,7 +62,7 @@ fn run(alloc: Global, count: u32) -> Result<Bytes, AllocError>
 /// configuration files the image has, how many turns wrote a file, and how many programs were run.
 ///
 /// The image and the requests are those of `load_input`. The store is begun at 1.0.0 and opened without boot, and after each
-/// request all turns of the job are made. The only error is want of memory: no call of the devices is set to fail, and each
+/// request all turns of the job are made. The only error is out of memory: no call of the devices is set to fail, and each
 /// program ends well.
 ///
 /// The disk keeps each change, so the memory is in proportion to all that was written. Each job renders all files, so with the

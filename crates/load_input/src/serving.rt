@@ -14,7 +14,7 @@ use key_names::Bytes;
 use outside::Disk;
 use std::alloc::{AllocError, Global};
 
-/// Makes a connection for each of the requests, with all turns after each, and counts. The only error is want of memory.
+/// Makes a connection for each of the requests, with all turns after each, and counts. The only error is out of memory.
 pub(crate) fn serve<D: Disk>(
     alloc: Global,
     core: &mut Core,

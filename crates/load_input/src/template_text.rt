@@ -15,7 +15,7 @@ fn push_value(out: &mut Vec<u8>, i: u32) -> Result<(), AllocError>
     out.extend_from_slice(line.as_bytes())
 }
 
-// Adds the line of a setting, if it concerns the service.
+// Adds the line of a setting, if it affects the service.
 #[tactic(auto, unfolding(crate::specs::Image::line_in))]
 fn push_if_concerned(out: &mut Vec<u8>, service: u32, i: u32) -> Result<(), AllocError>
     ensures { OnOk result (out.new.items ≡ out.old.items ++ line_in service i) }
@@ -26,7 +26,7 @@ fn push_if_concerned(out: &mut Vec<u8>, service: u32, i: u32) -> Result<(), Allo
     Ok(())
 }
 
-/// The text of the template of this service, for so many settings. The only error is want of memory.
+/// The text of the template of this service, for so many settings. The only error is out of memory.
 pub(crate) fn template_text(alloc: Global, count: u32, service: u32) -> Result<Vec<u8>, AllocError>
     ensures { IfOk result (λ text. text.items ≡ template_text count service) }
 {

@@ -50,7 +50,7 @@ cause_words (cause.Render file error) = codes "render " ++ file
 cause_words (cause.Status service number) = codes "status " ++ service ++ codes " " ++ decimal number
 cause_words cause.Memory = codes "memory"
 
--- How the job stands, in a word, and what is owed.
+-- The status of the job, in a word, and what is owed.
 abbrev pub standing : List ℕ → Owed → List (List ℕ × Data)
 standing word owed = (codes "job", string word) ∷ (codes "owed", owed_data owed) ∷ []
 
@@ -68,12 +68,13 @@ job_entries status.Running owed = standing (codes "running") owed
 
 -- What kind of refusal it is, and where.
 abbrev pub refusal_entries : Refusal → List (List ℕ × Data)
-refusal_entries (refusal.BadType key wanted) = (codes "error", string (codes "type")) ∷ (codes "key", string (printed key)) ∷ (codes "wanted", string wanted) ∷ []
+refusal_entries (refusal.BadType key wanted) = (codes "error", string (codes "type")) ∷ (codes "key", string (printed key)) ∷ (codes "wanted", string wanted)
+    ∷ []
 refusal_entries (refusal.NoKey key) = (codes "error", string (codes "key")) ∷ (codes "key", string (printed key)) ∷ []
 refusal_entries (refusal.NoName name) = (codes "error", string (codes "name")) ∷ (codes "name", string name) ∷ []
 refusal_entries (refusal.NoPending tx) = (codes "error", string (codes "no-pending")) ∷ (codes "tx", string tx) ∷ []
 
--- The text by which a client is told of it.
+-- The text that reports it to a client.
 abbrev pub refusal_text : Refusal → List ℕ
 refusal_text r = compact_text (object (members_of (refusal_entries r)))
 

@@ -32,9 +32,9 @@ pub enum Body {
     Keys(KeyList),
     /// These names of transactions.
     Names(Vec<TxName>),
-    /// How the job stands, and what is owed.
+    /// The status of the job, and what is owed.
     Job {
-        /// How it stands.
+        /// Its status.
         status: JobStatus,
         /// What is owed.
         owed: Owed,

@@ -32,7 +32,7 @@ fn write_tx_names(writer: &mut Writer, names: &[TxName]) -> Result<(), AllocErro
     writer.end_array()
 }
 
-/// A list of keys, each printed. The only error is want of memory. It takes the time of printing each.
+/// A list of keys, each printed. The only error is out of memory. It takes the time of printing each.
 pub(crate) fn keys_text(alloc: Global, keys: &KeyList) -> Result<Text, AllocError>
     ensures { IfOk result (IsTextOf (KeysOf keys.now)) }
 {
@@ -41,7 +41,7 @@ pub(crate) fn keys_text(alloc: Global, keys: &KeyList) -> Result<Text, AllocErro
     Ok(text_of(writer))
 }
 
-/// A list of the names of transactions, in their order. The only error is want of memory.
+/// A list of the names of transactions, in their order. The only error is out of memory.
 pub(crate) fn names_text(alloc: Global, names: &[TxName]) -> Result<Text, AllocError>
     ensures { IfOk result (IsTextOf (NameList names.now)) }
 {

@@ -41,7 +41,7 @@ fn write_lists(writer: &mut Writer, lists: &[(Key, Vec<Text>)]) -> Result<(), Al
     writer.end_object()
 }
 
-/// Texts by name, in their order. The only error is want of memory.
+/// Texts by name, in their order. The only error is out of memory.
 pub(crate) fn texts_text(alloc: Global, texts: &[(Text, Text)]) -> Result<Text, AllocError>
     ensures { IfOk result (IsTextOf (TextsByName texts.now)) }
 {
@@ -50,7 +50,7 @@ pub(crate) fn texts_text(alloc: Global, texts: &[(Text, Text)]) -> Result<Text, 
     Ok(text_of(writer))
 }
 
-/// Lists of names by key, each printed, in their order. The only error is want of memory. It takes the time of printing
+/// Lists of names by key, each printed, in their order. The only error is out of memory. It takes the time of printing
 /// each key.
 pub(crate) fn lists_text(alloc: Global, lists: &[(Key, Vec<Text>)]) -> Result<Text, AllocError>
     ensures { IfOk result (IsTextOf (ListsByKey (map (λ e. (e.0, e.1.items)) lists.now))) }

@@ -74,7 +74,7 @@ fn write_refusal(writer: &mut Writer, refusal: &Refusal) -> Result<(), AllocErro
     write_members(writer, refusal)
 }
 
-/// The text by which a client is told of a refusal: an object of compact JSON (RFC 8259) whose names rise. Its `error` is `type`,
+/// The text that reports a refusal to a client: an object of compact JSON (RFC 8259) whose names rise. Its `error` is `type`,
 /// `key`, `name` or `no-pending`, and the other members tell where, and for a type what is wanted. The only error is out of memory.
 pub fn refusal_text(alloc: Global, refusal: &Refusal) -> Result<Text, AllocError>
     ensures { IfOk result (λ text. text ≡ refusal_text refusal.now) }

@@ -20,7 +20,7 @@ use Rattle.version_links.specs.declared.version.Version.{Version}
 use Rattle.settings_tree.specs.declared.held.Held.{Held}
 use Rattle.settings_machine.specs.World.{Image, World, Files, is_etc}
 use Rattle.settings_machine.specs.Events.{Event, next}
-use Rattle.settings_machine.specs.Paid.{IsDuePath, Paid}
+use Rattle.settings_machine.specs.Paid.{IsDuePath}
 use Rattle.version_links.specs.declared.chain.Place.{Place}
 use Rattle.machine_disk.specs.Store.{is_image, bytes_at, HoldsIn, HasStore, Recovers, IsReadyAt}
 use Rattle.machine_disk.specs.Kept.{Folder, DiskAt}
@@ -51,12 +51,13 @@ pub record ChangeFailed (I : Image) (folder : Folder) (W V : World) (e : Event) 
   pub disk : DiskAt I folder (next I W e) W new
   pub moments : EachSince (OnTheWay I W V (e ∷ [])) old new
 
-module _ (I : Image) (folder : Folder) (W V : World) (old new : History) (disk : DiskAt I folder W V old) (place : Place) (was : Held) (ready : IsReadyAt place was old)
+module _ (I : Image) (folder : Folder) (W V : World) (old new : History) (disk : DiskAt I folder W V old) (place : Place) (was : Held)
+    (ready : IsReadyAt place was old)
     (batch : Changes) (dir_is : batch.dir ≡ place.directory) (held : Held) (after_stands : Stands (files_after batch old) held 2) where
   core : IsCores W place was
   core = cores W place was old disk.store ready
 
-  -- ---- each image since the start of the change
+  -- ---- each crash state since the start of the change
 
   apart : IsApart batch.dir
   apart = subst IsApart (sym dir_is) (dir_apart (tree_of old) place.version place.directory ready.resolves)
@@ -66,9 +67,12 @@ module _ (I : Image) (folder : Folder) (W V : World) (old new : History) (disk :
   IsOldElsewhere c = (path : Names) → (IsBelow batch.dir path → ⊥) → MayLeave old path (node_at c path)
 
   old_links : (c : Tree) → IsOldElsewhere c → SameLinks c (tree_of old)
-  old_links c elsewhere = record { same = λ name. ready.settled.at (store name) (in_store name []) (node_at c (store name)) (elsewhere (store name) (apart.link name)) }
+  old_links c elsewhere = record {
+    same = λ name. ready.settled.at (store name) (in_store name []) (node_at c (store name))
+        (elsewhere (store name) (apart.link name));
+  }
 
-  -- What the data directory of such an image stands for, its store does.
+  -- What the data directory of such a crash state represents, its store represents.
   store_of : (X : World) (c : Tree) → X.version ≡ W.version → IsOldElsewhere c → HoldsIn place.directory X.held X.format c → HasStore X c
   store_of X c version elsewhere holds = record {
     directory = place.directory;
@@ -124,12 +128,13 @@ module _ (I : Image) (folder : Folder) (W V : World) (old new : History) (disk :
           (recovers_after c elsewhere stands);
     })
 
-  -- Elsewhere each image since the start has what one at the start may have.
+  -- Elsewhere each crash state since the start has what one at the start may have.
   since_elsewhere : ChangesOnlyBelow batch.dir old new → EachSince IsOldElsewhere old new
   since_elsewhere others = since_goes IsOldElsewhere (IsAtOrSync (IsBelow batch.dir)) old new
       (λ h goes c left path not_below. may_leave_untouched (IsBelow batch.dir) old h goes path not_below (node_at c path) (left path)) others.touches
 
-  since_either : EachSince (StandsForEither batch old) old new → ChangesOnlyBelow batch.dir old new → EachSince (λ c. StandsForEither batch old c × IsOldElsewhere c) old new
+  since_either : EachSince (StandsForEither batch old) old new → ChangesOnlyBelow batch.dir old new
+      → EachSince (λ c. StandsForEither batch old c × IsOldElsewhere c) old new
   since_either either others = since_both (StandsForEither batch old) IsOldElsewhere old new either (since_elsewhere others)
 
   -- ---- the disk after the change
@@ -147,24 +152,25 @@ module _ (I : Image) (folder : Folder) (W V : World) (old new : History) (disk :
   before_left others path node e left = may_leave_untouched (IsBelow batch.dir) old new others.touches path (apart.etc path e) node left
 
   -- The change is made: the disk is at the world after the event, and the store is ready.
-  pub made : (e : Event) → IsStoreStep I W (next I W e) held old → Paid I (next I W e) → IsMade batch old new → EachSince (StandsForEither batch old) old new
+  pub made : (e : Event) → IsStoreStep I W (next I W e) held old → IsMade batch old new → EachSince (StandsForEither batch old) old new
       → ChangesOnlyBelow batch.dir old new
       → ChangeMade I folder W V e place held old new
-  made e step paid is_made either others = record {
+  made e step is_made either others = record {
     disk = record {
-      paid = paid;
       store = store_now;
       etc = record { each = λ path is. now_etc others path is ∙ sym (ap (λ (m : Files). get m path) step.etc) };
       image = now_image others;
       images = λ c left. inl (subst (HasStore (next I W e)) (sym (settled_image new is_made.settled c left)) store_now);
       same_etc = refl;
-      unsettled = λ path node is left. inl (ap file_in (is_made.settled path node left) ∙ now_etc others path is ∙ sym (ap (λ (m : Files). get m path) step.etc));
+      unsettled = λ path node is left. inl (ap file_in (is_made.settled path node left) ∙ now_etc others path is
+          ∙ sym (ap (λ (m : Files). get m path) step.etc));
     };
     ready = record {
       settled = record { at = λ path is. is_made.settled path };
       resolves = resolves_same (tree_of new) (tree_of old) (old_links (tree_of new) (now_elsewhere others)) place.version place.directory ready.resolves;
       ready = subst (λ (d : Names). IsReady d new) dir_is is_made.ready;
-      stands = subst (λ (d : Names). Stands (files_below d (tree_of new)) held 2) dir_is (subst (λ (f : JournalFiles). Stands f held 2) (sym is_made.files) after_stands);
+      stands = subst (λ (d : Names). Stands (files_below d (tree_of new)) held 2) dir_is
+          (subst (λ (f : JournalFiles). Stands f held 2) (sym is_made.files) after_stands);
     };
     moments = since_map (λ c. StandsForEither batch old c × IsOldElsewhere c) (OnTheWay I W V (e ∷ [])) old new (on_the_way (next I W e) step e refl)
         (since_either either others);
@@ -173,12 +179,11 @@ module _ (I : Image) (folder : Folder) (W V : World) (old new : History) (disk :
     store_now = held_after (next I W e) step (tree_of new) (now_elsewhere others) (inl (is_made.ready.no_journal, sym is_made.files))
 
   -- A call of the disk failed after the change was there: an image has it or has it not.
-  pub taken : (e : Event) → IsStoreStep I W (next I W e) held old → Paid I (next I W e) → TreeStandsFor batch.dir (files_after batch old) (tree_of new)
+  pub taken : (e : Event) → IsStoreStep I W (next I W e) held old → TreeStandsFor batch.dir (files_after batch old) (tree_of new)
       → EachSince (StandsForEither batch old) old new
       → ChangesOnlyBelow batch.dir old new → ChangeFailed I folder W V e old new
-  taken e step paid there either others = record {
+  taken e step there either others = record {
     disk = record {
-      paid = paid;
       store = held_after (next I W e) step (tree_of new) (now_elsewhere others) there;
       etc = record { each = λ path is. now_etc others path is ∙ sym (ap (λ (m : Files). get m path) step.etc) };
       image = now_image others;
@@ -208,11 +213,10 @@ module _ (I : Image) (folder : Folder) (W V : World) (old new : History) (disk :
   }
 
   -- A call of the disk failed before the change was begun: the store is as before, in each image.
-  pub not_taken : (e : Event) → IsStoreStep I W (next I W e) W.held old → Paid I (next I W e) → IsNotBegun batch old new → ChangesOnlyBelow batch.dir old new
+  pub not_taken : (e : Event) → IsStoreStep I W (next I W e) W.held old → IsNotBegun batch old new → ChangesOnlyBelow batch.dir old new
       → ChangeFailed I folder W V e old new
-  not_taken e step paid not_begun others = record {
+  not_taken e step not_begun others = record {
     disk = record {
-      paid = paid;
       store = as_before (next I W e) (tree_of new) step.version step.format step.held_is (held_before (tree_of new) (now_elsewhere others) not_begun.tree);
       etc = record { each = λ path is. now_etc others path is ∙ sym (ap (λ (m : Files). get m path) step.etc) };
       image = now_image others;
@@ -237,7 +241,8 @@ module _ (I : Image) (folder : Folder) (W V : World) (old new : History) (disk :
     }
 
 -- Where more is due it is so,
-pub clear_more : (I : Image) (folder : Folder) (W V N : World) (h : History) → DiskAt I folder W V h → ((path : Names) → IsDuePath I W.held path → IsDuePath I N.held path)
+pub clear_more : (I : Image) (folder : Folder) (W V N : World) (h : History) → DiskAt I folder W V h
+    → ((path : Names) → IsDuePath I W.held path → IsDuePath I N.held path)
     → (path : Names) (node : Option Node) → is_etc path ≡ true → MayLeave h path node → (file_in node ≡ get W.etc path)
     ⊎ (IsDuePath I W.held path × IsDuePath I N.held path)
 clear_more I folder W V N h disk more path node is left = ⊎_elim (λ same. inl same) (λ due. inr (due.0, more path due.0)) (disk.unsettled path node is left)

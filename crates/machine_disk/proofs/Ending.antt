@@ -14,9 +14,8 @@ use Rattle.settings_machine.specs.World.{Image, World, Work, Job, Running, is_ru
 use Rattle.settings_machine.specs.World as machine
 use Rattle.settings_machine.specs.Step.{Answer, Fine, NoRoom, OwedFault, last_turn, after_files_turn, work_turn, job_turn, turn_next}
 use Rattle.settings_machine.specs.Events.{Turned, next}
-use Rattle.settings_machine.specs.Paid.{IsGood}
-use Rattle.settings_machine.specs.Laws.{IsKept}
-use Rattle.settings_machine.proofs.PaidLaws.{files_stay_paid}
+use Rattle.settings_machine.specs.Paid.{IsFit, IsGood}
+use Rattle.settings_machine.proofs.PaidLaws.{fit_stays}
 use Rattle.machine_disk.specs.Store.{IsReadyAt}
 use Rattle.machine_disk.specs.Kept.{Folder, CoreState, Kept}
 use Rattle.machine_disk.specs.Ran.{Within, Ran}
@@ -39,8 +38,8 @@ or_true false = refl
 
 module _ (I : Image) (good : IsGood I) (folder : Folder) (W V : World) (h : History) (before : CoreState) (kept : Kept I folder W V h before)
     (calm : before.faulted ≡ false) (w : Work) (job : W.job ≡ Running w) (files : w.files ≡ []) (commands : w.commands ≡ []) where
-  kept_after : (a : Answer) → IsKept I (next I W (Turned a))
-  kept_after a = files_stay_paid I good W (record { fit = kept.fit; paid = kept.disk.paid }) (Turned a ∷ []) refl
+  fit_after : (a : Answer) → IsFit I (next I W (Turned a))
+  fit_after a = fit_stays I good W kept.fit (Turned a ∷ []) refl
 
   alike_after : (a : Answer) → IsAlike W (last_turn I W w a) → IsAlike W (next I W (Turned a))
   alike_after a = subst (IsAlike W) (sym (last_is I W w a job files commands))
@@ -48,24 +47,42 @@ module _ (I : Image) (good : IsGood I) (folder : Folder) (W V : World) (h : Hist
   job_after : (a : Answer) → (last_turn I W w a).job ≡ (next I W (Turned a)).job
   job_after a = sym (ap (λ (N : World). N.job) (last_is I W w a job files commands))
 
-  -- Memory was wanting for the change.
-  pub ran_no_room : Ran I folder W V (Turned NoRoom ∷ []) h h before (record { place = before.place; held = before.held; job = machine.Failed cause.Memory; faulted = false })
+  -- It ran out of memory for the change.
+  pub ran_no_room : Ran I folder W V (Turned NoRoom ∷ []) h h before (record {
+    place = before.place;
+    held = before.held;
+    job =
+        machine.Failed cause.Memory;
+    faulted = false;
+  })
   ran_no_room =
-      let k : IsKept I (next I W (Turned NoRoom)) = kept_after NoRoom in
-      ran_calm I folder W V h before kept (Turned NoRoom) (record { place = before.place; held = before.held; job = machine.Failed cause.Memory; faulted = false })
-      (alike_after NoRoom (record { version = refl; format = refl; held = refl; etc = refl })) k.fit k.paid (job_after NoRoom) refl refl calm refl refl
+      ran_calm I folder W V h before kept (Turned NoRoom) (record {
+        place = before.place;
+        held = before.held;
+        job = machine.Failed cause.Memory;
+        faulted =
+            false;
+      })
+      (alike_after NoRoom (record { version = refl; format = refl; held = refl; etc = refl })) (fit_after NoRoom) (job_after NoRoom) refl refl calm refl refl
 
 module _ (I : Image) (good : IsGood I) (folder : Folder) (W V : World) (old new : History) (before : CoreState) (kept : Kept I folder W V old before)
     (calm : before.faulted ≡ false) (settled : IsSettled old)
     (w : Work) (job : W.job ≡ Running w) (files : w.files ≡ []) (commands : w.commands ≡ []) (batch : Changes) (dir_is : batch.dir ≡ before.place.directory)
     (stands : Stands (files_after batch old) (record W.held { owed = owed.Keys w.since }) 2) where
-  paid_after : (a : Answer) → IsKept I (next I W (Turned a))
-  paid_after = kept_after I good folder W V old before kept calm w job files commands
+  is_fit : (a : Answer) → IsFit I (next I W (Turned a))
+  is_fit = fit_after I good folder W V old before kept calm w job files commands
 
   step : (a : Answer) (held : Held) → (last_turn I W w a).version ≡ W.version → (last_turn I W w a).format ≡ W.format → (last_turn I W w a).held ≡ held
       → (last_turn I W w a).etc ≡ W.etc → IsStoreStep I W (next I W (Turned a)) held old
   step a held version format held_is etc = subst (λ (N : World). IsStoreStep I W N held old) (sym (last_is I W w a job files commands))
-      (record { version = version; format = format; held_is = held_is; etc = etc; clear = clear_settled I folder W V (last_turn I W w a) old kept.disk settled })
+      (record {
+        version = version;
+        format = format;
+        held_is = held_is;
+        etc = etc;
+        clear =
+            clear_settled I folder W V (last_turn I W w a) old kept.disk settled;
+      })
 
   is_ready : IsReady batch.dir old
   is_ready = let r : IsReadyAt before.place before.held old = kept.core.ready calm in subst (λ (d : Names). IsReady d old) (sym dir_is) r.ready
@@ -83,15 +100,16 @@ module _ (I : Image) (good : IsGood I) (folder : Folder) (W V : World) (old new 
         faulted = false;
       })
   ran_done status commits =
-      let k : IsKept I (next I W (Turned (Fine status))) = paid_after (Fine status) in
       let m : ChangeMade I folder W V (Turned (Fine status)) before.place (record W.held { owed = owed.Keys w.since }) old new =
-      made I folder W V old new kept.disk before.place before.held (kept.core.ready calm) batch dir_is (record W.held { owed = owed.Keys w.since }) stands (Turned (Fine status))
-      (step (Fine status) (record W.held { owed = owed.Keys w.since }) refl refl refl refl) k.paid (commits.done is_ready) (commits.any_moment is_ready) commits.others in
+      made I folder W V old new kept.disk before.place before.held (kept.core.ready calm) batch dir_is (record W.held { owed = owed.Keys w.since }) stands
+      (Turned (Fine status))
+      (step (Fine status) (record W.held { owed = owed.Keys w.since }) refl refl refl refl) (commits.done is_ready) (commits.any_moment is_ready) commits.others
+      in
       record {
         other = next I W (Turned (Fine status));
         late = Within (Turned (Fine status) ∷ []) [] refl refl refl;
         kept = record {
-          fit = k.fit;
+          fit = is_fit (Fine status);
           format = last_format (Fine status) refl;
           disk = m.disk;
           core = record { job = refl; ready = λ _. m.ready; still = λ faulted. absurd (cc faulted) };
@@ -112,12 +130,11 @@ module _ (I : Image) (good : IsGood I) (folder : Folder) (W V : World) (old new 
         faulted = true;
       })
   failed_ran stored held failed =
-      let k : IsKept I (next I W (Turned (OwedFault stored))) = paid_after (OwedFault stored) in
       record {
         other = W;
         late = Within [] (Turned (OwedFault stored) ∷ []) refl refl refl;
         kept = record {
-          fit = k.fit;
+          fit = is_fit (OwedFault stored);
           format = last_format (OwedFault stored) refl;
           disk = failed.disk;
           core = record { job = refl; ready = λ calm'. absurd (cc calm'); still = λ _. stopped stored };
@@ -131,16 +148,16 @@ module _ (I : Image) (good : IsGood I) (folder : Folder) (W V : World) (old new 
       → (stored : Bool) × Ran I folder W V (Turned (OwedFault stored) ∷ []) old new before
       (record { place = before.place; held = held; job = (next I W (Turned (OwedFault stored))).job; faulted = true })
   ran_not_done fault held commits = ⊎_elim
-      (λ there. let k : IsKept I (next I W (Turned (OwedFault true))) = paid_after (OwedFault true) in (
+      (λ there. (
         true,
         failed_ran true held (taken I folder W V old new kept.disk before.place before.held (kept.core.ready calm) batch dir_is
             (record W.held { owed = owed.Keys w.since }) stands (Turned (OwedFault true))
-            (step (OwedFault true) (record W.held { owed = owed.Keys w.since }) refl refl refl refl) k.paid there (commits.any_moment is_ready) commits.others),
+            (step (OwedFault true) (record W.held { owed = owed.Keys w.since }) refl refl refl refl) there (commits.any_moment is_ready) commits.others),
       ))
-      (λ not_begun. let k : IsKept I (next I W (Turned (OwedFault false))) = paid_after (OwedFault false) in (
+      (λ not_begun. (
         false,
         failed_ran false held (not_taken I folder W V old new kept.disk before.place before.held (kept.core.ready calm) batch dir_is
             (record W.held { owed = owed.Keys w.since }) stands (Turned (OwedFault false))
-            (step (OwedFault false) W.held refl refl refl refl) k.paid not_begun commits.others),
+            (step (OwedFault false) W.held refl refl refl refl) not_begun commits.others),
       ))
       (commits.failed is_ready)

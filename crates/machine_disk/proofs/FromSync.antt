@@ -19,7 +19,8 @@ use Rattle.machine_disk.proofs.Runs.{at_start, way_now}
 abbrev pub IsThereElsewhere : Names → History → Tree → Type 0
 IsThereElsewhere directory h tree = (path : Names) → (IsBelow directory path → ⊥) → node_at tree path ≡ node_at (tree_of h) path
 
-module _ (I : Image) (folder : Folder) (W V : World) (events : List Event) (old new : History) (disk : DiskAt I folder W V old) (directory : Names) (P : Tree → Type 0)
+module _ (I : Image) (folder : Folder) (W V : World) (events : List Event) (old new : History) (disk : DiskAt I folder W V old) (directory : Names)
+    (P : Tree → Type 0)
     (on_the_way : (c : Tree) → P c × IsThereElsewhere directory old c → OnTheWay I W V events c) where
   at_first : EachSince (OnTheWay I W V events) old old
   at_first = since_start (OnTheWay I W V events) old (way_now I folder W V events old disk)

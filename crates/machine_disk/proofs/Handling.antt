@@ -14,11 +14,10 @@ use Rattle.outside.specs.declared.disk_error.Failed.{Failed}
 use Rattle.settings_machine.specs.Requests.{Request}
 use Rattle.settings_machine.specs.Step.{Answered, Faulted, failing, answered, request_next}
 use Rattle.settings_machine.specs.Events.{Asked, next, acknowledges}
-use Rattle.settings_machine.specs.Paid.{IsGood}
-use Rattle.settings_machine.specs.Laws.{IsKept}
+use Rattle.settings_machine.specs.Paid.{IsFit, IsGood}
 use Rattle.settings_machine.proofs.Answering.{Keeps, answered_keeps, request_keeps}
 use Rattle.settings_machine.proofs.Sequences.{or_false}
-use Rattle.settings_machine.proofs.PaidLaws.{files_stay_paid}
+use Rattle.settings_machine.proofs.PaidLaws.{fit_stays}
 use Rattle.machine_disk.specs.Store.{IsReadyAt}
 use Rattle.machine_disk.specs.Kept.{Folder, CoreState, Kept}
 use Rattle.machine_disk.specs.Ran.{Within, Ran}
@@ -27,11 +26,11 @@ use Rattle.machine_disk.proofs.Changed.{IsStoreStep, ChangeMade, ChangeFailed, c
 module _ (I : Image) (good : IsGood I) (folder : Folder) (W V : World) (old new : History) (before : CoreState) (kept : Kept I folder W V old before)
     (calm : before.faulted ≡ false)
     (q : Request) (batch : Changes) (dir_is : batch.dir ≡ before.place.directory) (stands : Stands (files_after batch old) (answered I W q).world.held 2) where
-  answered_kept : IsKept I (next I W (Asked q Answered))
-  answered_kept = files_stay_paid I good W (record { fit = kept.fit; paid = kept.disk.paid }) (Asked q Answered ∷ []) refl
+  answered_fit : IsFit I (next I W (Asked q Answered))
+  answered_fit = fit_stays I good W kept.fit (Asked q Answered ∷ []) refl
 
-  faulted_kept : (taken : Bool) → IsKept I (next I W (Asked q (Faulted taken)))
-  faulted_kept taken = files_stay_paid I good W (record { fit = kept.fit; paid = kept.disk.paid }) (Asked q (Faulted taken) ∷ []) refl
+  faulted_fit : (taken : Bool) → IsFit I (next I W (Asked q (Faulted taken)))
+  faulted_fit taken = fit_stays I good W kept.fit (Asked q (Faulted taken) ∷ []) refl
 
   answered_step : IsStoreStep I W (next I W (Asked q Answered)) (answered I W q).world.held old
   unfolding request_next
@@ -43,13 +42,27 @@ module _ (I : Image) (good : IsGood I) (folder : Folder) (W V : World) (old new 
   unfolding request_next
   taken_step =
       let k : Keeps I W (next I W (Asked q (Faulted true))) = request_keeps I W q (Faulted true) in
-      record { version = refl; format = refl; held_is = refl; etc = refl; clear = clear_more I folder W V (next I W (Asked q (Faulted true))) old kept.disk k.due }
+      record {
+        version = refl;
+        format = refl;
+        held_is = refl;
+        etc = refl;
+        clear =
+            clear_more I folder W V (next I W (Asked q (Faulted true))) old kept.disk k.due;
+      }
 
   untaken_step : IsStoreStep I W (next I W (Asked q (Faulted false))) W.held old
   unfolding request_next
   untaken_step =
       let k : Keeps I W (next I W (Asked q (Faulted false))) = request_keeps I W q (Faulted false) in
-      record { version = refl; format = refl; held_is = refl; etc = refl; clear = clear_more I folder W V (next I W (Asked q (Faulted false))) old kept.disk k.due }
+      record {
+        version = refl;
+        format = refl;
+        held_is = refl;
+        etc = refl;
+        clear =
+            clear_more I folder W V (next I W (Asked q (Faulted false))) old kept.disk k.due;
+      }
 
   is_ready : IsReady batch.dir old
   is_ready = let r : IsReadyAt before.place before.held old = kept.core.ready calm in subst (λ (d : Names). IsReady d old) (sym dir_is) r.ready
@@ -73,15 +86,15 @@ module _ (I : Image) (good : IsGood I) (folder : Folder) (W V : World) (old new 
   -- After Ok the request was answered.
   pub ran_answered : Commits {E = Failed} batch (Ok tt) old new → Ran I folder W V (Asked q Answered ∷ []) old new before core_answered
   ran_answered commits =
-      let k : IsKept I (next I W (Asked q Answered)) = answered_kept in
       let m : ChangeMade I folder W V (Asked q Answered) before.place (answered I W q).world.held old new =
-      made I folder W V old new kept.disk before.place before.held (kept.core.ready calm) batch dir_is (answered I W q).world.held stands (Asked q Answered) answered_step k.paid
+      made I folder W V old new kept.disk before.place before.held (kept.core.ready calm) batch dir_is (answered I W q).world.held stands (Asked q Answered)
+      answered_step
       (commits.done is_ready) (commits.any_moment is_ready) commits.others in
       record {
         other = next I W (Asked q Answered);
         late = Within (Asked q Answered ∷ []) [] refl refl refl;
         kept = record {
-          fit = k.fit;
+          fit = answered_fit;
           format = answered_step.format ∙ kept.format;
           disk = m.disk;
           core = record { job = refl; ready = λ _. m.ready; still = λ faulted. absurd (cc faulted) };
@@ -102,12 +115,11 @@ module _ (I : Image) (good : IsGood I) (folder : Folder) (W V : World) (old new 
         faulted = true;
       })
   failed_ran taken' held failed =
-      let k : IsKept I (next I W (Asked q (Faulted taken'))) = faulted_kept taken' in
       record {
         other = W;
         late = Within [] (Asked q (Faulted taken') ∷ []) refl refl (or_false _ _ (unsaid taken') refl);
         kept = record {
-          fit = k.fit;
+          fit = faulted_fit taken';
           format = faulted_format taken';
           disk = failed.disk;
           core = record { job = refl; ready = λ calm'. absurd (cc calm'); still = λ _. stopped taken' };
@@ -121,16 +133,16 @@ module _ (I : Image) (good : IsGood I) (folder : Folder) (W V : World) (old new 
       → (taken' : Bool) × Ran I folder W V (Asked q (Faulted taken') ∷ []) old new before
       (record { place = before.place; held = held; job = (next I W (Asked q (Faulted taken'))).job; faulted = true })
   ran_faulted fault held commits = ⊎_elim
-      (λ there. let k : IsKept I (next I W (Asked q (Faulted true))) = faulted_kept true in (
+      (λ there. (
         true,
-        failed_ran true held (taken I folder W V old new kept.disk before.place before.held (kept.core.ready calm) batch dir_is (answered I W q).world.held stands
-            (Asked q (Faulted true)) taken_step k.paid
-            there (commits.any_moment is_ready) commits.others),
+        failed_ran true held (taken I folder W V old new kept.disk before.place before.held (kept.core.ready calm) batch dir_is (answered I W q).world.held
+            stands
+            (Asked q (Faulted true)) taken_step there (commits.any_moment is_ready) commits.others),
       ))
-      (λ not_begun. let k : IsKept I (next I W (Asked q (Faulted false))) = faulted_kept false in (
+      (λ not_begun. (
         false,
-        failed_ran false held (not_taken I folder W V old new kept.disk before.place before.held (kept.core.ready calm) batch dir_is (answered I W q).world.held stands
-            (Asked q (Faulted false)) untaken_step k.paid
-            not_begun commits.others),
+        failed_ran false held (not_taken I folder W V old new kept.disk before.place before.held (kept.core.ready calm) batch dir_is (answered I W q).world.held
+            stands
+            (Asked q (Faulted false)) untaken_step not_begun commits.others),
       ))
       (commits.failed is_ready)

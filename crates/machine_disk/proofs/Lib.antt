@@ -1,5 +1,6 @@
 pub mod Meanings
 pub mod Runs
+pub mod Prefixes
 pub mod Settled
 pub mod Changed
 pub mod Quiet

@@ -28,7 +28,7 @@ one_store W X c here there =
     (subst (λ (f : JournalFiles). Stands f X.held X.format) (sym one_files) there.holds.stands) in
     record { version = cc; format = sym both.1; held = sym both.0 }
 
--- Where no journal is in the data directory, its files stand for what the world holds.
+-- Where no journal is in the data directory, its files represent what the world holds.
 pub stands_below : (W : World) (tree : Tree) (version : Version) (directory : Names) → HasStore W tree → Resolves tree (found version directory)
     → files_below directory tree journal ≡ None → Stands (files_below directory tree) W.held W.format
 stands_below W tree version directory has leads no_journal =

@@ -21,9 +21,8 @@ use Rattle.settings_machine.specs.Typed.{IsTypedHeld}
 use Rattle.settings_machine.specs.Opening.{opened_held}
 use Rattle.settings_machine.specs.Step.{opened}
 use Rattle.settings_machine.specs.Events.{Event, Opened, Succeeded, Failing, next}
-use Rattle.settings_machine.specs.Paid.{IsGood}
-use Rattle.settings_machine.specs.Laws.{IsKept}
-use Rattle.settings_machine.proofs.PaidLaws.{openings_pay}
+use Rattle.settings_machine.specs.Paid.{IsFit, IsGood}
+use Rattle.settings_machine.proofs.PaidLaws.{openings_fit}
 use Rattle.machine_disk.specs.Store.{is_image, bytes_at, HasStore, Recovers}
 use Rattle.machine_disk.specs.Kept.{Folder, DiskAt}
 use Rattle.machine_disk.specs.Ran.{Before, Within, OnTheWay, OpensTo, OpensNot}
@@ -77,7 +76,8 @@ module _ (I : Image) (good : IsGood I) (folder : Folder) (W V : World) (boot : B
   unfolding opened
   opened_recovers c store there = record { store = store; etc = λ path e. inl (etc_in c there path e) }
 
-  either_way : (e : Event) → next I W e ≡ opened I W boot → (c : Tree) → HasEither I W boot c × IsThereElsewhere place.directory old c → OnTheWay I W V (e ∷ []) c
+  either_way : (e : Event) → next I W e ≡ opened I W boot → (c : Tree) → HasEither I W boot c × IsThereElsewhere place.directory old c
+      → OnTheWay I W V (e ∷ []) c
   either_way e is c (inl store, there) = before_way (e ∷ []) c (store, there)
   either_way e is c (inr store, there) = inr (record {
     first = e ∷ [];
@@ -111,7 +111,6 @@ module _ (I : Image) (good : IsGood I) (folder : Folder) (W V : World) (boot : B
       other = W;
       late = Within [] (Opened boot (Failing false) ∷ []) refl refl refl;
       disk = record {
-        paid = disk.paid;
         store = store;
         etc = record { each = etc_now };
         image = image_now;
@@ -119,26 +118,26 @@ module _ (I : Image) (good : IsGood I) (folder : Folder) (W V : World) (boot : B
         same_etc = refl;
         unsettled = λ path node e left. inl (left_of changes path node e left);
       };
-      moments = from_sync I folder W V (Opened boot (Failing false) ∷ []) old new disk place.directory (HasStore W) (before_way (Opened boot (Failing false) ∷ []))
+      moments = from_sync I folder W V (Opened boot (Failing false) ∷ []) old new disk place.directory (HasStore W)
+          (before_way (Opened boot (Failing false) ∷ []))
           (touches others) images;
     }
 
   -- ---- one that was taken, of a typed world
 
   module _ (typed : IsTypedHeld I.types W.held) (idle : is_running W.job ≡ false) where
-    kept : IsKept I (opened I W boot)
-    kept = openings_pay I good W boot typed disk.paid idle
+    fit_opened : IsFit I (opened I W boot)
+    fit_opened = openings_fit I good W boot typed idle
 
-    -- The directory stands for the opened held state, a crash leaves the tree, and from the first sync on one left the store of W or that of the opened world.
+    -- The directory represents the opened held state, a crash leaves the tree, and from the first sync on one left the store of W or that of the opened world.
     pub opens_to : W.format ≡ 2 → FromSyncOn (EachSince (HasEither I W boot)) old new → Resolves (tree_of new) (found place.version place.directory)
         → Stands (files_below place.directory (tree_of new)) (opened_held I W.held boot) 2 → IsReady place.directory new → IsSettled new
         → OpensTo I folder W V boot place (opened_held I W.held boot) old new
     unfolding opened
     opens_to format either resolves stands ready settled = record {
-      fit = kept.fit;
+      fit = fit_opened;
       format = format;
       disk = record {
-        paid = kept.paid;
         store = store;
         etc = record { each = etc_now };
         image = image_now;
@@ -147,7 +146,8 @@ module _ (I : Image) (good : IsGood I) (folder : Folder) (W V : World) (boot : B
         unsettled = λ path node e left. inl (ap file_in (settled path node left) ∙ etc_now path e);
       };
       ready = record { settled = record { at = λ path is. settled path }; resolves = resolves; ready = ready; stands = stands };
-      moments = from_sync I folder W V (Opened boot Succeeded ∷ []) old new disk place.directory (HasEither I W boot) (either_way (Opened boot Succeeded) refl) (touches others) either;
+      moments = from_sync I folder W V (Opened boot Succeeded ∷ []) old new disk place.directory (HasEither I W boot) (either_way (Opened boot Succeeded) refl)
+          (touches others) either;
     } where
       store : HasStore (opened I W boot) (tree_of new)
       store = record {
@@ -176,7 +176,6 @@ module _ (I : Image) (good : IsGood I) (folder : Folder) (W V : World) (boot : B
         other = W;
         late = Within [] (Opened boot (Failing true) ∷ []) refl refl refl;
         disk = record {
-          paid = kept.paid;
           store = store;
           etc = record { each = etc_now };
           image = image_now;
@@ -184,6 +183,7 @@ module _ (I : Image) (good : IsGood I) (folder : Folder) (W V : World) (boot : B
           same_etc = refl;
           unsettled = λ path node e left. inl (left_of changes path node e left);
         };
-        moments = from_sync I folder W V (Opened boot (Failing true) ∷ []) old new disk place.directory (HasEither I W boot) (either_way (Opened boot (Failing true)) refl)
+        moments = from_sync I folder W V (Opened boot (Failing true) ∷ []) old new disk place.directory (HasEither I W boot)
+            (either_way (Opened boot (Failing true)) refl)
             (touches others) either;
       }

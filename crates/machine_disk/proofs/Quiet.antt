@@ -11,7 +11,7 @@ use Rattle.version_links.specs.declared.version.Version.{Version}
 use Rattle.settings_tree.specs.declared.held.Held.{Held}
 use Rattle.settings_machine.specs.World.{Image, World, Files, is_running}
 use Rattle.settings_machine.specs.Events.{Event, next, acknowledges, faulted_next}
-use Rattle.settings_machine.specs.Paid.{IsDuePath, Paid, IsFit}
+use Rattle.settings_machine.specs.Paid.{IsDuePath, IsFit}
 use Rattle.settings_machine.proofs.Sequences.{or_false}
 use Rattle.machine_disk.specs.Store.{HasFiles, HasStore, Recovers, IsReadyAt}
 use Rattle.machine_disk.specs.Kept.{Folder, CoreState, Kept}
@@ -33,12 +33,13 @@ alike_store W N c alike has = record {
   holds = record {
     files = has.holds.files;
     stands_for = has.holds.stands_for;
-    stands = subst (λ (h : Held). Stands has.holds.files h N.format) (sym alike.held) (subst (Stands has.holds.files W.held) (sym alike.format) has.holds.stands);
+    stands = subst (λ (h : Held). Stands has.holds.files h N.format) (sym alike.held)
+        (subst (Stands has.holds.files W.held) (sym alike.format) has.holds.stands);
   };
 }
 
 module _ (I : Image) (folder : Folder) (W V : World) (h : History) (before : CoreState) (kept : Kept I folder W V h before) (e : Event) (now : CoreState)
-    (alike : IsAlike W (next I W e)) (fit : IsFit I (next I W e)) (paid : Paid I (next I W e)) (job : now.job ≡ (next I W e).job) (place : now.place ≡ before.place)
+    (alike : IsAlike W (next I W e)) (fit : IsFit I (next I W e)) (job : now.job ≡ (next I W e).job) (place : now.place ≡ before.place)
     (held : now.held ≡ before.held) where
   due_now : (path : Names) → IsDuePath I W.held path → IsDuePath I (next I W e).held path
   due_now path due = subst (λ (x : Held). IsDuePath I x path) (sym alike.held) due
@@ -58,7 +59,6 @@ module _ (I : Image) (folder : Folder) (W V : World) (h : History) (before : Cor
       fit = fit;
       format = alike.format ∙ kept.format;
       disk = record {
-        paid = paid;
         store = alike_store W (next I W e) (tree_of h) alike kept.disk.store;
         etc = same_files;
         image = kept.disk.image;
@@ -87,7 +87,6 @@ module _ (I : Image) (folder : Folder) (W V : World) (h : History) (before : Cor
       fit = fit;
       format = alike.format ∙ kept.format;
       disk = record {
-        paid = paid;
         store = alike_store W (next I W e) (tree_of h) alike kept.disk.store;
         etc = same_files;
         image = kept.disk.image;

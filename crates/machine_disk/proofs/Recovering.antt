@@ -63,7 +63,8 @@ module _ (I : Image) (folder : Folder) (W V : World) (old new : History) (disk :
   store_of : (c : Tree) → SameLinks c (tree_of old) → TreeStandsFor place.directory files c → HasStore W c
   store_of c links is = record {
     directory = place.directory;
-    resolves = subst (λ (v : Version). Resolves c (found v place.directory)) (sym version) (resolves_same c (tree_of old) links place.version place.directory leads);
+    resolves = subst (λ (v : Version). Resolves c (found v place.directory)) (sym version)
+        (resolves_same c (tree_of old) links place.version place.directory leads);
     holds = record { files = files; stands_for = is; stands = stands };
   }
 
@@ -85,7 +86,6 @@ module _ (I : Image) (folder : Folder) (W V : World) (old new : History) (disk :
   pub recovered : Recovered I folder W V place old new
   recovered = record {
     disk = record {
-      paid = disk.paid;
       store = new_store;
       etc = record { each = new_etc };
       image = λ path e. ap file_in (recovers.others.tree path (apart.image path e)) ∙ disk.image path e;
@@ -100,6 +100,7 @@ module _ (I : Image) (folder : Folder) (W V : World) (old new : History) (disk :
       stands = subst (λ (f : JournalFiles). Stands f W.held 2) (sym done.files_are) (subst (Stands files W.held) format stands);
     };
     settled = recovers.settled;
-    moments = from_sync I folder W V [] old new disk place.directory (TreeStandsFor place.directory files) (λ c both. inr (at_start I W [] c (recovers_to c both)))
+    moments = from_sync I folder W V [] old new disk place.directory (TreeStandsFor place.directory files)
+        (λ c both. inr (at_start I W [] c (recovers_to c both)))
         recovers.sync_first (recovers.keeps files stands_for);
   }

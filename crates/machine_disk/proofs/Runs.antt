@@ -1,8 +1,6 @@
--- How calls follow each other, and what a crash leaves of a run.
+-- How calls follow each other, and what a crash leaves of them.
 use Rattle.std.proofs.Common.{◌≡◌, ◌⊎◌, inl, inr, ⊎_elim, ℕ, ◌-◌, Bool, true, false, List, [], ◌∷◌, ◌++◌, refl, sym, ◌∙◌, ap, subst}
 use Rattle.std.proofs.Common.{append_assoc}
-use Rattle.std.proofs.lemmas.Bool.{and_parts}
-use Rattle.std.proofs.lemmas.List.{append-nil}
 use Rattle.std.specs.FinMap.{get}
 use Rattle.outside.specs.Tree.{Tree, node_at}
 use Rattle.outside.specs.History.{History, EachImage}
@@ -12,18 +10,16 @@ use Rattle.settings_tree.specs.declared.held.Held.{Held}
 use Rattle.settings_machine.specs.World.{Image, World, Files, is_running}
 use Rattle.settings_machine.specs.Requests.{Request}
 use Rattle.settings_machine.specs.Step.{Unopened, request_next, turn_next, opened}
-use Rattle.settings_machine.specs.Events.{Event, Succeeded, Failing, Opened, Asked, Unread, Turned, Began, Moved, next, after, acknowledges, acknowledges_any, faulted_next}
+use Rattle.settings_machine.specs.Events.{Event, Succeeded, Failing, Opened, Asked, Unread, Turned}
+use Rattle.settings_machine.specs.Events.{Began, Moved, next, after, acknowledges, acknowledges_any, faulted_next}
 use Rattle.settings_machine.specs.Events.{faulted_after, are_served}
-use Rattle.settings_machine.specs.Paid.{Paid, IsFit, IsGood}
-use Rattle.settings_machine.specs.Laws.{IsKept}
-use Rattle.settings_machine.proofs.Sequences.{faulted-append, or_false, after-append, none_acked, served-append}
-use Rattle.settings_machine.proofs.PaidLaws.{files_stay_paid, crashes_pay}
+use Rattle.settings_machine.specs.Paid.{IsFit}
+use Rattle.settings_machine.proofs.Sequences.{faulted-append, or_false, after-append, none_acked}
 use Rattle.version_links.specs.declared.chain.Place.{Place}
 use Rattle.machine_disk.specs.Store.{Recovers, IsReadyAt}
 use Rattle.machine_disk.specs.Kept.{Folder, DiskAt, CoreState, Kept}
-use Rattle.machine_disk.specs.Laws.{IsSameStore}
-use Rattle.machine_disk.proofs.Meanings.{one_store}
-use Rattle.machine_disk.specs.Ran.{AtPrefix, AtLatePrefix, IsLate, Before, Within, OnTheWay, Ran, IsSlice, IsDriven, OpensTo, OpensNot, IsWorldOf, RunsTo, Starts}
+use Rattle.machine_disk.proofs.Settled.{settled_store}
+use Rattle.machine_disk.specs.Ran.{AtPrefix, AtLatePrefix, IsLate, Before, Within, OnTheWay, Ran, IsSlice, IsDriven, OpensTo, OpensNot}
 
 -- ---- the format, which openings leave alone
 
@@ -100,7 +96,10 @@ module _ (I : Image) where
   -- Each image recovers to W or to V,
   pub recovers_now : (folder : Folder) (W V : World) (h : History) → DiskAt I folder W V h → EachImage (λ c. Recovers I W c ⊎ Recovers I V c) h
   recovers_now folder W V h disk c left = ⊎_elim
-      (λ is. inl (record { store = is; etc = λ path below. ⊎_elim (λ same. inl same) (λ due. inr due.0) (disk.unsettled path (node_at c path) below (left path)) }))
+      (λ is. inl (record {
+        store = is;
+        etc = λ path below. ⊎_elim (λ same. inl same) (λ due. inr due.0) (disk.unsettled path (node_at c path) below (left path));
+      }))
       (λ is. inr (record {
         store = is;
         etc = λ path below. ⊎_elim (λ same. inl (same ∙ sym (ap (λ (m : Files). get m path) disk.same_etc))) (λ due. inr due.1)
@@ -111,6 +110,17 @@ module _ (I : Image) where
   -- and so is on the way.
   pub way_now : (folder : Folder) (W V : World) (es : List Event) (h : History) → DiskAt I folder W V h → EachImage (OnTheWay I W V es) h
   way_now folder W V es h disk c left = ⊎_elim (λ r. inr (at_start W es c r)) (λ r. inl r) (recovers_now folder W V h disk c left)
+
+  -- Where no call of the disk has failed since the last opening that succeeded, the disk is at the world alone.
+  pub calm_disk : (folder : Folder) (W V : World) (h : History) (core : CoreState) → core.faulted ≡ false → Kept I folder W V h core → DiskAt I folder W W h
+  calm_disk folder W V h core calm kept = record {
+    store = kept.disk.store;
+    etc = kept.disk.etc;
+    image = kept.disk.image;
+    images = λ c left. inl (settled_store W h (let r : IsReadyAt core.place core.held h = kept.core.ready calm in r.settled) kept.disk.store c left);
+    same_etc = refl;
+    unsettled = λ path node is left. ⊎_elim (λ same. inl same) (λ due. inr (due.0, due.0)) (kept.disk.unsettled path node is left);
+  }
 
   -- ---- one call after another
 
@@ -125,7 +135,8 @@ module _ (I : Image) where
   }
 
   -- One call after another.
-  pub ran_more : (folder : Folder) (W V : World) (es fs : List Event) (old mid new : History) (before between now : CoreState) (one : Ran I folder W V es old mid before between)
+  pub ran_more : (folder : Folder) (W V : World) (es fs : List Event) (old mid new : History) (before between now : CoreState)
+      (one : Ran I folder W V es old mid before between)
       → Ran I folder (after I W es) one.other fs mid new between now → Ran I folder W V (es ++ fs) old new before now
   ran_more folder W V es fs old mid new before between now one two = record {
     other = two.other;
@@ -134,7 +145,8 @@ module _ (I : Image) where
     flag = two.flag ∙ ap (λ (b : Bool). faulted_after b fs) one.flag ∙ sym (faulted-append before.faulted es fs);
     moments = since_joined (OnTheWay I W V (es ++ fs)) old mid new
         (since_map (OnTheWay I W V es) (OnTheWay I W V (es ++ fs)) old mid (λ c way. way_of_more W V es fs c way) one.moments)
-        (since_map (OnTheWay I (after I W es) one.other fs) (OnTheWay I W V (es ++ fs)) mid new (λ c way. way_after W V one.other es fs c one.late way) two.moments);
+        (since_map (OnTheWay I (after I W es) one.other fs) (OnTheWay I W V (es ++ fs)) mid new (λ c way. way_after W V one.other es fs c one.late way)
+        two.moments);
   }
 
   -- An event that changes nothing and acknowledges nothing.
@@ -184,12 +196,13 @@ module _ (I : Image) where
     moments = opens.moments;
   }
 
-  -- And so is one that failed, while a call of the disk has failed before.
-  pub unopened_ran : (folder : Folder) (W V : World) (boot : Bool) (old new : History) (before core : CoreState) (not_opened : OpensNot I folder W V boot old new)
+  -- And so is one that failed.
+  pub unopened_ran : (folder : Folder) (W V : World) (boot : Bool) (old new : History) (before core : CoreState)
+      (not_opened : OpensNot I folder W V boot old new)
       → W.format ≡ 2 → IsFit I (after I W (Opened boot (Failing not_opened.taken) ∷ []))
-      → core.job ≡ (after I W (Opened boot (Failing not_opened.taken) ∷ [])).job → core.faulted ≡ true → before.faulted ≡ true → is_running core.job ≡ false
+      → core.job ≡ (after I W (Opened boot (Failing not_opened.taken) ∷ [])).job → core.faulted ≡ true → is_running core.job ≡ false
       → Ran I folder W V (Opened boot (Failing not_opened.taken) ∷ []) old new before core
-  unopened_ran folder W V boot old new before core not_opened format fit job faulted was stopped = record {
+  unopened_ran folder W V boot old new before core not_opened format fit job faulted stopped = record {
     other = not_opened.other;
     late = not_opened.late;
     kept = record {
@@ -198,12 +211,13 @@ module _ (I : Image) where
       disk = not_opened.disk;
       core = record { job = job; ready = λ calm. absurd (cc (faulted, calm)); still = λ _. stopped };
     };
-    flag = faulted ∙ sym was;
+    flag = faulted;
     moments = not_opened.moments;
   }
 
   -- A reopening that was refused adds no opening to the events; it may have carried out a change that was cut off.
-  pub refused_ran : (folder : Folder) (W V : World) (q : Request) (at : List ℕ) (old new : History) (core : CoreState) → core.faulted ≡ true → Kept I folder W V old core
+  pub refused_ran : (folder : Folder) (W V : World) (q : Request) (at : List ℕ) (old new : History) (core : CoreState) → core.faulted ≡ true
+      → Kept I folder W V old core
       → DiskAt I folder W W new → EachSince (OnTheWay I W V []) old new → Ran I folder W V (Asked q (Unopened at) ∷ []) old new core core
   unfolding request_next
   refused_ran folder W V q at old new core faulted kept disk moments = record {
@@ -216,7 +230,8 @@ module _ (I : Image) where
       core = record { job = kept.core.job; ready = λ calm. absurd (cc (calm, faulted)); still = kept.core.still };
     };
     flag = refl;
-    moments = since_map (OnTheWay I W V []) (OnTheWay I W V (Asked q (Unopened at) ∷ [])) old new (λ t way. way_of_more W V [] (Asked q (Unopened at) ∷ []) t way) moments;
+    moments = since_map (OnTheWay I W V []) (OnTheWay I W V (Asked q (Unopened at) ∷ [])) old new
+        (λ t way. way_of_more W V [] (Asked q (Unopened at) ∷ []) t way) moments;
   }
 
   -- ---- turns
@@ -224,7 +239,7 @@ module _ (I : Image) where
   -- The events of a slice are turns.
   pub slice_served : (n : ℕ) (W : World) (es : List Event) → IsSlice I n W es → are_served es ≡ true
   slice_served n W [] slice = refl
-  slice_served n W (Turned a ∷ es) slice = slice_served (n - 1) (turn_next I W a) es slice.2
+  slice_served n W (Turned a ∷ es) slice = slice_served (n - 1) (turn_next I W a) es slice.3
   slice_served n W (Opened boot o ∷ es) slice = absurd slice
   slice_served n W (Asked q o ∷ es) slice = absurd slice
   slice_served n W (Unread ∷ es) slice = absurd slice
@@ -233,14 +248,14 @@ module _ (I : Image) where
 
   pub driven_served : (W : World) (es : List Event) → IsDriven I W es → are_served es ≡ true
   driven_served W [] driven = refl
-  driven_served W (Turned a ∷ es) driven = driven_served (turn_next I W a) es driven.1
+  driven_served W (Turned a ∷ es) driven = driven_served (turn_next I W a) es driven.2
   driven_served W (Opened boot o ∷ es) driven = absurd driven
   driven_served W (Asked q o ∷ es) driven = absurd driven
   driven_served W (Unread ∷ es) driven = absurd driven
   driven_served W (Began v ∷ es) driven = absurd driven
   driven_served W (Moved v h ∷ es) driven = absurd driven
 
-  -- ---- a whole run
+  -- ---- the end of a run
 
   pub late_at : (W X : World) (es : List Event) (c : Tree) → IsLate I W W es X → Recovers I X c → AtLatePrefix I W es c
   late_at W X es c (Before is none) r = record {
@@ -251,74 +266,3 @@ module _ (I : Image) where
     prefix = record { first = first; rest = rest; whole = whole; recovers = subst (λ (Z : World). Recovers I Z c) is r };
     unacknowledged = subst (λ (Z : World). acknowledges_any I Z rest ≡ false) is none;
   }
-
-  pub further : (W : World) (e : Event) (es : List Event) (c : Tree) → AtPrefix I (next I W e) es c → AtPrefix I W (e ∷ es) c
-  further W e es c at = record { first = e ∷ at.first; rest = at.rest; whole = ap (λ (l : List Event). e ∷ l) at.whole; recovers = at.recovers }
-
-  pub further_late : (W : World) (e : Event) (es : List Event) (c : Tree) → AtLatePrefix I (next I W e) es c → AtLatePrefix I W (e ∷ es) c
-  further_late W e es c at = record {
-    prefix = record {
-      first = e ∷ at.prefix.first;
-      rest = at.prefix.rest;
-      whole = ap (λ (l : List Event). e ∷ l) at.prefix.whole;
-      recovers = at.prefix.recovers;
-    };
-    unacknowledged = at.unacknowledged;
-  }
-
-module _ (I : Image) (good : IsGood I) where
-  -- The world of an image is paid where the world to which it recovers is.
-  pub recovers_paid : (W X : World) (c : Tree) → Recovers I W c → IsWorldOf c X → Paid I W → Paid I X
-  recovers_paid W X c r is paid = crashes_pay I good W X (let same : IsSameStore W X = one_store W X c r.store is.store in same.held) is.job
-      (λ path below. ⊎_elim (λ same. inl (sym (is.etc.each path below) ∙ same)) (λ due. inr due) (r.etc path below)) paid
-
-  -- An opening, and what came after it.
-  pub runs_to : (folder : Folder) (W : World) (boot : Bool) (es : List Event) (old mid new : History) (place : Place) (held : Held) (core now : CoreState) → Starts I W old
-      → OpensTo I folder W W boot place held old mid
-      → are_served es ≡ true → Ran I folder (opened I W boot) (opened I W boot) es mid new core now → RunsTo I W (Opened boot Succeeded ∷ es) old new
-  runs_to folder W boot es old mid new place held core now starts opens served ran = record {
-    store = ran.kept.disk.store;
-    etc = ran.kept.disk.etc;
-    paid = at_prefix;
-    any_moment = any;
-    at_exit = λ c left. ⊎_elim
-        (λ r. record {
-          prefix = record {
-            first = Opened boot Succeeded ∷ es;
-            rest = [];
-            whole = ap (λ (l : List Event). Opened boot Succeeded ∷ l) (sym (append-nil es));
-            recovers = r;
-          };
-          unacknowledged = refl;
-        })
-        (λ r. further_late I W (Opened boot Succeeded) es c (late_at I (opened I W boot) ran.other es c ran.late r))
-        (recovers_now I folder (after I (opened I W boot) es) ran.other new ran.kept.disk c left);
-    image_paid = since_map (AtPrefix I W (Opened boot Succeeded ∷ es)) (λ c. (X : World) → IsWorldOf c X → Paid I X) old new
-        (λ c at X is. recovers_paid (after I W at.first) X c at.recovers is (at_prefix at.first at.rest at.whole)) any;
-  }
-    where
-      opened_kept : IsKept I (opened I W boot)
-      opened_kept = record { fit = opens.fit; paid = opens.disk.paid }
-
-      first_served : (first rest : List Event) → es ≡ first ++ rest → are_served first ≡ true
-      first_served first rest whole = (and_parts (are_served first) (are_served rest) (sym (served-append first rest) ∙ ap are_served (sym whole) ∙ served)).0
-
-      at_prefix : (first rest : List Event) → Opened boot Succeeded ∷ es ≡ first ++ rest → Paid I (after I W first)
-      at_prefix [] rest whole = starts.paid
-      at_prefix (e ∷ first) rest whole =
-          let head : e ≡ Opened boot Succeeded = cc in
-          let tail : es ≡ first ++ rest = cc in
-          subst (λ (f : Event). Paid I (after I (next I W f) first)) (sym head) (files_stay_paid I good (opened I W boot) opened_kept first (first_served first rest tail)).paid
-
-      begun : (c : Tree) → OnTheWay I W W (Opened boot Succeeded ∷ []) c → AtPrefix I W (Opened boot Succeeded ∷ es) c
-      begun c (inl r) = at_start I W (Opened boot Succeeded ∷ es) c r
-      begun c (inr at) = prefix_of_more I W (Opened boot Succeeded ∷ []) es c at
-
-      later : (c : Tree) → OnTheWay I (opened I W boot) (opened I W boot) es c → AtPrefix I W (Opened boot Succeeded ∷ es) c
-      later c (inl r) = further I W (Opened boot Succeeded) es c (at_start I (opened I W boot) es c r)
-      later c (inr at) = further I W (Opened boot Succeeded) es c at
-
-      any : EachSince (AtPrefix I W (Opened boot Succeeded ∷ es)) old new
-      any = since_joined (AtPrefix I W (Opened boot Succeeded ∷ es)) old mid new
-          (since_map (OnTheWay I W W (Opened boot Succeeded ∷ [])) (AtPrefix I W (Opened boot Succeeded ∷ es)) old mid begun opens.moments)
-          (since_map (OnTheWay I (opened I W boot) (opened I W boot) es) (AtPrefix I W (Opened boot Succeeded ∷ es)) mid new later ran.moments)

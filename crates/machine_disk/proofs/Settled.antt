@@ -75,7 +75,8 @@ pub ready_elsewhere : (place : Place) (held : Held) (old new : History) → Agre
     → IsReadyAt place held old → IsReadyAt place held new
 ready_elsewhere place held old new agree settled r = record {
   settled = settled;
-  resolves = resolves_same (tree_of new) (tree_of old) (record { same = λ name. agree.same (store name) (in_store name []) }) place.version place.directory r.resolves;
+  resolves = resolves_same (tree_of new) (tree_of old) (record { same = λ name. agree.same (store name) (in_store name []) }) place.version place.directory
+      r.resolves;
   ready = record { no_journal = at journal ∙ r.ready.no_journal; settled = λ path. settled.at (place.directory ++ path) (in_dir path) };
   stands = subst (λ (f : Files). Stands f held 2) (sym files) r.stands;
 } where

@@ -18,7 +18,7 @@ use Rattle.settings_tree.specs.declared.held.Held.{Held}
 use Rattle.settings_machine.specs.World.{Image, World, Files, is_running, is_etc}
 use Rattle.settings_machine.specs.Step.{with_file}
 use Rattle.settings_machine.specs.Events.{Event, next, acknowledges, faulted_next}
-use Rattle.settings_machine.specs.Paid.{IsDuePath, Paid, IsFit}
+use Rattle.settings_machine.specs.Paid.{IsDuePath, IsFit}
 use Rattle.settings_machine.proofs.Sequences.{or_false}
 use Rattle.settings_machine.proofs.Lasting.{put_here, put_other}
 use Rattle.machine_disk.specs.Store.{is_store, bytes_at, HasStore, Recovers, IsReadyAt}
@@ -32,7 +32,8 @@ use Rattle.machine_disk.proofs.Settled.{settled_store, store_same, ready_elsewhe
 -- ---- a sync
 
 -- A sync that answered Ok makes no event. It leaves the world on the disk alone.
-pub ran_synced : (I : Image) (folder : Folder) (W V : World) (h : History) (core : CoreState) → Kept I folder W V h core → Ran I folder W V [] h (then synced h) core core
+pub ran_synced : (I : Image) (folder : Folder) (W V : World) (h : History) (core : CoreState) → Kept I folder W V h core
+    → Ran I folder W V [] h (then synced h) core core
 ran_synced I folder W V h core kept = record {
   other = V;
   late = Before refl refl;
@@ -40,7 +41,6 @@ ran_synced I folder W V h core kept = record {
     fit = kept.fit;
     format = kept.format;
     disk = record {
-      paid = kept.disk.paid;
       store = kept.disk.store;
       etc = kept.disk.etc;
       image = kept.disk.image;
@@ -69,17 +69,16 @@ ran_synced I folder W V h core kept = record {
 -- ---- a call that failed and changed nothing, as a sync
 
 pub ran_failed : (I : Image) (folder : Folder) (W V : World) (h : History) (before : CoreState) → Kept I folder W V h before → (e : Event) (now : CoreState)
-    → IsAlike W (next I W e) → IsFit I (next I W e) → Paid I (next I W e)
+    → IsAlike W (next I W e) → IsFit I (next I W e)
     → now.job ≡ (next I W e).job → now.faulted ≡ true → faulted_next before.faulted e ≡ true → acknowledges I W e ≡ false → is_running now.job ≡ false
     → Ran I folder W V (e ∷ []) h h before now
-ran_failed I folder W V h before kept e now alike fit paid job faulted fault unsaid stopped = record {
+ran_failed I folder W V h before kept e now alike fit job faulted fault unsaid stopped = record {
   other = V;
   late = Before refl (or_false _ _ unsaid refl);
   kept = record {
     fit = fit;
     format = alike.format ∙ kept.format;
     disk = record {
-      paid = paid;
       store = alike_store W (next I W e) (tree_of h) alike kept.disk.store;
       etc = record { each = λ path is. kept.disk.etc.each path is ∙ sym (ap (λ (m : Files). get m path) alike.etc) };
       image = kept.disk.image;
@@ -93,7 +92,8 @@ ran_failed I folder W V h before kept e now alike fit paid job faulted fault uns
     core = record { job = job; ready = λ calm. absurd (cc (faulted, calm)); still = λ _. stopped };
   };
   flag = faulted ∙ sym fault;
-  moments = since_start (OnTheWay I W V (e ∷ [])) h (λ c left. ⊎_elim (λ r. inr (at_start I W (e ∷ []) c r)) (λ r. inl r) (recovers_now I folder W V h kept.disk c left));
+  moments = since_start (OnTheWay I W V (e ∷ [])) h (λ c left. ⊎_elim (λ r. inr (at_start I W (e ∷ []) c r)) (λ r. inl r)
+      (recovers_now I folder W V h kept.disk c left));
 }
 
 -- ---- a write of a file
@@ -113,7 +113,7 @@ module _ (I : Image) (folder : Folder) (W V : World) (old : History) (before : C
     (e : Event) (path : Names) (below : is_etc path ≡ true) (due : IsDuePath I W.held path) (node : Option Node)
     (version : (next I W e).version ≡ W.version) (format : (next I W e).format ≡ W.format) (held : (next I W e).held ≡ W.held)
     (etc : (next I W e).etc ≡ with_file W.etc path (file_in node))
-    (fit : IsFit I (next I W e)) (paid : Paid I (next I W e)) where
+    (fit : IsFit I (next I W e)) where
   wrote : History
   wrote = then (scribbled path node) old
 
@@ -158,7 +158,8 @@ module _ (I : Image) (folder : Folder) (W V : World) (old : History) (before : C
 
   there : (q : Names) → eq_by_cmp path_cmp q path ≡ false → is_etc q ≡ true → bytes_at (tree_of wrote) q ≡ get (next I W e).etc q
   unfolding wrote
-  there q other is = ap file_in (node_at-set_other (tree_of old) path node q other) ∙ kept.disk.etc.each q is ∙ sym (put_other W.etc path q (file_in node) other)
+  there q other is = ap file_in (node_at-set_other (tree_of old) path node q other) ∙ kept.disk.etc.each q is
+      ∙ sym (put_other W.etc path q (file_in node) other)
       ∙ ap (λ (m : Files). get m q) (sym etc)
 
   -- At each path below `etc` a crash leaves what is there in W, or the path is due.
@@ -189,10 +190,10 @@ module _ (I : Image) (folder : Folder) (W V : World) (old : History) (before : C
       fit = fit;
       format = format ∙ kept.format;
       disk = record {
-        paid = paid;
         store = new_store;
         etc = record { each = λ q is. ⊎_elim (λ same. here q same) (λ other. there q other is) (path_cases q path) };
-        image = λ q is. ap file_in (node_at-set_other (tree_of old) path node q (apart (codes "image") (codes "etc") path q is below (λ same. cc))) ∙ kept.disk.image q is;
+        image = λ q is. ap file_in (node_at-set_other (tree_of old) path node q (apart (codes "image") (codes "etc") path q is below (λ same. cc)))
+            ∙ kept.disk.image q is;
         images = λ c left. inl (settled_store (next I W e) wrote settled new_store c left);
         same_etc = refl;
         unsettled = next_due;
@@ -201,11 +202,17 @@ module _ (I : Image) (folder : Folder) (W V : World) (old : History) (before : C
         job = job;
         still = still;
         ready = λ _. subst (λ p. IsReadyAt p now.held wrote) (sym place)
-            (subst (λ (x : Held). IsReadyAt before.place x wrote) (sym held') (ready_elsewhere before.place before.held old wrote agree settled (kept.core.ready calm)));
+            (subst (λ (x : Held). IsReadyAt before.place x wrote) (sym held')
+            (ready_elsewhere before.place before.held old wrote agree settled (kept.core.ready calm)));
       };
     };
     flag = flag ∙ sym (ap (λ b. faulted_next b e) calm);
     moments = since_next (OnTheWay I W V (e ∷ [])) old old (scribbled path node)
-        (since_start (OnTheWay I W V (e ∷ [])) old (λ c left. ⊎_elim (λ r. inr (at_start I W (e ∷ []) c r)) (λ r. inl r) (recovers_now I folder W V old kept.disk c left)))
-        (λ c left. inr (at_start I W (e ∷ []) c (record { store = settled_store W wrote settled old_store c left; etc = λ q is. still_due q (node_at c q) is (left q) })));
+        (since_start (OnTheWay I W V (e ∷ [])) old (λ c left. ⊎_elim (λ r. inr (at_start I W (e ∷ []) c r)) (λ r. inl r)
+        (recovers_now I folder W V old kept.disk c left)))
+        (λ c left. inr (at_start I W (e ∷ []) c (record {
+          store = settled_store W wrote settled old_store c left;
+          etc =
+              λ q is. still_due q (node_at c q) is (left q);
+        })));
   }

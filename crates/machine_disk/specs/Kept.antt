@@ -6,7 +6,7 @@ use Rattle.outside.specs.Tree.{Node, file_in}
 use Rattle.outside.specs.History.{History, tree_of, MayLeave, EachImage}
 use Rattle.settings_tree.specs.declared.held.Held.{Held}
 use Rattle.settings_machine.specs.World.{Image, World, Job, is_running, is_etc}
-use Rattle.settings_machine.specs.Paid.{IsDuePath, Paid, IsFit}
+use Rattle.settings_machine.specs.Paid.{IsDuePath, IsFit}
 use Rattle.version_links.specs.declared.chain.Place.{Place}
 use Rattle.machine_disk.specs.Store.{is_image, bytes_at, HasFiles, HasStore, IsReadyAt}
 
@@ -14,10 +14,9 @@ use Rattle.machine_disk.specs.Store.{is_image, bytes_at, HasFiles, HasStore, IsR
 abbrev pub Folder : Type 0
 Folder = Names → Option (List ℕ)
 
--- The disk is at W, which is paid: its store and its configuration files are W's. An image has W's store or V's, and what a
--- crash leaves at a path of a configuration file is W's, or the path is that of one that is due in both.
+-- The disk is at W: its store and its configuration files are W's. An image has W's store or V's, and what a crash leaves at a
+-- path of a configuration file is W's, or the path is that of one that is due in both. Where V is W the disk is at W alone.
 pub record DiskAt (I : Image) (folder : Folder) (W V : World) (h : History) : Type 0 where
-  pub paid : Paid I W
   pub store : HasStore W (tree_of h)
   pub etc : HasFiles W.etc (tree_of h)
   pub image : (path : Names) → is_image path ≡ true → bytes_at (tree_of h) path ≡ folder path

@@ -4,13 +4,13 @@ use Rattle.outside.specs.Tree.{Tree}
 use Rattle.outside.specs.History.{History, EachImage}
 use Rattle.version_links.specs.declared.chain.Place.{Place}
 use Rattle.settings_tree.specs.declared.held.Held.{Held}
-use Rattle.settings_machine.specs.World.{Image, World}
+use Rattle.settings_machine.specs.World.{Image, World, is_running}
 use Rattle.settings_machine.specs.Step.{opened}
 use Rattle.settings_machine.specs.Events.{Event, Opened, Succeeded, after, are_served}
 use Rattle.settings_machine.specs.Paid.{IsGood}
 use Rattle.machine_disk.specs.Store.{HasStore, Recovers}
-use Rattle.machine_disk.specs.Kept.{Folder, CoreState, Kept}
-use Rattle.machine_disk.specs.Ran.{Ran, OpensTo, RunsTo, Starts}
+use Rattle.machine_disk.specs.Kept.{Folder, DiskAt, CoreState, Kept}
+use Rattle.machine_disk.specs.Ran.{Ran, OpensTo, RunsTo}
 
 -- A call that goes on from where another ended makes one run with it.
 abbrev pub CallsFollow : Type 0
@@ -18,12 +18,19 @@ CallsFollow = (I : Image) (folder : Folder) (W V : World) (first rest : List Eve
     (one : Ran I folder W V first old mid before between) → Ran I folder (after I W first) one.other rest mid new between now
     → Ran I folder W V (first ++ rest) old new before now
 
--- An opening, and what calls made of it afterwards, is a run: the tree has the last world, each world on the way is paid, a crash
--- at any moment leaves an image that recovers to one of them, and a crash at the end leaves one after which nothing is acknowledged.
+-- An opening that meets no running job, and what calls made of it afterwards, is a run: the tree has the last world; on the way each
+-- covered file stays paid that was paid, and after a boot each is; a crash at any moment leaves an image that recovers to a world on
+-- the way; a crash at the end leaves one after which nothing is acknowledged; and where no call of the disk has failed, the disk is at
+-- the last world alone.
 abbrev pub RunsAreWhole : Type 0
 RunsAreWhole = (I : Image) → IsGood I → (folder : Folder) (W : World) (boot : Bool) (events : List Event) (old mid new : History) (place : Place) (held : Held)
-    (before now : CoreState) → Starts I W old → OpensTo I folder W W boot place held old mid → are_served events ≡ true
-    → Ran I folder (opened I W boot) (opened I W boot) events mid new before now → RunsTo I W (Opened boot Succeeded ∷ events) old new
+    (before now : CoreState) → is_running W.job ≡ false → OpensTo I folder W W boot place held old mid → before.faulted ≡ false → are_served events ≡ true
+    → Ran I folder (opened I W boot) (opened I W boot) events mid new before now → RunsTo I folder W (Opened boot Succeeded ∷ events) old new
+
+-- Where no call of the disk has failed since the last opening that succeeded, the disk is at the world alone.
+abbrev pub CalmDisksSettle : Type 0
+CalmDisksSettle = (I : Image) (folder : Folder) (W V : World) (h : History) (state : CoreState) → state.faulted ≡ false → Kept I folder W V h state
+    → DiskAt I folder W W h
 
 -- Where no call of the disk has failed since the last opening that succeeded, a crash leaves what recovers to the world.
 abbrev pub CrashesRecover : Type 0
@@ -32,7 +39,8 @@ CrashesRecover = (I : Image) (folder : Folder) (W V : World) (h : History) (stat
 
 -- Where none has, the core holds what the world holds.
 abbrev pub CoresHold : Type 0
-CoresHold = (I : Image) (folder : Folder) (W V : World) (h : History) (state : CoreState) → Kept I folder W V h state → state.faulted ≡ false → W.held ≡ state.held
+CoresHold = (I : Image) (folder : Folder) (W V : World) (h : History) (state : CoreState) → Kept I folder W V h state → state.faulted ≡ false
+    → W.held ≡ state.held
 
 -- The two worlds have the same stored parts.
 pub record IsSameStore (W X : World) : Type 0 where

@@ -1,15 +1,16 @@
 -- A call that makes these events of the machine, crash included.
 use Rattle.std.specs.Prelude.{◌≡◌, ◌⊎◌, ℕ, ◌-◌, ◌≤◌, Bool, true, false, List, [], ◌∷◌, ◌++◌, Option}
 use Rattle.outside.specs.Tree.{Tree}
-use Rattle.outside.specs.History.{History, tree_of, EachImage, IsSettled}
+use Rattle.outside.specs.History.{History, tree_of, EachImage}
 use Rattle.outside.specs.Since.{EachSince}
 use Rattle.outside.specs.Spawner.{Run}
 use Rattle.outside.specs.Told.{Moves}
 use Rattle.settings_machine.specs.World.{Image, World, is_running}
+use Rattle.settings_machine.specs.Covered.{IsCovered}
 use Rattle.settings_machine.specs.Requests.{Request, Reply}
-use Rattle.settings_machine.specs.Step.{Outcome, Answered, WithoutMemory, Unopened, Faulted, request_next, turn_next, opened}
+use Rattle.settings_machine.specs.Step.{Outcome, Answered, WithoutMemory, Unopened, Faulted, fits, request_next, turn_next, opened}
 use Rattle.settings_machine.specs.Events.{Event, Opening, Succeeded, Failing, Opened, Asked, Turned, after, acknowledges_any, faulted_after}
-use Rattle.settings_machine.specs.Paid.{Paid, IsFit}
+use Rattle.settings_machine.specs.Paid.{IsPaid, WasPaid, IsFit}
 use Rattle.version_links.specs.declared.chain.Place.{Place}
 use Rattle.machine_disk.specs.Store.{HasStore, HasFiles, Recovers, IsReadyAt}
 use Rattle.settings_tree.specs.declared.held.Held.{Held}
@@ -64,16 +65,16 @@ pub record Handled (I : Image) (faulted : Bool) (W : World) (q : Request) (reply
   pub made : events ≡ first ++ Asked q outcome ∷ []
   pub replied : reply ≡ (request_next I (after I W first) q outcome).reply
 
--- Turns until so many were made or no job runs.
+-- Turns until so many were made or no job runs, each with an answer that fits it.
 abbrev pub IsSlice : Image → ℕ → World → List Event → Type 0
 IsSlice I n W [] = (n ≡ 0) ⊎ (is_running W.job ≡ false)
-IsSlice I n W (Turned a ∷ es) = (1 ≤ n) × (is_running W.job ≡ true) × IsSlice I (n - 1) (turn_next I W a) es
+IsSlice I n W (Turned a ∷ es) = (1 ≤ n) × (is_running W.job ≡ true) × (fits W.job a ≡ true) × IsSlice I (n - 1) (turn_next I W a) es
 IsSlice I n W (_ ∷ es) = ⊥
 
--- Turns until no job runs.
+-- Turns until no job runs, each with an answer that fits it.
 abbrev pub IsDriven : Image → World → List Event → Type 0
 IsDriven I W [] = is_running W.job ≡ false
-IsDriven I W (Turned a ∷ es) = (is_running W.job ≡ true) × IsDriven I (turn_next I W a) es
+IsDriven I W (Turned a ∷ es) = (is_running W.job ≡ true) × (fits W.job a ≡ true) × IsDriven I (turn_next I W a) es
 IsDriven I W (_ ∷ es) = ⊥
 
 -- ---- openings
@@ -103,22 +104,36 @@ pub record IsWorldOf (image : Tree) (X : World) : Type 0 where
   pub etc : HasFiles X.etc image
   pub job : is_running X.job ≡ false
 
--- A run of these events, and what a crash at any moment leaves of it.
-pub record RunsTo (I : Image) (W : World) (events : List Event) (old new : History) : Type 0 where
+-- After the events each covered file is paid that was paid in W, and after a boot each is.
+abbrev pub StayPaid : Image → World → List Event → Type 0
+StayPaid I W events = (f : List ℕ) → IsCovered I f → WasPaid I W events f → IsPaid I (after I W events) f
+
+-- So it is after the first of them, whichever these are.
+abbrev pub EachPaid : Image → World → List Event → Type 0
+EachPaid I W events = (first rest : List Event) → events ≡ first ++ rest → StayPaid I W first
+
+-- A crash that leaves this image recovers to the world after the events; and in each world of the image the same files are paid.
+pub record LeavesPaid (I : Image) (W : World) (events : List Event) (image : Tree) : Type 0 where
+  pub recovers : Recovers I (after I W events) image
+  pub paid : (f : List ℕ) → IsCovered I f → WasPaid I W events f → (X : World) → IsWorldOf image X → IsPaid I X f
+
+-- So it is of the first of the events.
+pub record AtPaidPrefix (I : Image) (W : World) (events : List Event) (image : Tree) : Type 0 where
+  pub first : List Event
+  pub rest : List Event
+  pub whole : events ≡ first ++ rest
+  pub leaves : LeavesPaid I W first image
+
+-- A run of these events, what a crash at any moment leaves of it, and which files are paid. Where no call of the disk has failed in it,
+-- or none since an opening that succeeded, the disk is at the last world alone.
+pub record RunsTo (I : Image) (folder : Folder) (W : World) (events : List Event) (old new : History) : Type 0 where
   pub store : HasStore (after I W events) (tree_of new)
   pub etc : HasFiles (after I W events).etc (tree_of new)
-  pub paid : (first rest : List Event) → events ≡ first ++ rest → Paid I (after I W first)
+  pub paid : EachPaid I W events
   pub any_moment : EachSince (AtPrefix I W events) old new
   pub at_exit : EachImage (AtLatePrefix I W events) new
-  pub image_paid : EachSince (λ c. (X : World) → IsWorldOf c X → Paid I X) old new
-
--- Before an opening: the disk is settled and has W's store and files, no job runs, and W is paid for the image that is there.
-pub record Starts (I : Image) (W : World) (h : History) : Type 0 where
-  pub store : HasStore W (tree_of h)
-  pub etc : HasFiles W.etc (tree_of h)
-  pub job : is_running W.job ≡ false
-  pub paid : Paid I W
-  pub settled : IsSettled h
+  pub image_paid : EachSince (AtPaidPrefix I W events) old new
+  pub settles : faulted_after false events ≡ false → DiskAt I folder (after I W events) (after I W events) new
 
 -- The programs that were run grew by those of the events, where they were those of the world.
 abbrev pub RunsBy : Image → World → List Event → Option (List Run) → Option (List Run) → Type 0

@@ -1,4 +1,4 @@
--- What of a world stands on a disk.
+-- What of a world is on a disk.
 use Rattle.std.specs.Prelude.{◌≡◌, ◌⊎◌, ℕ, List, [], ◌∷◌, codes, Bool, true, Option}
 use Rattle.std.specs.FinMap.{get}
 use Rattle.outside.specs.Names.{Names, is_below}
@@ -30,14 +30,14 @@ bytes_at tree path = file_in (node_at tree path)
 pub record HasFiles (files : Files) (tree : Tree) : Type 0 where
   pub each : (path : Names) → is_etc path ≡ true → bytes_at tree path ≡ get files path
 
--- A data directory of the tree stands for what is held, in a format, with the journal that may be in it.
+-- A data directory of the tree represents what is held, in a format, with the journal that may be in it.
 pub record HoldsIn (directory : Names) (held : Held) (format : ℕ) (tree : Tree) : Type 0 where
   pub files : journal.Files
   pub stands_for : TreeStandsFor directory files tree
   pub stands : Stands files held format
 
 -- The store of the tree has the world's stored parts: its links lead to a data directory of the world's version, which
--- stands for what the world holds, in the world's format.
+-- represents what the world holds, in the world's format.
 pub record HasStore (W : World) (tree : Tree) : Type 0 where
   pub directory : Names
   pub resolves : Resolves tree (found W.version directory)
@@ -50,7 +50,7 @@ pub record Recovers (I : Image) (W : World) (image : Tree) : Type 0 where
   pub etc : (path : Names) → is_etc path ≡ true → (bytes_at image path ≡ get W.etc path) ⊎ IsDuePath I W.held path
 
 -- The store is ready at its place: a crash leaves its paths as they are, its links lead to the place, no journal is there,
--- and the directory stands for what is held in format 2.
+-- and the directory represents what is held in format 2.
 pub record IsReadyAt (place : Place) (held : Held) (history : History) : Type 0 where
   pub settled : IsSettledOn is_store history
   pub resolves : Resolves (tree_of history) (found place.version place.directory)

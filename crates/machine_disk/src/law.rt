@@ -1,17 +1,20 @@
 //! What holds of every run of the machine on a disk.
-ghost use Rattle.machine_disk.specs.Laws.{CallsFollow, RunsAreWhole, CrashesRecover, CoresHold, HasOneStore};
+ghost use Rattle.machine_disk.specs.Laws.{CallsFollow, RunsAreWhole, CalmDisksSettle, CrashesRecover, CoresHold, HasOneStore};
 
 /// The laws of a run on a disk. It does nothing: its clauses are what holds on every disk.
 ///
 /// A call that goes on from where another ended makes one run with it, so what holds of each call of a run holds of the
-/// whole run. After it the tree has the last world; each world on the way is paid; a crash at any moment leaves what
-/// recovers to one of them, whose files are paid; and a crash at the end leaves one after which nothing was acknowledged.
+/// whole run. After it the tree has the last world; on the way each covered file stays paid that was, and after a boot each
+/// is; a crash at any moment leaves what recovers to one of the worlds, with these files paid; and a crash at the end leaves
+/// one after which nothing was acknowledged.
 ///
-/// Where no call of the disk has failed since the last opening that succeeded, a crash leaves what recovers to the world
-/// itself, and the core holds what the world holds. A tree has the stored parts of one world.
+/// Where no call of the disk has failed since the last opening that succeeded, the disk is at the world alone, so that the
+/// next run may begin there; a crash leaves what recovers to the world itself, and the core holds what the world holds. A
+/// tree has the stored parts of one world.
 pub fn laws()
     ensures calls { CallsFollow }
     ensures runs { RunsAreWhole }
+    ensures settle { CalmDisksSettle }
     ensures crashes { CrashesRecover }
     ensures holds { CoresHold }
     ensures one { HasOneStore }

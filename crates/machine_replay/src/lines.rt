@@ -27,7 +27,7 @@ fn put(alloc: Global, disk: &mut MemoryDisk, line: &str) -> io::Result<()> {
 // No image has more.
 const MOST_FILES: u32 = 10_000;
 
-/// Reads the lines of the files, which it puts on the disk, and the version behind them.
+/// Reads the lines of the files, which it puts on the disk, and the version after them.
 pub fn read_head(rt: &HostRuntime, disk: &mut MemoryDisk) -> io::Result<Version> {
     let alloc = rt.alloc();
     for _ in 0..MOST_FILES {

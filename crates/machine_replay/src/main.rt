@@ -1,10 +1,10 @@
-//! `machine_replay`: what the machine in memory replies to requests, as a server that serves nobody else would.
+//! `machine_replay`: what the reference model replies to requests, as a server that serves nobody else would.
 //!
 //! Standard input has a line `file PATH HEX` for each file of an image, then the line `boot VERSION`, and then a line for each
 //! connection: the bytes that come on it, in hexadecimal digits. For each connection a line is printed: the bytes of the reply in such
 //! digits, none where nothing is replied.
 //!
-//! The store has begun at the version, and was opened at a boot and applied. Behind each request all turns of the job are made, and
+//! The store has begun at the version, and was opened at a boot and applied. After each request all turns of the job are made, and
 //! each program ends with 0.
 #![tactic(auto)]
 
@@ -51,7 +51,7 @@ fn booted(alloc: Global, disk: &mut MemoryDisk, version: Version) -> io::Result<
     Ok(host)
 }
 
-// The reply to the request whose bytes these hexadecimal digits are, as such digits. All turns of the job are made behind it.
+// The reply to the request whose bytes these hexadecimal digits are, as such digits. All turns of the job are made after it.
 fn reply_to(alloc: Global, host: &mut Host, digits: &str) -> io::Result<String> {
     let bytes = bytes_of(alloc, digits)?;
     let reply = host.reply_to(alloc, &bytes)?;

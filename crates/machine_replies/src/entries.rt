@@ -1,4 +1,4 @@
-//! Entries of what a store holds: keys with the JSON texts of what stands there.
+//! Entries of what a store holds: keys with the JSON texts of what is there.
 use crate::tree::Entry;
 use key_names::{Key, Text};
 use plain_machine::PlainMachine;

@@ -61,7 +61,7 @@ fn read_plain<D: Disk>(alloc: Global, disk: &mut D) -> Result<PlainImage, ImageE
     })
 }
 
-// What a patch is told.
+// The answer to a patch.
 fn patched(refusal: Option<Refusal>) -> Told {
     match refusal {
         Some(refusal) => Told::Refused(refusal),
@@ -69,7 +69,7 @@ fn patched(refusal: Option<Refusal>) -> Told {
     }
 }
 
-// What a commit of the transaction is told.
+// The answer to a commit of the transaction.
 fn committed(
     alloc: Global,
     tx: &TxName,

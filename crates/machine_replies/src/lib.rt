@@ -1,6 +1,6 @@
 //! A host in memory as a server: an image with the machine that goes by it, and what it replies to each request.
 //!
-//! It stands beside the product, for programs that try a server. Bodies that are trees are written here anew, not by the code that
+//! It is next to the product, for programs that try a server. Bodies that are trees are written here anew, not by the code that
 //! the server runs; lists, refusals and the job are printed by the server's own.
 #![tactic(auto)]
 

@@ -83,7 +83,7 @@ fn is_of(key: &Key, name: &Text) -> bool {
     key.len() > 1 && name.as_str().as_bytes() == key.segment(1)
 }
 
-// Whether an entry stands below the name.
+// Whether an entry is below the name.
 fn has_name(entries: &[Entry], name: &Text) -> bool {
     entries.iter().any(|(key, _)| is_of(key, name))
 }
@@ -92,7 +92,7 @@ fn is_named(key: &Key, names: &[Text]) -> bool {
     names.iter().any(|name| is_of(key, name))
 }
 
-// What stands below the first segment: all, or that of these names. The first of the names that isn't there is refused.
+// What is below the first segment: all, or that of these names. The first of the names that isn't there is refused.
 fn named(
     alloc: Global,
     machine: &PlainMachine,
@@ -145,13 +145,13 @@ fn affected(alloc: Global, image: &PlainImage, keys: &[Key]) -> Result<Told, All
     said(alloc, &Body::Lists(lists))
 }
 
-// How the job stands, and what is owed.
+// The status of the job, and what is owed.
 fn job(alloc: Global, machine: &PlainMachine) -> Result<Told, AllocError> {
     let status = machine.job.status()?;
     Ok(Told::Said(job_text(alloc, &status, &machine.held.owed)?))
 }
 
-/// What a request is told that changes nothing; another one is told nothing.
+/// The reply to a request that changes nothing; any other one gets `Empty`.
 pub(crate) fn read(
     alloc: Global,
     image: &PlainImage,

@@ -2,7 +2,7 @@
 use key_names::{Key, Text};
 use std::alloc::{AllocError, Global};
 
-/// A key, and the JSON text of what stands there.
+/// A key, and the JSON text of what is there.
 pub(crate) type Entry = (Key, Text);
 
 // Whether both keys have the same segment at this level.
@@ -69,7 +69,7 @@ fn push_entry(
 }
 
 /// The object of these entries, which rise and none of whose keys begins another, without so many first segments, which all keys
-/// share. The only error is want of memory.
+/// share. The only error is out of memory.
 pub(crate) fn tree_text(alloc: Global, entries: &[Entry], skip: usize) -> Result<Text, AllocError> {
     let mut out = String::from_str(alloc, "{")?;
     let mut before = None;

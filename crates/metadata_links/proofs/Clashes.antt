@@ -1,5 +1,6 @@
 -- Pairs of a list, and files whose paths rise with none below the one before it.
-use Rattle.std.proofs.Common.{arith, ◌≡◌, ◌+◌, ◌-◌, ◌<◌, ◌≤◌, ℕ, zero, suc, List, [], ◌∷◌, length, get_or, map, filter, take, cond, not, Some, None, Bool, true, false, true≢false, nat_lt, Less, Equal, Greater, Bor, refl, sym, ◌∙◌, ap, subst}
+use Rattle.std.proofs.Common.{arith, ◌≡◌, ◌+◌, ◌-◌, ◌<◌, ◌≤◌, ℕ, zero, suc, List, [], ◌∷◌, length, get_or, map, filter, take}
+use Rattle.std.proofs.Common.{cond, not, Some, None, Bool, true, false, true≢false, nat_lt, Less, Equal, Greater, Bor, refl, sym, ◌∙◌, ap, subst}
 use Rattle.std.specs.Prelude.{◌||◌, ◌&&◌}
 use Rattle.std.specs.declared.cmp.Ordering.{Ordering}
 use Rattle.std.specs.Ordering.{eq_by_cmp, is_lt, is_eq, ordering_then, ordering_reverse}
@@ -28,19 +29,23 @@ module _ {X : Type 0} (t : X → X → Bool) where
   find_paired : (x : X) (ys : List X) → find (λ (q : X × X). t q.0 q.1) (map (λ y. (x, y)) ys) ≡ option_map (λ y. (x, y)) (find (t x) ys)
   find_paired x [] = refl
   find_paired x (y ∷ ys) = by (t x y) (find_paired x ys) where
-    by : (b : Bool) → find (λ (q : X × X). t q.0 q.1) (map (λ y. (x, y)) ys) ≡ option_map (λ y. (x, y)) (find (t x) ys) → cond b (Some (x, y)) (find (λ (q : X × X). t q.0 q.1) (map (λ y. (x, y)) ys)) ≡ option_map (λ y. (x, y)) (cond b (Some y) (find (t x) ys))
+    by : (b : Bool) → find (λ (q : X × X). t q.0 q.1) (map (λ y. (x, y)) ys) ≡ option_map (λ y. (x, y)) (find (t x) ys)
+        → cond b (Some (x, y)) (find (λ (q : X × X). t q.0 q.1) (map (λ y. (x, y)) ys)) ≡ option_map (λ y. (x, y)) (cond b (Some y) (find (t x) ys))
     by true rest = refl
     by false rest = rest
 
-  first_pairs : (x : X) (ys : List X) → find (λ (q : X × X). t q.0 q.1) (pairs_of (x ∷ ys)) ≡ option_or (option_map (λ y. (x, y)) (find (t x) ys)) (find (λ (q : X × X). t q.0 q.1) (pairs_of ys))
-  first_pairs x ys = find-append (λ (q : X × X). t q.0 q.1) (map (λ y. (x, y)) ys) (pairs_of ys) ∙ ap (λ o. option_or o (find (λ (q : X × X). t q.0 q.1) (pairs_of ys))) (find_paired x ys)
+  first_pairs : (x : X) (ys : List X) → find (λ (q : X × X). t q.0 q.1) (pairs_of (x ∷ ys)) ≡ option_or (option_map (λ y. (x, y)) (find (t x) ys))
+      (find (λ (q : X × X). t q.0 q.1) (pairs_of ys))
+  first_pairs x ys = find-append (λ (q : X × X). t q.0 q.1) (map (λ y. (x, y)) ys) (pairs_of ys)
+      ∙ ap (λ o. option_or o (find (λ (q : X × X). t q.0 q.1) (pairs_of ys))) (find_paired x ys)
 
   -- The first pair begins with the first element, where this clashes with a later one.
   pub pair_here : (x y : X) (ys : List X) → find (t x) ys ≡ Some y → find (λ (q : X × X). t q.0 q.1) (pairs_of (x ∷ ys)) ≡ Some (x, y)
   pair_here x y ys is = first_pairs x ys ∙ ap (λ o. option_or (option_map (λ y. (x, y)) o) (find (λ (q : X × X). t q.0 q.1) (pairs_of ys))) is
 
   -- And else it is among the others.
-  pub pair_later : (x : X) (ys : List X) → find (t x) ys ≡ None → find (λ (q : X × X). t q.0 q.1) (pairs_of (x ∷ ys)) ≡ find (λ (q : X × X). t q.0 q.1) (pairs_of ys)
+  pub pair_later : (x : X) (ys : List X) → find (t x) ys ≡ None → find (λ (q : X × X). t q.0 q.1) (pairs_of (x ∷ ys)) ≡ find (λ (q : X × X). t q.0 q.1)
+      (pairs_of ys)
   pair_later x ys is = first_pairs x ys ∙ ap (λ o. option_or (option_map (λ y. (x, y)) o) (find (λ (q : X × X). t q.0 q.1) (pairs_of ys))) is
 
   find_none : (x : X) (ys : List X) → AllByRecursion (λ y. t x y ≡ false) ys → find (t x) ys ≡ None
@@ -57,7 +62,8 @@ module _ {X E : Type 0} (f : X → E) (p : X → Bool) where
   pub found_first : (xs : List X) (x : X) → find p xs ≡ Some x → first_of (map f (filter p xs)) ≡ Some (f x)
   found_first [] x is = absurd (cc is)
   found_first (y ∷ ys) x is = by (p y) is (found_first ys x) where
-    by : (b : Bool) → cond b (Some y) (find p ys) ≡ Some x → (find p ys ≡ Some x → first_of (map f (filter p ys)) ≡ Some (f x)) → first_of (map f (cond b (y ∷ filter p ys) (filter p ys))) ≡ Some (f x)
+    by : (b : Bool) → cond b (Some y) (find p ys) ≡ Some x → (find p ys ≡ Some x → first_of (map f (filter p ys)) ≡ Some (f x))
+        → first_of (map f (cond b (y ∷ filter p ys) (filter p ys))) ≡ Some (f x)
     by true is rest = let same : y ≡ x = cc is in ap (λ z. Some (f z)) same
     by false is rest = rest is
 
@@ -117,7 +123,8 @@ before_is (x ∷ one) (y ∷ other) is = by (name_cmp x y) refl (before_is one o
   by Less e rest = ap (λ r. before_then r (before one other)) e
   by Equal e rest =
       ap (λ r. before_then r (before one other)) e
-      ∙ rest (sym (ap (λ r. is_lt (ordering_then r (path_cmp one other)) && not (is_below one other)) e) ∙ ap (λ b. is_lt (ordering_then (name_cmp x y) (path_cmp one other)) && not b) (sym (below_more x y one other e)) ∙ is)
+      ∙ rest (sym (ap (λ r. is_lt (ordering_then r (path_cmp one other)) && not (is_below one other)) e)
+      ∙ ap (λ b. is_lt (ordering_then (name_cmp x y) (path_cmp one other)) && not b) (sym (below_more x y one other e)) ∙ is)
   by Greater e rest = absurd (true≢false (sym is ∙ ap (λ r. is_lt (ordering_then r (path_cmp one other)) && not (is_below (x ∷ one) (y ∷ other))) e))
 
 -- What the first names tell.
@@ -142,11 +149,13 @@ before_trans (x ∷ p) (y ∷ q) (z ∷ r) a b = join (before_trans p q r) (firs
   less_tells : name_cmp x z ≡ Less → before_then (name_cmp x z) (before p r) ≡ true
   less_tells e = ap (λ o. before_then o (before p r)) e
 
-  join : (before p q ≡ true → before q r ≡ true → before p r ≡ true) → First x y (before p q) → First y z (before q r) → before_then (name_cmp x z) (before p r) ≡ true
+  join : (before p q ≡ true → before q r ≡ true → before p r ≡ true) → First x y (before p q) → First y z (before q r)
+      → before_then (name_cmp x z) (before p r) ≡ true
   join again (lesser a) (lesser b) = less_tells (bytes_total.trans x y z a b)
   join again (lesser a) (same b others) = less_tells (ap (name_cmp x) (sym b) ∙ a)
   join again (same a others) (lesser b) = less_tells (ap (λ w. name_cmp w z) a ∙ b)
-  join again (same a others) (same b others') = ap (λ o. before_then o (before p r)) (ap (name_cmp x) (sym (a ∙ b)) ∙ tied_itself bytes_total x) ∙ again others others'
+  join again (same a others) (same b others') = ap (λ o. before_then o (before p r)) (ap (name_cmp x) (sym (a ∙ b)) ∙ tied_itself bytes_total x)
+      ∙ again others others'
 
 -- Paths of which one is before the other neither are one nor is one below the other.
 record Apart (p q : Names) : Type 0 where
@@ -205,7 +214,7 @@ module _ (files : List (Bor Entry)) where
   abbrev pub Rise : Type 0
   Rise = (k : ℕ) (d : Bor Entry) → k + 1 < length files → is_apart_before (get_or files k d).now.1.path (get_or files (k + 1) d).now.1.path ≡ true
 
-  -- So it is before one that stands further behind it.
+  -- So it is before one that is further on.
   far : Rise → (n i j : ℕ) (d : Bor Entry) → j ≡ i + suc n → j < length files → before (get_or files i d).now.1.path (get_or files j d).now.1.path ≡ true
   far next zero i j d is within =
       let j_is : i + 1 ≡ j = omega (arith, is) in
@@ -214,7 +223,8 @@ module _ (files : List (Bor Entry)) where
       let j_is : (i + suc n) + 1 ≡ j = omega (arith, is) in
       before_trans (get_or files i d).now.1.path (get_or files (i + suc n) d).now.1.path (get_or files j d).now.1.path
       (far next n i (i + suc n) d refl (omega (arith, is, within)))
-      (subst (λ m. before (get_or files (i + suc n) d).now.1.path (get_or files m d).now.1.path ≡ true) j_is (before_is _ _ (next (i + suc n) d (omega (arith, is, within)))))
+      (subst (λ m. before (get_or files (i + suc n) d).now.1.path (get_or files m d).now.1.path ≡ true) j_is
+      (before_is _ _ (next (i + suc n) d (omega (arith, is, within)))))
 
 some_file : (files : List (Bor Entry)) (i : ℕ) → i < length files → Bor Entry
 some_file [] i within = absurd (omega (arith, within))
@@ -230,7 +240,8 @@ distinct clash files next = IsDistinct-from_apart (clash_in clash) (map row_in f
     let e = some_file files j here in
     ap (λ x. clash_in clash x (get_or (map row_in files) j d)) (get_or-map row_in files i e d (omega (arith, before_j, here)))
     ∙ ap (clash_in clash (get_or files i e).now.1) (get_or-map row_in files j e d here)
-    ∙ clash_apart clash (get_or files i e).now.1 (get_or files j e).now.1 (before_apart _ _ (far files next (j - (i + 1)) i j e (omega (arith, before_j)) here)))
+    ∙ clash_apart clash (get_or files i e).now.1 (get_or files j e).now.1
+    (before_apart _ _ (far files next (j - (i + 1)) i j e (omega (arith, before_j)) here)))
 
 map_twice : (files : List (Bor Entry)) → map row_in files ≡ map (λ (e : Entry). e.1) (map (λ (b : Bor Entry). b.now) files)
 unfolding row_in
@@ -238,8 +249,10 @@ map_twice [] = refl
 map_twice (x ∷ files) = ap (λ (l : List FileRow). row_in x ∷ l) (map_twice files)
 
 -- No two of the files that were sorted clash.
-pub apart_sorted : (clash : Clash) (files : List Entry) (collected sorted : List (Bor Entry)) → map (λ b. b.now) collected ≡ files → IsPermutation collected sorted → Rise sorted → find (λ q. clash_in clash q.0 q.1) (pairs_of (map (λ e. e.1) files)) ≡ None
+pub apart_sorted : (clash : Clash) (files : List Entry) (collected sorted : List (Bor Entry)) → map (λ b. b.now) collected ≡ files
+    → IsPermutation collected sorted → Rise sorted → find (λ q. clash_in clash q.0 q.1) (pairs_of (map (λ e. e.1) files)) ≡ None
 apart_sorted clash files collected sorted is moved next =
     let back = IsPermutation-sym (map row_in collected) (map row_in sorted) (IsPermutation-map row_in collected sorted moved) in
-    let apart : IsDistinct (clash_in clash) (map row_in collected) = IsDistinct-IsPermutation (clash_in clash) (flips clash) (map row_in sorted) (map row_in collected) back (distinct clash sorted next) in
+    let apart : IsDistinct (clash_in clash) (map row_in collected) = IsDistinct-IsPermutation (clash_in clash) (flips clash) (map row_in sorted)
+    (map row_in collected) back (distinct clash sorted next) in
     none_distinct (clash_in clash) _ (subst (IsDistinct (clash_in clash)) (map_twice collected ∙ ap (map (λ (e : Entry). e.1)) is) apart)

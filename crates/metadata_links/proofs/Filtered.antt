@@ -27,14 +27,15 @@ module _ {K X Y : Type 0} (R : K → K → Ordering) (h : K × X → Option Y) w
       by None here rest = rest
       by (Some y) here rest = and_from _ _ here rest
 
-  -- What is kept of entries in order stands in order.
+  -- What is kept of entries in order is in order.
   pub kept_sorted : (es : List (K × X)) → is_sorted R es ≡ true → is_sorted R (filter_map (λ e. option_map (λ y. (e.0, y)) (h e)) es) ≡ true
   kept_sorted [] rises = refl
   kept_sorted (e ∷ es) rises =
       let both = and_parts (below_all R e.0 es) (is_sorted R es) rises in
       by (h e) (below_kept e.0 es both.0) (kept_sorted es both.1)
     where
-      by : (o : Option Y) → below_all R e.0 (filter_map (λ e. option_map (λ y. (e.0, y)) (h e)) es) ≡ true → is_sorted R (filter_map (λ e. option_map (λ y. (e.0, y)) (h e)) es) ≡ true
+      by : (o : Option Y) → below_all R e.0 (filter_map (λ e. option_map (λ y. (e.0, y)) (h e)) es) ≡ true
+          → is_sorted R (filter_map (λ e. option_map (λ y. (e.0, y)) (h e)) es) ≡ true
           → is_sorted R (cons_option (option_map (λ y. (e.0, y)) o) (filter_map (λ e. option_map (λ y. (e.0, y)) (h e)) es)) ≡ true
       by None here rest = rest
       by (Some y) here rest = and_from _ _ here rest
@@ -58,8 +59,9 @@ module _ {K T : Type 0} where
   faults_sound [] = refl
   faults_sound (e ∷ es) = faults_sound es
 
-  -- Behind them the first fault is that of the next.
-  pub first_fault : (es : List (K × T)) (k : K) (f : ManifestError) (rest all : List (K × Result T ManifestError)) → sound es ++ (k, Err f) ∷ rest ≡ all → first_of (faults_in all) ≡ Some f
+  -- After them the first fault is that of the next.
+  pub first_fault : (es : List (K × T)) (k : K) (f : ManifestError) (rest all : List (K × Result T ManifestError)) → sound es ++ (k, Err f) ∷ rest ≡ all
+      → first_of (faults_in all) ≡ Some f
   first_fault es k f rest all is = sym (ap (λ l. first_of (faults_in l)) is) ∙ by es where
     by : (es : List (K × T)) → first_of (faults_in (sound es ++ (k, Err f) ∷ rest)) ≡ Some f
     by [] = refl
@@ -80,16 +82,19 @@ pub walk_begun : {X E : Type 0} (F : List X → List E) (new : List E) (it es al
 walk_begun F new it es all none same whole = ap (λ l. l ++ F it) none ∙ ap F (same ∙ whole)
 
 -- The file that is read is the first at fault, where it is at fault and those before it aren't.
-pub fault_of_next : (done : List (List ℕ × FileRow)) (left rest : List (List ℕ × Fields)) (x : List ℕ × Fields) (k : List ℕ) (f : ManifestError) (all : List (List ℕ × Result FileRow ManifestError))
+pub fault_of_next : (done : List (List ℕ × FileRow)) (left rest : List (List ℕ × Fields)) (x : List ℕ × Fields) (k : List ℕ) (f : ManifestError)
+    (all : List (List ℕ × Result FileRow ManifestError))
     → left ≡ x ∷ rest → sound done ++ files_from left ≡ all → files_from (x ∷ []) ≡ (k, Err f) ∷ [] → first_of (faults_in all) ≡ Some f
 fault_of_next done left rest x k f all is whole one = first_fault done k f (files_from rest) all
-    (ap (λ l. sound done ++ l) (sym (ap files_from is ∙ filter_map_next (λ e. option_map (λ r. (e.0, r)) (file_of e.0 e.1)) x rest ∙ ap (λ l. l ++ files_from rest) one)) ∙ whole)
+    (ap (λ l. sound done ++ l) (sym (ap files_from is ∙ filter_map_next (λ e. option_map (λ r. (e.0, r)) (file_of e.0 e.1)) x rest
+    ∙ ap (λ l. l ++ files_from rest) one)) ∙ whole)
 
 -- Where any service is taken, the faults of lists are those of each by itself.
 pub faults_alone : (xs : List (List (List ℕ) × Result (List (List ℕ)) ManifestError)) → flat_map (list_faults (is_among None)) xs ≡ faults_in xs
 faults_alone [] = refl
 faults_alone ((key, Err e) ∷ xs) = ap (λ l. e ∷ l) (faults_alone xs)
-faults_alone ((key, Ok names) ∷ xs) = ap (λ (l : List (List ℕ)). map (UnknownService key) l ++ flat_map (list_faults (is_among None)) xs) (none_taken names) ∙ faults_alone xs where
-  none_taken : (names : List (List ℕ)) → filter (λ name. not (is_among None name)) names ≡ []
-  none_taken [] = refl
-  none_taken (name ∷ names) = none_taken names
+faults_alone ((key, Ok names) ∷ xs) = ap (λ (l : List (List ℕ)). map (UnknownService key) l ++ flat_map (list_faults (is_among None)) xs) (none_taken names)
+    ∙ faults_alone xs where
+      none_taken : (names : List (List ℕ)) → filter (λ name. not (is_among None name)) names ≡ []
+      none_taken [] = refl
+      none_taken (name ∷ names) = none_taken names

@@ -1,5 +1,6 @@
--- The fields of names, gathered from a walk through values, are what stands at their keys.
-use Rattle.std.proofs.Common.{arith, ◌≡◌, ◌≢◌, ℕ, List, [], ◌∷◌, cond, map, filter, fold, Option, Some, None, is_some, unwrap_or, Bool, true, false, T, refl, sym, ◌∙◌, ap, subst}
+-- The fields of names, gathered from a walk through values, are what is at their keys.
+use Rattle.std.proofs.Common.{arith, ◌≡◌, ◌≢◌, ℕ, List, [], ◌∷◌, cond, map, filter, fold, Option}
+use Rattle.std.proofs.Common.{Some, None, is_some, unwrap_or, Bool, true, false, T, refl, sym, ◌∙◌, ap, subst}
 use Rattle.std.specs.Prelude.{◌||◌, ◌&&◌}
 use Rattle.std.specs.Str.{bytes_eq}
 use Rattle.std.specs.declared.cmp.Ordering.{Ordering}
@@ -8,7 +9,9 @@ use Rattle.std.specs.Ordering.{eq_by_cmp, is_eq, is_lt}
 use Rattle.std.specs.List.{list_any, filter_map, AllByRecursion}
 use Rattle.std.specs.List.Sorted.{IsStrictlySortedBy}
 use Rattle.std.proofs.lemmas.Map.Keys.{sorted_head, sorted_tail}
-use Rattle.std.specs.FinMap.{FinMap, contains_key, remove, empty, get, find, entries, entries_sorted, from_entries, from_sorted, is_sorted, same_map, get-insert, get-remove, get-empty, get-entries, get-from_entries, get-from_sorted, entries-from_sorted, contains_key-keys}
+use Rattle.std.specs.FinMap.{FinMap, contains_key, remove, empty, get, find, entries, entries_sorted, from_entries, from_sorted}
+use Rattle.std.specs.FinMap.{is_sorted, same_map, get-insert, get-remove, get-empty}
+use Rattle.std.specs.FinMap.{get-entries, get-from_entries, get-from_sorted, entries-from_sorted, contains_key-keys}
 use Rattle.std.specs.FinMap.Entries.{below_all}
 use Rattle.std.specs.Option.{option_or}
 use Rattle.std.proofs.lemmas.Bool.{and_parts, and_from, cond-true, cond-false, false_from_ne_true}
@@ -64,9 +67,11 @@ eq_itself a b is = (bytes_eq-Decides a b).1 is
 
 -- ---- one value more
 
-module _ (first one other g : List ℕ) (P : Fields → Option Scalar) (law : (f : List ℕ) (v : Scalar) (fields : Fields) → P (with_field one other f v fields) ≡ cond (bytes_eq f g) (Some v) (P fields)) where
+module _ (first one other g : List ℕ) (P : Fields → Option Scalar) (law : (f : List ℕ) (v : Scalar) (fields : Fields)
+    → P (with_field one other f v fields) ≡ cond (bytes_eq f g) (Some v) (P fields)) where
   -- A value in a field of a name is the value there, and the others stay.
-  named_step : (m : Found) (a n' f n : List ℕ) (v : Scalar) → first ≡ a → P (fields_of (with_named one other n' f v m) n) ≡ cond (eq_by_cmp key_cmp (first ∷ n ∷ g ∷ []) (a ∷ n' ∷ f ∷ [])) (Some v) (P (fields_of m n))
+  named_step : (m : Found) (a n' f n : List ℕ) (v : Scalar) → first ≡ a → P (fields_of (with_named one other n' f v m) n) ≡ cond
+      (eq_by_cmp key_cmp (first ∷ n ∷ g ∷ []) (a ∷ n' ∷ f ∷ [])) (Some v) (P (fields_of m n))
   named_step m a n' f n v same = by (eq_by_cmp bytes_cmp n n') refl (bytes_eq f g) refl where
     y : Fields
     y = with_field one other f v (fields_of m n')
@@ -85,10 +90,12 @@ module _ (first one other g : List ℕ) (P : Fields → Option Scalar) (law : (f
         let name : n ≡ n' = same_name n n' is in
         let field : f ≡ g = (bytes_eq-Decides f g).0 told in
         let key : (first ∷ n ∷ g ∷ []) ≡ (a ∷ n' ∷ f ∷ []) = cc in
-        ap (λ o. P (unwrap_or o no_fields)) (at ∙ cond-true _ _ _ is) ∙ law f v (fields_of m n') ∙ cond-true _ _ _ told ∙ sym (cond-true _ _ _ (tied_key _ _ key))
+        ap (λ o. P (unwrap_or o no_fields)) (at ∙ cond-true _ _ _ is) ∙ law f v (fields_of m n') ∙ cond-true _ _ _ told
+        ∙ sym (cond-true _ _ _ (tied_key _ _ key))
     by true is false told =
         let name : n ≡ n' = same_name n n' is in
-        ap (λ o. P (unwrap_or o no_fields)) (at ∙ cond-true _ _ _ is) ∙ law f v (fields_of m n') ∙ cond-false _ _ _ told ∙ ap (λ z. P (fields_of m z)) (sym name)
+        ap (λ o. P (unwrap_or o no_fields)) (at ∙ cond-true _ _ _ is) ∙ law f v (fields_of m n') ∙ cond-false _ _ _ told
+        ∙ ap (λ z. P (fields_of m z)) (sym name)
         ∙ sym (cond-false _ _ _ (apart (λ key. let field : f ≡ g = cc in absurd (cc (told, eq_itself f g field)))))
     by false is c told =
         ap (λ o. P (unwrap_or o no_fields)) (at ∙ cond-false _ _ _ is ∙ cond-false _ _ _ is)
@@ -97,12 +104,16 @@ module _ (first one other g : List ℕ) (P : Fields → Option Scalar) (law : (f
   first_is : (a : List ℕ) (rest : List (List ℕ)) → is_prefix (first ∷ []) (a ∷ rest) ≡ true → first ≡ a
   first_is a rest begins = same_name first a ((and_parts (eq_by_cmp bytes_cmp first a) true begins).0)
 
-  value_step : (m : Found) (k : List (List ℕ)) (n : List ℕ) (v : Scalar) → is_prefix (first ∷ []) k ≡ true → P (fields_of (with_value one other m (k, v)) n) ≡ cond (eq_by_cmp key_cmp (first ∷ n ∷ g ∷ []) k) (Some v) (P (fields_of m n))
+  value_step : (m : Found) (k : List (List ℕ)) (n : List ℕ) (v : Scalar) → is_prefix (first ∷ []) k ≡ true
+      → P (fields_of (with_value one other m (k, v)) n) ≡ cond (eq_by_cmp key_cmp (first ∷ n ∷ g ∷ []) k) (Some v) (P (fields_of m n))
   value_step m [] n v begins = refl
-  value_step m (a ∷ []) n v begins = sym (cond-false _ _ _ (false_from_ne_true _ (λ is. let key : (first ∷ n ∷ g ∷ []) ≡ (a ∷ []) = same_key _ _ is in absurd (cc key))))
-  value_step m (a ∷ b ∷ []) n v begins = sym (cond-false _ _ _ (false_from_ne_true _ (λ is. let key : (first ∷ n ∷ g ∷ []) ≡ (a ∷ b ∷ []) = same_key _ _ is in absurd (cc key))))
+  value_step m (a ∷ []) n v begins = sym (cond-false _ _ _ (false_from_ne_true _
+      (λ is. let key : (first ∷ n ∷ g ∷ []) ≡ (a ∷ []) = same_key _ _ is in absurd (cc key))))
+  value_step m (a ∷ b ∷ []) n v begins = sym (cond-false _ _ _ (false_from_ne_true _
+      (λ is. let key : (first ∷ n ∷ g ∷ []) ≡ (a ∷ b ∷ []) = same_key _ _ is in absurd (cc key))))
   value_step m (a ∷ b ∷ c ∷ []) n v begins = named_step m a b c n v (first_is a (b ∷ c ∷ []) begins)
-  value_step m (a ∷ b ∷ c ∷ d ∷ k) n v begins = sym (cond-false _ _ _ (false_from_ne_true _ (λ is. let key : (first ∷ n ∷ g ∷ []) ≡ (a ∷ b ∷ c ∷ d ∷ k) = same_key _ _ is in absurd (cc key))))
+  value_step m (a ∷ b ∷ c ∷ d ∷ k) n v begins = sym (cond-false _ _ _ (false_from_ne_true _
+      (λ is. let key : (first ∷ n ∷ g ∷ []) ≡ (a ∷ b ∷ c ∷ d ∷ k) = same_key _ _ is in absurd (cc key))))
 
   none_above : (es : Pairs) (k : List (List ℕ)) → below_all key_cmp k es ≡ true → find key_cmp k es ≡ None
   none_above [] k below = refl
@@ -110,33 +121,39 @@ module _ (first one other g : List ℕ) (P : Fields → Option Scalar) (law : (f
       let both = and_parts (is_lt (key_cmp k e.0)) (below_all key_cmp k es) below in
       cond-false _ _ _ (ap is_eq (less (key_cmp k e.0) both.0)) ∙ none_above es k both.1
 
-  -- So after all values, each name has in the field what stands at its key.
-  all_steps : (pairs : Pairs) (m : Found) (n : List ℕ) → is_sorted key_cmp pairs ≡ true → ((q : List (List ℕ)) → list_any (λ e. eq_by_cmp key_cmp q e.0) pairs ≡ true → is_prefix (first ∷ []) q ≡ true)
+  -- So after all values, each name has in the field what is at its key.
+  all_steps : (pairs : Pairs) (m : Found) (n : List ℕ) → is_sorted key_cmp pairs ≡ true
+      → ((q : List (List ℕ)) → list_any (λ e. eq_by_cmp key_cmp q e.0) pairs ≡ true → is_prefix (first ∷ []) q ≡ true)
       → P (fields_of (fold (with_value one other) m pairs) n) ≡ option_or (find key_cmp (first ∷ n ∷ g ∷ []) pairs) (P (fields_of m n))
   all_steps [] m n rises begin = refl
-  all_steps ((k, v) ∷ pairs) m n rises begin = by (eq_by_cmp key_cmp (first ∷ n ∷ g ∷ []) k) refl (all_steps pairs (with_value one other m (k, v)) n sorted.1 (λ q has. begin q (later q has))) where
-    sorted : (below_all key_cmp k pairs ≡ true) × (is_sorted key_cmp pairs ≡ true)
-    sorted = and_parts (below_all key_cmp k pairs) (is_sorted key_cmp pairs) rises
+  all_steps ((k, v) ∷ pairs) m n rises begin = by (eq_by_cmp key_cmp (first ∷ n ∷ g ∷ []) k) refl
+      (all_steps pairs (with_value one other m (k, v)) n sorted.1 (λ q has. begin q (later q has))) where
+        sorted : (below_all key_cmp k pairs ≡ true) × (is_sorted key_cmp pairs ≡ true)
+        sorted = and_parts (below_all key_cmp k pairs) (is_sorted key_cmp pairs) rises
 
-    later : (q : List (List ℕ)) → list_any (λ e. eq_by_cmp key_cmp q e.0) pairs ≡ true → (eq_by_cmp key_cmp q k || list_any (λ e. eq_by_cmp key_cmp q e.0) pairs) ≡ true
-    later q has = or_right (eq_by_cmp key_cmp q k) _ has where
-      or_right : (a b : Bool) → b ≡ true → (a || b) ≡ true
-      or_right true b h = refl
-      or_right false b h = h
+        later : (q : List (List ℕ)) → list_any (λ e. eq_by_cmp key_cmp q e.0) pairs ≡ true
+            → (eq_by_cmp key_cmp q k || list_any (λ e. eq_by_cmp key_cmp q e.0) pairs) ≡ true
+        later q has = or_right (eq_by_cmp key_cmp q k) _ has where
+          or_right : (a b : Bool) → b ≡ true → (a || b) ≡ true
+          or_right true b h = refl
+          or_right false b h = h
 
-    step : P (fields_of (with_value one other m (k, v)) n) ≡ cond (eq_by_cmp key_cmp (first ∷ n ∷ g ∷ []) k) (Some v) (P (fields_of m n))
-    step = value_step m k n v (begin k (ap (λ b. b || list_any (λ e. eq_by_cmp key_cmp k e.0) pairs) (tied_key k k refl)))
+        step : P (fields_of (with_value one other m (k, v)) n) ≡ cond (eq_by_cmp key_cmp (first ∷ n ∷ g ∷ []) k) (Some v) (P (fields_of m n))
+        step = value_step m k n v (begin k (ap (λ b. b || list_any (λ e. eq_by_cmp key_cmp k e.0) pairs) (tied_key k k refl)))
 
-    by : (b : Bool) → eq_by_cmp key_cmp (first ∷ n ∷ g ∷ []) k ≡ b
-        → P (fields_of (fold (with_value one other) (with_value one other m (k, v)) pairs) n) ≡ option_or (find key_cmp (first ∷ n ∷ g ∷ []) pairs) (P (fields_of (with_value one other m (k, v)) n))
-        → P (fields_of (fold (with_value one other) m ((k, v) ∷ pairs)) n) ≡ option_or (find key_cmp (first ∷ n ∷ g ∷ []) ((k, v) ∷ pairs)) (P (fields_of m n))
-    by true is rest =
-        let here : (first ∷ n ∷ g ∷ []) ≡ k = same_key _ _ is in
-        rest ∙ ap (λ o. option_or o (P (fields_of (with_value one other m (k, v)) n))) (ap (λ q. find key_cmp q pairs) here ∙ none_above pairs k sorted.0) ∙ step ∙ cond-true _ _ _ is
-        ∙ sym (ap (λ o. option_or o (P (fields_of m n))) (cond-true _ (Some v) (find key_cmp (first ∷ n ∷ g ∷ []) pairs) is))
-    by false is rest =
-        rest ∙ ap (option_or (find key_cmp (first ∷ n ∷ g ∷ []) pairs)) (step ∙ cond-false _ _ _ is)
-        ∙ sym (ap (λ o. option_or o (P (fields_of m n))) (cond-false _ (Some v) (find key_cmp (first ∷ n ∷ g ∷ []) pairs) is))
+        by : (b : Bool) → eq_by_cmp key_cmp (first ∷ n ∷ g ∷ []) k ≡ b
+            → P (fields_of (fold (with_value one other) (with_value one other m (k, v)) pairs) n) ≡ option_or (find key_cmp (first ∷ n ∷ g ∷ []) pairs)
+            (P (fields_of (with_value one other m (k, v)) n))
+            → P (fields_of (fold (with_value one other) m ((k, v) ∷ pairs)) n) ≡ option_or (find key_cmp (first ∷ n ∷ g ∷ []) ((k, v) ∷ pairs))
+            (P (fields_of m n))
+        by true is rest =
+            let here : (first ∷ n ∷ g ∷ []) ≡ k = same_key _ _ is in
+            rest ∙ ap (λ o. option_or o (P (fields_of (with_value one other m (k, v)) n))) (ap (λ q. find key_cmp q pairs) here ∙ none_above pairs k sorted.0)
+            ∙ step ∙ cond-true _ _ _ is
+            ∙ sym (ap (λ o. option_or o (P (fields_of m n))) (cond-true _ (Some v) (find key_cmp (first ∷ n ∷ g ∷ []) pairs) is))
+        by false is rest =
+            rest ∙ ap (option_or (find key_cmp (first ∷ n ∷ g ∷ []) pairs)) (step ∙ cond-false _ _ _ is)
+            ∙ sym (ap (λ o. option_or o (P (fields_of m n))) (cond-false _ (Some v) (find key_cmp (first ∷ n ∷ g ∷ []) pairs) is))
 
 -- ---- the names
 
@@ -146,7 +163,8 @@ module _ (one other : List ℕ) where
   or_cond false b x o = refl
 
   named_has : (m : Found) (n' f n : List ℕ) (v : Scalar) → contains_key (with_named one other n' f v m) n ≡ (eq_by_cmp bytes_cmp n n' || contains_key m n)
-  named_has m n' f n v = ap is_some (get-insert bytes_total (remove m n') n' _ n ∙ ap (cond (eq_by_cmp bytes_cmp n n') (Some _)) (get-remove bytes_total m n' n)) ∙ or_cond (eq_by_cmp bytes_cmp n n') true _ (get m n)
+  named_has m n' f n v = ap is_some (get-insert bytes_total (remove m n') n' _ n
+      ∙ ap (cond (eq_by_cmp bytes_cmp n n') (Some _)) (get-remove bytes_total m n' n)) ∙ or_cond (eq_by_cmp bytes_cmp n n') true _ (get m n)
 
   or_swap : (a b c : Bool) → (a || (b || c)) ≡ ((b || a) || c)
   or_swap true true c = refl
@@ -155,30 +173,38 @@ module _ (one other : List ℕ) where
   or_swap false false c = refl
 
   -- A name is there where a key of three segments has it, or it was there.
-  all_names : (pairs : Pairs) (m : Found) (n : List ℕ) → contains_key (fold (with_value one other) m pairs) n ≡ (list_any (eq_by_cmp bytes_cmp n) (filter_map (λ e. name_in e.0) pairs) || contains_key m n)
+  all_names : (pairs : Pairs) (m : Found) (n : List ℕ) → contains_key (fold (with_value one other) m pairs) n ≡
+      (list_any (eq_by_cmp bytes_cmp n) (filter_map (λ e. name_in e.0) pairs) || contains_key m n)
   all_names [] m n = refl
   all_names (([], v) ∷ pairs) m n = all_names pairs m n
   all_names ((a ∷ [], v) ∷ pairs) m n = all_names pairs m n
   all_names ((a ∷ b ∷ [], v) ∷ pairs) m n = all_names pairs m n
-  all_names ((a ∷ b ∷ c ∷ [], v) ∷ pairs) m n = all_names pairs (with_named one other b c v m) n ∙ ap (λ x. list_any (eq_by_cmp bytes_cmp n) (filter_map (λ e. name_in e.0) pairs) || x) (named_has m b c n v) ∙ or_swap (list_any (eq_by_cmp bytes_cmp n) (filter_map (λ e. name_in e.0) pairs)) (eq_by_cmp bytes_cmp n b) (contains_key m n)
+  all_names ((a ∷ b ∷ c ∷ [], v) ∷ pairs) m n = all_names pairs (with_named one other b c v m) n
+      ∙ ap (λ x. list_any (eq_by_cmp bytes_cmp n) (filter_map (λ e. name_in e.0) pairs) || x) (named_has m b c n v)
+      ∙ or_swap (list_any (eq_by_cmp bytes_cmp n) (filter_map (λ e. name_in e.0) pairs)) (eq_by_cmp bytes_cmp n b) (contains_key m n)
   all_names ((a ∷ b ∷ c ∷ d ∷ k, v) ∷ pairs) m n = all_names pairs m n
 
 -- ---- the entries
 
 module _ {X : Type 0} (F : List ℕ → X) where
-  below_made : (k : List ℕ) {Y : Type 0} (es : List (List ℕ × Y)) → below_all bytes_cmp k es ≡ true → below_all bytes_cmp k (map (λ n. (n, F n)) (map (λ e. e.0) es)) ≡ true
+  below_made : (k : List ℕ) {Y : Type 0} (es : List (List ℕ × Y)) → below_all bytes_cmp k es ≡ true
+      → below_all bytes_cmp k (map (λ n. (n, F n)) (map (λ e. e.0) es)) ≡ true
   below_made k [] below = refl
   below_made k (e ∷ es) below = let both = and_parts (is_lt (bytes_cmp k e.0)) (below_all bytes_cmp k es) below in and_from _ _ both.0 (below_made k es both.1)
 
   sorted_made : {Y : Type 0} (es : List (List ℕ × Y)) → is_sorted bytes_cmp es ≡ true → is_sorted bytes_cmp (map (λ n. (n, F n)) (map (λ e. e.0) es)) ≡ true
   sorted_made [] rises = refl
-  sorted_made (e ∷ es) rises = let both = and_parts (below_all bytes_cmp e.0 es) (is_sorted bytes_cmp es) rises in and_from _ _ (below_made e.0 es both.0) (sorted_made es both.1)
+  sorted_made (e ∷ es) rises = let both = and_parts (below_all bytes_cmp e.0 es) (is_sorted bytes_cmp es) rises in
+      and_from _ _ (below_made e.0 es both.0) (sorted_made es both.1)
 
-  find_made : (q : List ℕ) (names : List (List ℕ)) → find bytes_cmp q (map (λ n. (n, F n)) names) ≡ cond (list_any (eq_by_cmp bytes_cmp q) names) (Some (F q)) None
+  find_made : (q : List ℕ) (names : List (List ℕ)) → find bytes_cmp q (map (λ n. (n, F n)) names) ≡ cond (list_any (eq_by_cmp bytes_cmp q) names) (Some (F q))
+      None
   find_made q [] = refl
   find_made q (n ∷ names) = by (eq_by_cmp bytes_cmp q n) refl (find_made q names) where
-    by : (b : Bool) → eq_by_cmp bytes_cmp q n ≡ b → find bytes_cmp q (map (λ n. (n, F n)) names) ≡ cond (list_any (eq_by_cmp bytes_cmp q) names) (Some (F q)) None → find bytes_cmp q (map (λ n. (n, F n)) (n ∷ names)) ≡ cond (list_any (eq_by_cmp bytes_cmp q) (n ∷ names)) (Some (F q)) None
-    by true is rest = cond-true _ _ _ is ∙ ap (λ z. Some (F z)) (sym (same_name q n is)) ∙ sym (cond-true _ _ _ (ap (λ b. b || list_any (eq_by_cmp bytes_cmp q) names) is))
+    by : (b : Bool) → eq_by_cmp bytes_cmp q n ≡ b → find bytes_cmp q (map (λ n. (n, F n)) names) ≡ cond (list_any (eq_by_cmp bytes_cmp q) names) (Some (F q))
+        None → find bytes_cmp q (map (λ n. (n, F n)) (n ∷ names)) ≡ cond (list_any (eq_by_cmp bytes_cmp q) (n ∷ names)) (Some (F q)) None
+    by true is rest = cond-true _ _ _ is ∙ ap (λ z. Some (F z)) (sym (same_name q n is))
+        ∙ sym (cond-true _ _ _ (ap (λ b. b || list_any (eq_by_cmp bytes_cmp q) names) is))
     by false is rest = cond-false _ _ _ is ∙ rest ∙ ap (λ b. cond b (Some (F q)) None) (sym (ap (λ b. b || list_any (eq_by_cmp bytes_cmp q) names) is))
 
 given : (o : Option Fields) (b : Bool) (x : Fields) → is_some o ≡ b → unwrap_or o no_fields ≡ x → o ≡ cond b (Some x) None
@@ -198,7 +224,8 @@ module _ (values : FinMap key_cmp Scalar) (first one other : List ℕ) (differ :
       let both = and_parts (is_lt (key_cmp k e.0)) (below_all key_cmp k es) below in
       by (p e.0) both.0 (below_some p k es both.1)
     where
-      by : (b : Bool) → is_lt (key_cmp k e.0) ≡ true → below_all key_cmp k (filter (λ e. p e.0) es) ≡ true → below_all key_cmp k (cond b (e ∷ filter (λ e. p e.0) es) (filter (λ e. p e.0) es)) ≡ true
+      by : (b : Bool) → is_lt (key_cmp k e.0) ≡ true → below_all key_cmp k (filter (λ e. p e.0) es) ≡ true
+          → below_all key_cmp k (cond b (e ∷ filter (λ e. p e.0) es) (filter (λ e. p e.0) es)) ≡ true
       by true here rest = and_from _ _ here rest
       by false here rest = rest
 
@@ -208,7 +235,8 @@ module _ (values : FinMap key_cmp Scalar) (first one other : List ℕ) (differ :
       let both = and_parts (below_all key_cmp e.0 es) (is_sorted key_cmp es) rises in
       by (p e.0) (below_some p e.0 es both.0) (sorted_some p es both.1)
     where
-      by : (b : Bool) → below_all key_cmp e.0 (filter (λ e. p e.0) es) ≡ true → is_sorted key_cmp (filter (λ e. p e.0) es) ≡ true → is_sorted key_cmp (cond b (e ∷ filter (λ e. p e.0) es) (filter (λ e. p e.0) es)) ≡ true
+      by : (b : Bool) → below_all key_cmp e.0 (filter (λ e. p e.0) es) ≡ true → is_sorted key_cmp (filter (λ e. p e.0) es) ≡ true
+          → is_sorted key_cmp (cond b (e ∷ filter (λ e. p e.0) es) (filter (λ e. p e.0) es)) ≡ true
       by true here rest = and_from _ _ here rest
       by false here rest = rest
 
@@ -219,18 +247,21 @@ module _ (values : FinMap key_cmp Scalar) (first one other : List ℕ) (differ :
   passes : (p : List (List ℕ) → Bool) (es : Pairs) (q : List (List ℕ)) → list_any (λ e. eq_by_cmp key_cmp q e.0) (filter (λ e. p e.0) es) ≡ true → p q ≡ true
   passes p [] q has = absurd (cc has)
   passes p (e ∷ es) q has = by (p e.0) refl (λ later. passes p es q later) has where
-    either : (c : Bool) → eq_by_cmp key_cmp q e.0 ≡ c → p e.0 ≡ true → (list_any (λ e. eq_by_cmp key_cmp q e.0) (filter (λ e. p e.0) es) ≡ true → p q ≡ true) → (c || list_any (λ e. eq_by_cmp key_cmp q e.0) (filter (λ e. p e.0) es)) ≡ true → p q ≡ true
+    either : (c : Bool) → eq_by_cmp key_cmp q e.0 ≡ c → p e.0 ≡ true → (list_any (λ e. eq_by_cmp key_cmp q e.0) (filter (λ e. p e.0) es) ≡ true → p q ≡ true)
+        → (c || list_any (λ e. eq_by_cmp key_cmp q e.0) (filter (λ e. p e.0) es)) ≡ true → p q ≡ true
     either true tie is rest has = ap p (same_key q e.0 tie) ∙ is
     either false tie is rest has = rest has
 
-    by : (b : Bool) → p e.0 ≡ b → (list_any (λ e. eq_by_cmp key_cmp q e.0) (filter (λ e. p e.0) es) ≡ true → p q ≡ true) → list_any (λ e. eq_by_cmp key_cmp q e.0) (cond b (e ∷ filter (λ e. p e.0) es) (filter (λ e. p e.0) es)) ≡ true → p q ≡ true
+    by : (b : Bool) → p e.0 ≡ b → (list_any (λ e. eq_by_cmp key_cmp q e.0) (filter (λ e. p e.0) es) ≡ true → p q ≡ true)
+        → list_any (λ e. eq_by_cmp key_cmp q e.0) (cond b (e ∷ filter (λ e. p e.0) es) (filter (λ e. p e.0) es)) ≡ true → p q ≡ true
     by false is rest has = rest has
     by true is rest has = either (eq_by_cmp key_cmp q e.0) refl is rest has
 
   find_some : (p : List (List ℕ) → Bool) (es : Pairs) (q : List (List ℕ)) → p q ≡ true → find key_cmp q (filter (λ e. p e.0) es) ≡ find key_cmp q es
   find_some p [] q passed = refl
   find_some p (e ∷ es) q passed = by (p e.0) refl (eq_by_cmp key_cmp q e.0) refl (find_some p es q passed) where
-    by : (b : Bool) → p e.0 ≡ b → (c : Bool) → eq_by_cmp key_cmp q e.0 ≡ c → find key_cmp q (filter (λ e. p e.0) es) ≡ find key_cmp q es → find key_cmp q (cond (p e.0) (e ∷ filter (λ e. p e.0) es) (filter (λ e. p e.0) es)) ≡ cond (eq_by_cmp key_cmp q e.0) (Some e.1) (find key_cmp q es)
+    by : (b : Bool) → p e.0 ≡ b → (c : Bool) → eq_by_cmp key_cmp q e.0 ≡ c → find key_cmp q (filter (λ e. p e.0) es) ≡ find key_cmp q es
+        → find key_cmp q (cond (p e.0) (e ∷ filter (λ e. p e.0) es) (filter (λ e. p e.0) es)) ≡ cond (eq_by_cmp key_cmp q e.0) (Some e.1) (find key_cmp q es)
     by true is c tie rest = ap (find key_cmp q) (cond-true _ _ _ is) ∙ ap (cond (eq_by_cmp key_cmp q e.0) (Some e.1)) rest
     by false is true tie rest = absurd (cc (is, ap p (sym (same_key q e.0 tie)) ∙ passed))
     by false is false tie rest = ap (find key_cmp q) (cond-false _ _ _ is) ∙ rest ∙ sym (cond-false _ _ _ tie)
@@ -239,12 +270,14 @@ module _ (values : FinMap key_cmp Scalar) (first one other : List ℕ) (differ :
   or_none None = refl
   or_none (Some x) = refl
 
-  -- What a field has is what stands at its key.
-  field_is : (g : List ℕ) (P : Fields → Option Scalar) → ((f : List ℕ) (v : Scalar) (fields : Fields) → P (with_field one other f v fields) ≡ cond (bytes_eq f g) (Some v) (P fields)) → P no_fields ≡ None → (n : List ℕ)
+  -- What a field has is what is at its key.
+  field_is : (g : List ℕ) (P : Fields → Option Scalar) → ((f : List ℕ) (v : Scalar) (fields : Fields)
+      → P (with_field one other f v fields) ≡ cond (bytes_eq f g) (Some v) (P fields)) → P no_fields ≡ None → (n : List ℕ)
       → P (fields_of (fold (with_value one other) empty (entries_below values (first ∷ []))) n) ≡ get values (first ∷ n ∷ g ∷ [])
   field_is g P law none n =
       all_steps first one other g P law (entries_below values (first ∷ [])) empty n pairs_sorted (passes (is_prefix (first ∷ [])) (entries values))
-      ∙ ap (option_or (find key_cmp (first ∷ n ∷ g ∷ []) (entries_below values (first ∷ [])))) (ap (λ o. P (unwrap_or o no_fields)) (get-empty bytes_cmp n) ∙ none)
+      ∙ ap (option_or (find key_cmp (first ∷ n ∷ g ∷ []) (entries_below values (first ∷ []))))
+      (ap (λ o. P (unwrap_or o no_fields)) (get-empty bytes_cmp n) ∙ none)
       ∙ or_none _
       ∙ find_some (is_prefix (first ∷ [])) (entries values) (first ∷ n ∷ g ∷ []) (ap (λ b. b && true) (tied_name first first refl))
       ∙ sym (get-entries values (first ∷ n ∷ g ∷ []))
@@ -258,7 +291,8 @@ module _ (values : FinMap key_cmp Scalar) (first one other : List ℕ) (differ :
 
   law_other : (f : List ℕ) (v : Scalar) (fields : Fields) → (with_field one other f v fields).other ≡ cond (bytes_eq f other) (Some v) fields.other
   law_other f v fields = by (bytes_eq f one) refl (bytes_eq f other) refl where
-    by : (b : Bool) → bytes_eq f one ≡ b → (c : Bool) → bytes_eq f other ≡ c → (cond b (record fields { one = Some v }) (cond c (record fields { other = Some v }) fields)).other ≡ cond c (Some v) fields.other
+    by : (b : Bool) → bytes_eq f one ≡ b → (c : Bool) → bytes_eq f other ≡ c
+        → (cond b (record fields { one = Some v }) (cond c (record fields { other = Some v }) fields)).other ≡ cond c (Some v) fields.other
     by true is true told = absurd (differ (sym ((bytes_eq-Decides f one).0 is) ∙ (bytes_eq-Decides f other).0 told))
     by true is false told = refl
     by false is true told = refl
@@ -271,47 +305,59 @@ module _ (values : FinMap key_cmp Scalar) (first one other : List ℕ) (differ :
   or_false true = refl
   or_false false = refl
 
-  names_are : (n : List ℕ) → contains_key (fold (with_value one other) empty (entries_below values (first ∷ []))) n ≡ list_any (eq_by_cmp bytes_cmp n) (names_below values first)
+  names_are : (n : List ℕ) → contains_key (fold (with_value one other) empty (entries_below values (first ∷ []))) n ≡ list_any (eq_by_cmp bytes_cmp n)
+      (names_below values first)
   names_are n =
       all_names one other (entries_below values (first ∷ [])) empty n
-      ∙ ap (λ b. list_any (eq_by_cmp bytes_cmp n) (filter_map (λ e. name_in e.0) (entries_below values (first ∷ []))) || b) (ap is_some (get-empty bytes_cmp n)) ∙ or_false _
+      ∙ ap (λ b. list_any (eq_by_cmp bytes_cmp n) (filter_map (λ e. name_in e.0) (entries_below values (first ∷ []))) || b) (ap is_some (get-empty bytes_cmp n))
+      ∙ or_false _
       ∙ sym (contains-set_of (filter_map (λ e. name_in e.0) (entries_below values (first ∷ []))) n)
       ∙ contains_key-keys (set_of (filter_map (λ e. name_in e.0) (entries_below values (first ∷ [])))) n
 
   made : is_sorted bytes_cmp (fields_below values first one other) ≡ true
-  made = sorted_made (fields_at values first one other) (entries (set_of (filter_map (λ e. name_in e.0) (entries_below values (first ∷ []))))) (of_T _ (entries_sorted (set_of (filter_map (λ e. name_in e.0) (entries_below values (first ∷ []))))))
+  made = sorted_made (fields_at values first one other) (entries (set_of (filter_map (λ e. name_in e.0) (entries_below values (first ∷ [])))))
+      (of_T _ (entries_sorted (set_of (filter_map (λ e. name_in e.0) (entries_below values (first ∷ []))))))
 
   -- The entries that were gathered are the fields of each name.
-  pub gathered : (found : Found) → found ≡ fold (with_value one other) empty (entries_below values (first ∷ [])) → entries found ≡ fields_below values first one other
+  pub gathered : (found : Found) → found ≡ fold (with_value one other) empty (entries_below values (first ∷ []))
+      → entries found ≡ fields_below values first one other
   gathered found is = ap entries (is ∙ same) ∙ entries-from_sorted bytes_cmp (fields_below values first one other) (T_of _ made) where
     same : fold (with_value one other) empty (entries_below values (first ∷ [])) ≡ from_sorted (fields_below values first one other)
     same = same_map bytes_total bytes_cmp-IsAntisymmetric _ _ (λ q.
-        given _ _ _ (names_are q) (fields_are q) ∙ sym (get-from_sorted bytes_cmp (fields_below values first one other) q (T_of _ made) ∙ find_made (fields_at values first one other) q (names_below values first)))
+        given _ _ _ (names_are q) (fields_are q) ∙ sym (get-from_sorted bytes_cmp (fields_below values first one other) q (T_of _ made)
+        ∙ find_made (fields_at values first one other) q (names_below values first)))
 
 -- The fields of names rise by name.
 pub fields_rise : (values : FinMap key_cmp Scalar) (first one other : List ℕ) → is_sorted bytes_cmp (fields_below values first one other) ≡ true
-fields_rise values first one other = sorted_made (fields_at values first one other) (entries (set_of (filter_map (λ e. name_in e.0) (entries_below values (first ∷ []))))) (of_T _ (entries_sorted (set_of (filter_map (λ e. name_in e.0) (entries_below values (first ∷ []))))))
+fields_rise values first one other = sorted_made (fields_at values first one other)
+    (entries (set_of (filter_map (λ e. name_in e.0) (entries_below values (first ∷ [])))))
+    (of_T _ (entries_sorted (set_of (filter_map (λ e. name_in e.0) (entries_below values (first ∷ []))))))
 
-below_ordered : {X : Type 0} (k : List ℕ) (es : List (List ℕ × X)) → AllByRecursion (λ y. bytes_cmp k y ≡ Less) (map (λ e. e.0) es) → below_all bytes_cmp k es ≡ true
+below_ordered : {X : Type 0} (k : List ℕ) (es : List (List ℕ × X)) → AllByRecursion (λ y. bytes_cmp k y ≡ Less) (map (λ e. e.0) es)
+    → below_all bytes_cmp k es ≡ true
 below_ordered k [] below = refl
 below_ordered k (e ∷ es) below = and_from _ _ (ap is_lt below.0) (below_ordered k es below.1)
 
 ordered_sorted : {X : Type 0} (es : List (List ℕ × X)) → IsStrictlySortedBy bytes_cmp (map (λ e. e.0) es) → is_sorted bytes_cmp es ≡ true
 ordered_sorted [] rises = refl
-ordered_sorted (e ∷ es) rises = and_from _ _ (below_ordered e.0 es (sorted_head bytes_cmp e.0 (map (λ e. e.0) es) rises)) (ordered_sorted es (sorted_tail bytes_cmp e.0 (map (λ e. e.0) es) rises))
+ordered_sorted (e ∷ es) rises = and_from _ _ (below_ordered e.0 es (sorted_head bytes_cmp e.0 (map (λ e. e.0) es) rises))
+    (ordered_sorted es (sorted_tail bytes_cmp e.0 (map (λ e. e.0) es) rises))
 
 -- The entries of a tree, in order, are those of the map that it is seen as.
-pub tree_entries : {X : Type 0} (es all : List (List ℕ × X)) → IsStrictlySortedBy bytes_cmp (map (λ e. e.0) es) → entries (from_entries {R = bytes_cmp} es) ≡ all → es ≡ all
+pub tree_entries : {X : Type 0} (es all : List (List ℕ × X)) → IsStrictlySortedBy bytes_cmp (map (λ e. e.0) es)
+    → entries (from_entries {R = bytes_cmp} es) ≡ all → es ≡ all
 tree_entries es all rises is = sym (entries-seen es (ordered_sorted es rises)) ∙ is
 
 -- ---- one value more, from one step of a walk to the next
 
 -- A walk begins with all values and no name.
-pub begun : {X Y : Type 0} (f : FinMap bytes_cmp X → Y → FinMap bytes_cmp X) (es : List (List ℕ × X)) (past all : List Y) → es ≡ [] → past ≡ all → fold f (from_entries es) past ≡ fold f empty all
+pub begun : {X Y : Type 0} (f : FinMap bytes_cmp X → Y → FinMap bytes_cmp X) (es : List (List ℕ × X)) (past all : List Y) → es ≡ [] → past ≡ all
+    → fold f (from_entries es) past ≡ fold f empty all
 begun f es past all none whole = ap (λ l. fold f (from_entries l) past) none ∙ ap (fold f empty) whole
 
 -- And each step puts one value in.
-pub folded_more : {S Y : Type 0} (f : S → Y → S) (m now : S) (x : Y) (left rest : List Y) (all : S) → left ≡ x ∷ rest → now ≡ f m x → fold f m left ≡ all → fold f now rest ≡ all
+pub folded_more : {S Y : Type 0} (f : S → Y → S) (m now : S) (x : Y) (left rest : List Y) (all : S) → left ≡ x ∷ rest → now ≡ f m x → fold f m left ≡ all
+    → fold f now rest ≡ all
 folded_more f m now x left rest all is put whole = ap (λ n. fold f n rest) put ∙ sym (ap (fold f m) is) ∙ whole
 
 pub folded_all : {S Y : Type 0} (f : S → Y → S) (m : S) (left : List Y) (all : S) → left ≡ [] → fold f m left ≡ all → m ≡ all

@@ -1,5 +1,6 @@
 -- The lists of the metadata, from one key to the next.
-use Rattle.std.proofs.Common.{arith, ◌≡◌, ◌<◌, ◌++◌, suc, length, Bool, true, false, T, ℕ, List, [], ◌∷◌, Option, Some, None, IsSome, unwrap_or, refl, sym, ◌∙◌, ap, append_assoc}
+use Rattle.std.proofs.Common.{arith, ◌≡◌, ◌<◌, ◌++◌, suc, length, Bool, true, false, T, ℕ, List}
+use Rattle.std.proofs.Common.{[], ◌∷◌, Option, Some, None, IsSome, unwrap_or, refl, sym, ◌∙◌, ap, append_assoc}
 use Rattle.std.specs.FinMap.{FinMap, get, empty, entries, entries_sorted, is_sorted}
 use Rattle.std.specs.FinMap.Entries.{below_all}
 use Rattle.std.specs.Ordering.{is_lt}
@@ -26,38 +27,46 @@ there (Some x) d has = refl
 
 module _ (m : FinMap key_cmp (FinMap bytes_cmp Scalar)) (after : Option (List (List ℕ))) (k : List (List ℕ)) (next : IsLeastKeyAfter m after k) where
   past_next : entries_past m after ≡ (k, inner m k) ∷ entries_past m (Some k)
-  past_next = walk_next key_total key_cmp-IsAntisymmetric m after k (inner m k) (record { stands = there (get m k) empty next.stands; past = next.past; least = next.least })
+  past_next = walk_next key_total key_cmp-IsAntisymmetric m after k (inner m k)
+      (record { stands = there (get m k) empty next.stands; past = next.past; least = next.least })
 
   -- So the number of keys that are left falls.
   pub keys_fall : length (entries_past m (Some k)) < length (entries_past m after)
   keys_fall = let one : length (entries_past m after) ≡ suc (length (entries_past m (Some k))) = ap length past_next in omega (arith, one)
 
   -- The walk's next key has its list, if it has one.
-  pub lists_next : (o : Option Scalar) → o ≡ value_at m k affected_services → lists_of (entries_past m after) ≡ lists_at k o ++ lists_of (entries_past m (Some k))
+  pub lists_next : (o : Option Scalar) → o ≡ value_at m k affected_services → lists_of (entries_past m after) ≡ lists_at k o ++ lists_of
+      (entries_past m (Some k))
   lists_next o is = ap lists_of past_next ∙ ap (λ v. lists_at k v ++ lists_of (entries_past m (Some k))) (sym is)
 
 -- ---- the order of the lists
 
-below_lists : (k : List (List ℕ)) (es : List (List (List ℕ) × FinMap bytes_cmp Scalar)) → below_all key_cmp k es ≡ true → below_all key_cmp k (lists_of es) ≡ true
+below_lists : (k : List (List ℕ)) (es : List (List (List ℕ) × FinMap bytes_cmp Scalar)) → below_all key_cmp k es ≡ true
+    → below_all key_cmp k (lists_of es) ≡ true
 below_lists k [] below = refl
-below_lists k (e ∷ es) below = let both = and_parts (is_lt (key_cmp k e.0)) (below_all key_cmp k es) below in by (get e.1 affected_services) both.0 (below_lists k es both.1) where
-  by : (o : Option Scalar) → is_lt (key_cmp k e.0) ≡ true → below_all key_cmp k (lists_of es) ≡ true → below_all key_cmp k (lists_at e.0 o ++ lists_of es) ≡ true
-  by None here rest = rest
-  by (Some v) here rest = and_from _ _ here rest
+below_lists k (e ∷ es) below = let both = and_parts (is_lt (key_cmp k e.0)) (below_all key_cmp k es) below in
+    by (get e.1 affected_services) both.0 (below_lists k es both.1) where
+      by : (o : Option Scalar) → is_lt (key_cmp k e.0) ≡ true → below_all key_cmp k (lists_of es) ≡ true
+          → below_all key_cmp k (lists_at e.0 o ++ lists_of es) ≡ true
+      by None here rest = rest
+      by (Some v) here rest = and_from _ _ here rest
 
 sorted_lists : (es : List (List (List ℕ) × FinMap bytes_cmp Scalar)) → is_sorted key_cmp es ≡ true → is_sorted key_cmp (lists_of es) ≡ true
 sorted_lists [] rises = refl
-sorted_lists (e ∷ es) rises = let both = and_parts (below_all key_cmp e.0 es) (is_sorted key_cmp es) rises in by (get e.1 affected_services) (below_lists e.0 es both.0) (sorted_lists es both.1) where
-  by : (o : Option Scalar) → below_all key_cmp e.0 (lists_of es) ≡ true → is_sorted key_cmp (lists_of es) ≡ true → is_sorted key_cmp (lists_at e.0 o ++ lists_of es) ≡ true
-  by None here rest = rest
-  by (Some v) here rest = and_from _ _ here rest
+sorted_lists (e ∷ es) rises = let both = and_parts (below_all key_cmp e.0 es) (is_sorted key_cmp es) rises in
+    by (get e.1 affected_services) (below_lists e.0 es both.0) (sorted_lists es both.1) where
+      by : (o : Option Scalar) → below_all key_cmp e.0 (lists_of es) ≡ true → is_sorted key_cmp (lists_of es) ≡ true
+          → is_sorted key_cmp (lists_at e.0 o ++ lists_of es) ≡ true
+      by None here rest = rest
+      by (Some v) here rest = and_from _ _ here rest
 
 of_T : (b : Bool) → T b → b ≡ true
 of_T true holds = refl
 of_T false holds = absurd holds
 
 -- The lists that were read rise by key.
-pub lists_rise : (m : FinMap key_cmp (FinMap bytes_cmp Scalar)) (es : List (List (List ℕ) × List (List ℕ))) → sound es ≡ lists_in m → is_sorted key_cmp es ≡ true
+pub lists_rise : (m : FinMap key_cmp (FinMap bytes_cmp Scalar)) (es : List (List (List ℕ) × List (List ℕ))) → sound es ≡ lists_in m
+    → is_sorted key_cmp es ≡ true
 lists_rise m es are = sym (sorted_sound key_cmp es) ∙ ap (is_sorted key_cmp) are ∙ sorted_lists (entries m) (of_T _ (entries_sorted m))
 
 -- The lists that are read, with what is left.
@@ -65,9 +74,12 @@ pub read_more : {E : Type 0} (all done now one left rest : List E) → left ≡ 
 read_more all done now one left rest is put whole = ap (λ l. l ++ rest) put ∙ append_assoc done one rest ∙ ap (λ l. done ++ l) (sym is) ∙ whole
 
 -- A list without a fault leaves the faults to the others.
-pub sound_more : {X E : Type 0} (f : X → List E) (one left rest : List X) (all : List E) → left ≡ one ++ rest → flat_map f one ≡ [] → flat_map f left ≡ all → flat_map f rest ≡ all
+pub sound_more : {X E : Type 0} (f : X → List E) (one left rest : List X) (all : List E) → left ≡ one ++ rest → flat_map f one ≡ [] → flat_map f left ≡ all
+    → flat_map f rest ≡ all
 sound_more f one left rest all is sound whole = ap (λ l. l ++ flat_map f rest) (sym sound) ∙ sym (flat_both f one rest) ∙ sym (ap (flat_map f) is) ∙ whole
 
 -- And one with a fault has the first.
-pub fault_first : {X E : Type 0} (f : X → List E) (one left rest : List X) (all : List E) (e : E) → left ≡ one ++ rest → first_of (flat_map f one) ≡ Some e → flat_map f left ≡ all → first_of all ≡ Some e
-fault_first f one left rest all e is first whole = ap first_of (sym whole ∙ ap (flat_map f) is ∙ flat_both f one rest) ∙ first_left (flat_map f one) (flat_map f rest) e first
+pub fault_first : {X E : Type 0} (f : X → List E) (one left rest : List X) (all : List E) (e : E) → left ≡ one ++ rest → first_of (flat_map f one) ≡ Some e
+    → flat_map f left ≡ all → first_of all ≡ Some e
+fault_first f one left rest all e is first whole = ap first_of (sym whole ∙ ap (flat_map f) is ∙ flat_both f one rest)
+    ∙ first_left (flat_map f one) (flat_map f rest) e first

@@ -1,5 +1,6 @@
 -- Loops over lists, by what is left of them.
-use Rattle.std.proofs.Common.{◌≡◌, ◌<◌, ◌≤◌, ◌+◌, ℕ, List, [], ◌∷◌, ◌++◌, length, get_or, drop, map, filter, Option, Some, None, false, true, refl, sym, ◌∙◌, ap, append_assoc, append-nil}
+use Rattle.std.proofs.Common.{◌≡◌, ◌<◌, ◌≤◌, ◌+◌, ℕ, List, [], ◌∷◌, ◌++◌, length, get_or, drop}
+use Rattle.std.proofs.Common.{map, filter, Option, Some, None, false, true, refl, sym, ◌∙◌, ap, append_assoc, append-nil}
 use Rattle.std.specs.Prelude.{Bool}
 use Rattle.std.specs.List.{filter_map, cons_option}
 use Rattle.std.proofs.lemmas.List.{at_drop_more, at_drop_all}
@@ -12,7 +13,8 @@ module _ {X Y : Type 0} (F : List X → Y) (xs : List X) (i : ℕ) where
   rest_here x all low is left = ap (λ y. F (y ∷ drop (i + 1) xs)) is ∙ sym (at_drop_more F xs i x low) ∙ left
 
   -- Where the element at hand adds nothing, the others give the same.
-  pub rest_more : (x : X) (all : Y) → i < length xs → x ≡ get_or xs i x → F (drop i xs) ≡ all → F (x ∷ drop (i + 1) xs) ≡ F (drop (i + 1) xs) → F (drop (i + 1) xs) ≡ all
+  pub rest_more : (x : X) (all : Y) → i < length xs → x ≡ get_or xs i x → F (drop i xs) ≡ all → F (x ∷ drop (i + 1) xs) ≡ F (drop (i + 1) xs)
+      → F (drop (i + 1) xs) ≡ all
   rest_more x all low is left same = sym same ∙ rest_here x all low is left
 
   -- At the end nothing is left.
@@ -21,7 +23,8 @@ module _ {X Y : Type 0} (F : List X → Y) (xs : List X) (i : ℕ) where
 
 -- What is gathered from one element after another.
 module _ {X E : Type 0} (F : List X → List E) (next : (x : X) (xs : List X) → F (x ∷ xs) ≡ F (x ∷ []) ++ F xs) where
-  pub taken_more : (left rest : List X) (x : X) (all done now : List E) → left ≡ x ∷ rest → done ++ F left ≡ all → now ≡ done ++ F (x ∷ []) → now ++ F rest ≡ all
+  pub taken_more : (left rest : List X) (x : X) (all done now : List E) → left ≡ x ∷ rest → done ++ F left ≡ all → now ≡ done ++ F (x ∷ [])
+      → now ++ F rest ≡ all
   taken_more left rest x all done now is whole put =
       ap (λ l. l ++ F rest) put ∙ append_assoc done (F (x ∷ [])) (F rest) ∙ ap (λ l. done ++ l) (sym (next x rest)) ∙ ap (λ l. done ++ F l) (sym is) ∙ whole
 
@@ -53,7 +56,7 @@ first_right xs ys e none is = ap (λ l. first_of (l ++ ys)) none ∙ is
 pub none_both : {E : Type 0} (xs ys : List E) → xs ≡ [] → ys ≡ [] → xs ++ ys ≡ []
 none_both xs ys one other = ap (λ l. l ++ ys) one ∙ other
 
--- What a test takes stands first, and what it doesn't take is left out.
+-- What a test takes comes first, and what it doesn't take is left out.
 pub filtered_first : {X E : Type 0} (f : X → E) (p : X → Bool) (x : X) (xs : List X) → p x ≡ true → first_of (map f (filter p (x ∷ xs))) ≡ Some (f x)
 filtered_first f p x xs taken = ap (λ l. first_of (map f l)) (cond-true _ _ _ taken)
 

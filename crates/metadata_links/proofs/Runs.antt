@@ -1,5 +1,6 @@
 -- The run of the keys that begin with a path, among keys in order.
-use Rattle.std.proofs.Common.{arith, ◌≡◌, ◌<◌, ◌≤◌, ◌+◌, ℕ, zero, suc, List, [], ◌∷◌, ◌++◌, length, drop, get_or, append_assoc, append-nil, Bool, true, false, nat_lt, IsTrue, ◌⊎◌, inl, inr, refl, sym, ◌∙◌, ap, subst}
+use Rattle.std.proofs.Common.{arith, ◌≡◌, ◌<◌, ◌≤◌, ◌+◌, ℕ, zero, suc, List, [], ◌∷◌, ◌++◌, length, drop, get_or}
+use Rattle.std.proofs.Common.{append_assoc, append-nil, Bool, true, false, nat_lt, IsTrue, ◌⊎◌, inl, inr, refl, sym, ◌∙◌, ap, subst}
 use Rattle.std.specs.Prelude.{◌&&◌}
 use Rattle.std.specs.declared.cmp.Ordering.{Ordering}
 use Rattle.std.specs.declared.cmp.Ordering.TheVariants.{Less, Equal, Greater}
@@ -64,7 +65,8 @@ low_not_past path k low = by (is_prefix path k) refl where
   turned l = ap is_le (key_total.antisymm k path ∙ ap ordering_reverse l)
 
   at : (path ≡ k) ⊎ (key_cmp path k ≡ Less) → is_past path k ≡ false
-  at (inl e) = ap (λ (p : List (List ℕ)). nat_lt (length p) (length k) && is_prefix p k) e ∙ ap (λ b. b && is_prefix k k) (le-ltb (length k) (length k) (omega arith))
+  at (inl e) = ap (λ (p : List (List ℕ)). nat_lt (length p) (length k) && is_prefix p k) e
+      ∙ ap (λ b. b && is_prefix k k) (le-ltb (length k) (length k) (omega arith))
   at (inr l) = absurd (cc (sym low ∙ turned l))
 
   by : (b : Bool) → is_prefix path k ≡ b → is_past path k ≡ false
@@ -94,7 +96,11 @@ module _ (path : List (List ℕ)) where
   run_from [] (suc i) point = refl
   run_from (e ∷ es) zero point = refl
   run_from (e ∷ es) (suc i) point =
-      run_from es i (λ j d low high. point.0 (suc j) d (omega arith) (omega (arith, high)), λ j d low high. point.1 (suc j) d (omega (arith, low)) (omega (arith, high)))
+      run_from es i (
+        λ j d low high. point.0 (suc j) d (omega arith) (omega (arith, high)),
+        λ j d low high. point.1 (suc j) d (omega (arith, low))
+            (omega (arith, high)),
+      )
       ∙ sym (cond-false _ _ _ (low_not_past path e.0 (point.0 0 e (omega arith) (omega arith))))
 
   -- The others are above it.
@@ -105,7 +111,11 @@ module _ (path : List (List ℕ)) where
       and_from _ _ (above_path path e.0 (point.1 0 e (omega arith) (omega arith)))
       (run_above es zero (λ j d low high. absurd (omega (arith, high)), λ j d low high. point.1 (suc j) d (omega arith) (omega (arith, high))))
   run_above (e ∷ es) (suc i) point =
-      run_above es i (λ j d low high. point.0 (suc j) d (omega arith) (omega (arith, high)), λ j d low high. point.1 (suc j) d (omega (arith, low)) (omega (arith, high)))
+      run_above es i (
+        λ j d low high. point.0 (suc j) d (omega arith) (omega (arith, high)),
+        λ j d low high. point.1 (suc j) d (omega (arith, low))
+            (omega (arith, high)),
+      )
 
   at_most : (r : Ordering) → is_le r ≡ true → ordering_index r ≤ 1
   at_most Less h = omega arith
@@ -117,13 +127,14 @@ module _ (path : List (List ℕ)) where
   within Equal h = refl
   within Greater h = absurd (omega (arith, h))
 
-  -- What is at most the path stands before what isn't.
+  -- What is at most the path is before what isn't.
   pub parted : (es : Entries) → IsTrue (is_sorted key_cmp es) → IsPartitionedBy (λ e. is_le (key_cmp e.0 path)) es
   parted es rises i j d before inside low =
       within _ (omega (arith, at_most _ low, entries_searchable key_total es path rises i j d before inside))
 
   -- A list that begins with the path goes on with the rest.
-  pub first_past : (e : List (List ℕ) × List (List ℕ)) (es : Entries) → IsTrue (below_all key_cmp path (e ∷ es)) → is_prefix path e.0 ≡ true → keys_past path (e ∷ es) ≡ e.0 ∷ keys_past path es
+  pub first_past : (e : List (List ℕ) × List (List ℕ)) (es : Entries) → IsTrue (below_all key_cmp path (e ∷ es)) → is_prefix path e.0 ≡ true
+      → keys_past path (e ∷ es) ≡ e.0 ∷ keys_past path es
   first_past e es above is = cond-true _ _ _ (above_past path e.0 (less _ (and_parts _ _ above).0) is)
 
   not_above : (r : Ordering) → r ≡ Less → is_gt r ≡ false
@@ -140,7 +151,8 @@ module _ (path : List (List ℕ)) where
       by true is above = absurd (cc (sym other ∙ between path k e.0 is (not_above _ low) (not_above _ above)))
 
   -- Where the first key doesn't begin with the path, none does.
-  pub run_end : (e : List (List ℕ) × List (List ℕ)) (es : Entries) → IsTrue (is_sorted key_cmp (e ∷ es)) → IsTrue (below_all key_cmp path (e ∷ es)) → is_prefix path e.0 ≡ false → keys_past path (e ∷ es) ≡ []
+  pub run_end : (e : List (List ℕ) × List (List ℕ)) (es : Entries) → IsTrue (is_sorted key_cmp (e ∷ es)) → IsTrue (below_all key_cmp path (e ∷ es))
+      → is_prefix path e.0 ≡ false → keys_past path (e ∷ es) ≡ []
   run_end e es rises above other =
       cond-false _ _ _ (other_not_past path e.0 other) ∙ none_below e.0 (less _ (and_parts _ _ above).0) other es (and_parts _ _ rises).0
 
@@ -159,7 +171,8 @@ left_above path (e ∷ es) (suc i) above = left_above path es i (and_parts _ _ a
 
 -- ---- the walk
 
-module _ (path : List (List ℕ)) (es : Entries) (rises : IsTrue (is_sorted key_cmp es)) (above : IsTrue (below_all key_cmp path es)) (i : ℕ) (e : List (List ℕ) × List (List ℕ)) (low : i < length es) (is : e ≡ get_or es i e) where
+module _ (path : List (List ℕ)) (es : Entries) (rises : IsTrue (is_sorted key_cmp es)) (above : IsTrue (below_all key_cmp path es)) (i : ℕ)
+    (e : List (List ℕ) × List (List ℕ)) (low : i < length es) (is : e ≡ get_or es i e) where
   here : drop i es ≡ e ∷ drop (i + 1) es
   here = drop_more es i e low ∙ ap (λ (x : List (List ℕ) × List (List ℕ)). x ∷ drop (i + 1) es) (sym is)
 
@@ -170,7 +183,8 @@ module _ (path : List (List ℕ)) (es : Entries) (rises : IsTrue (is_sorted key_
   over = subst (λ (l : Entries). IsTrue (below_all key_cmp path l)) here (left_above path es i above)
 
   -- The key at hand is taken.
-  pub walk_more : (done now all : List (List (List ℕ))) → is_prefix path e.0 ≡ true → done ++ keys_past path (drop i es) ≡ all → now ≡ done ++ e.0 ∷ [] → now ++ keys_past path (drop (i + 1) es) ≡ all
+  pub walk_more : (done now all : List (List (List ℕ))) → is_prefix path e.0 ≡ true → done ++ keys_past path (drop i es) ≡ all → now ≡ done ++ e.0 ∷ []
+      → now ++ keys_past path (drop (i + 1) es) ≡ all
   walk_more done now all begins whole put =
       ap (λ l. l ++ keys_past path (drop (i + 1) es)) put ∙ append_assoc done (e.0 ∷ []) (keys_past path (drop (i + 1) es))
       ∙ ap (λ l. done ++ l) (sym (ap (keys_past path) here ∙ first_past path e (drop (i + 1) es) over begins)) ∙ whole

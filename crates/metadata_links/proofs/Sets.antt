@@ -6,7 +6,8 @@ use Rattle.std.specs.declared.cmp.Ordering.TheVariants.{Less, Equal, Greater}
 use Rattle.std.specs.Ordering.{eq_by_cmp, is_eq, is_lt}
 use Rattle.std.specs.Cmp.{eq_by_cmp_equiv}
 use Rattle.std.specs.BTreeSet as tree
-use Rattle.std.specs.FinMap.{contains_key, empty, get, keys, from_sorted, is_sorted, same_map, get-insert, get-from_entries, get-from_sorted, entries-from_sorted}
+use Rattle.std.specs.FinMap.{contains_key, empty, get, keys, from_sorted}
+use Rattle.std.specs.FinMap.{is_sorted, same_map, get-insert, get-from_entries, get-from_sorted, entries-from_sorted}
 use Rattle.std.specs.FinMap.Entries.{is_some-find, below_all}
 use Rattle.std.specs.List.{list_any, AllByRecursion}
 use Rattle.std.specs.List.Sorted.{IsStrictlySortedBy}
@@ -41,7 +42,8 @@ keys-marked (name ∷ names) = ap (λ (l : List (List ℕ)). name ∷ l) (keys-m
 
 -- The set of a list has the names of the list.
 pub contains-set_of : (names : List (List ℕ)) (q : List ℕ) → contains_key (set_of names) q ≡ list_any (eq_by_cmp bytes_cmp q) names
-contains-set_of names q = ap is_some (get-from_entries bytes_total (marked names) q) ∙ is_some-find bytes_cmp q (marked names) ∙ ap (list_any (eq_by_cmp bytes_cmp q)) (keys-marked names)
+contains-set_of names q = ap is_some (get-from_entries bytes_total (marked names) q) ∙ is_some-find bytes_cmp q (marked names)
+    ∙ ap (list_any (eq_by_cmp bytes_cmp q)) (keys-marked names)
 
 -- And the set with one more has that one more.
 pub contains-with_member : (s : Names) (k q : List ℕ) → contains_key (with_member s k) q ≡ (eq_by_cmp bytes_cmp q k || contains_key s q)
@@ -64,7 +66,8 @@ present v k has = same_names _ _ (λ q. contains-with_member v k q ∙ by q (eq_
   by q false is = ap (λ b. b || contains_key v q) is
 
 -- What is put into the tree is put into the set.
-pub set-insert : (s t : tree.BTreeSet (List ℕ)) (v : Names) (k : List ℕ) → set_of s.keys ≡ v → tree.Updates bytes_cmp s t k true → set_of t.keys ≡ with_member v k
+pub set-insert : (s t : tree.BTreeSet (List ℕ)) (v : Names) (k : List ℕ) → set_of s.keys ≡ v → tree.Updates bytes_cmp s t k true
+    → set_of t.keys ≡ with_member v k
 set-insert s t v k is updates = same_names _ _ (λ q.
     contains-set_of t.keys q ∙ updates.0 q ∙ ap (λ b. cond b true (tree.contains bytes_cmp s q)) ((eq_by_cmp_equiv bytes_total).symm k q)
     ∙ or_cond (eq_by_cmp bytes_cmp q k) _ ∙ ap (λ b. eq_by_cmp bytes_cmp q k || b) (sym (set-contains s v q is)) ∙ sym (contains-with_member v k q))
@@ -85,7 +88,8 @@ below_marked k (name ∷ names) below = and_from _ _ (ap is_lt below.0) (below_m
 
 sorted_marked : (names : List (List ℕ)) → IsStrictlySortedBy bytes_cmp names → is_sorted bytes_cmp (marked names) ≡ true
 sorted_marked [] rises = refl
-sorted_marked (name ∷ names) rises = and_from _ _ (below_marked name names (sorted_head bytes_cmp name names rises)) (sorted_marked names (sorted_tail bytes_cmp name names rises))
+sorted_marked (name ∷ names) rises = and_from _ _ (below_marked name names (sorted_head bytes_cmp name names rises))
+    (sorted_marked names (sorted_tail bytes_cmp name names rises))
 
 -- The keys of a tree are the rising list of its set.
 pub rising-sorted : (names : List (List ℕ)) → IsStrictlySortedBy bytes_cmp names → keys (set_of names) ≡ names
@@ -94,23 +98,29 @@ rising-sorted names rises = ap keys same ∙ ap (map (λ e. e.0)) (entries-from_
   sorted = T_of _ (sorted_marked names rises)
 
   same : set_of names ≡ from_sorted (marked names)
-  same = same_map bytes_total bytes_cmp-IsAntisymmetric _ _ (λ q. get-from_entries bytes_total (marked names) q ∙ sym (get-from_sorted bytes_cmp (marked names) q sorted))
+  same = same_map bytes_total bytes_cmp-IsAntisymmetric _ _ (λ q. get-from_entries bytes_total (marked names) q
+      ∙ sym (get-from_sorted bytes_cmp (marked names) q sorted))
 
 -- What is new is added, and what is there is not.
-pub told_new : (s : tree.BTreeSet (List ℕ)) (v : Names) (q : List ℕ) (b : Bool) → set_of s.keys ≡ v → b ≡ tree.contains bytes_cmp s q → b ≡ false → true ≡ not (contains_key v q)
+pub told_new : (s : tree.BTreeSet (List ℕ)) (v : Names) (q : List ℕ) (b : Bool) → set_of s.keys ≡ v → b ≡ tree.contains bytes_cmp s q → b ≡ false
+    → true ≡ not (contains_key v q)
 told_new s v q b is told old = sym (ap not (set-contains s v q is ∙ sym told ∙ old))
 
-pub told_old : (s : tree.BTreeSet (List ℕ)) (v : Names) (q : List ℕ) (b : Bool) → set_of s.keys ≡ v → b ≡ tree.contains bytes_cmp s q → b ≡ true → false ≡ not (contains_key v q)
+pub told_old : (s : tree.BTreeSet (List ℕ)) (v : Names) (q : List ℕ) (b : Bool) → set_of s.keys ≡ v → b ≡ tree.contains bytes_cmp s q → b ≡ true
+    → false ≡ not (contains_key v q)
 told_old s v q b is told new = sym (ap not (set-contains s v q is ∙ sym told ∙ new))
 
 -- A set that has the name already stays.
-pub kept_old : (s : tree.BTreeSet (List ℕ)) (v : Names) (q : List ℕ) (b : Bool) → set_of s.keys ≡ v → b ≡ tree.contains bytes_cmp s q → b ≡ true → v ≡ with_member v q
+pub kept_old : (s : tree.BTreeSet (List ℕ)) (v : Names) (q : List ℕ) (b : Bool) → set_of s.keys ≡ v → b ≡ tree.contains bytes_cmp s q → b ≡ true
+    → v ≡ with_member v q
 kept_old s v q b is told new = sym (present v q (set-contains s v q is ∙ sym told ∙ new))
 
-pub kept_seen : (s : tree.BTreeSet (List ℕ)) (v : Names) (q : List ℕ) (b : Bool) → set_of s.keys ≡ v → b ≡ tree.contains bytes_cmp s q → b ≡ true → set_of s.keys ≡ with_member v q
+pub kept_seen : (s : tree.BTreeSet (List ℕ)) (v : Names) (q : List ℕ) (b : Bool) → set_of s.keys ≡ v → b ≡ tree.contains bytes_cmp s q → b ≡ true
+    → set_of s.keys ≡ with_member v q
 kept_seen s v q b is told new = is ∙ kept_old s v q b is told new
 
-pub put_new : (s t : tree.BTreeSet (List ℕ)) (v : Names) (k q : List ℕ) → set_of s.keys ≡ v → k ≡ q → tree.Updates bytes_cmp s t k true → set_of t.keys ≡ with_member v q
+pub put_new : (s t : tree.BTreeSet (List ℕ)) (v : Names) (k q : List ℕ) → set_of s.keys ≡ v → k ≡ q → tree.Updates bytes_cmp s t k true
+    → set_of t.keys ≡ with_member v q
 put_new s t v k q is copy updates = set-insert s t v k is updates ∙ ap (with_member v) copy
 
 -- The keys of a tree are those of its set.

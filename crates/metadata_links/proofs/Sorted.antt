@@ -24,8 +24,9 @@ module _ {K X : Type 0} {R : K → K → Ordering} where
   pub slice_seen : (es now : List (K × X)) (v : FinMap R X) → from_sorted es ≡ v → IsTrue (is_sorted R es) → now ≡ es → now ≡ entries v
   slice_seen es now v is rises same = same ∙ sym (entries_of R es rises) ∙ ap entries is
 
-  -- What is found in the list stands in the map.
-  pub get_seen : (es now : List (K × X)) (v : FinMap R X) (q : K) (r : Option X) → from_sorted es ≡ v → IsTrue (is_sorted R es) → now ≡ es → r ≡ find R q now → r ≡ get v q
+  -- What is found in the list is in the map.
+  pub get_seen : (es now : List (K × X)) (v : FinMap R X) (q : K) (r : Option X) → from_sorted es ≡ v → IsTrue (is_sorted R es) → now ≡ es → r ≡ find R q now
+      → r ≡ get v q
   get_seen es now v q r is rises same found = found ∙ ap (find R q) same ∙ sym (get-from_sorted R es q (T_of _ rises)) ∙ ap (λ (w : FinMap R X). get w q) is
 
 -- ---- the search
@@ -36,11 +37,13 @@ module _ {K X : Type 0} {R : K → K → Ordering} (o : IsTotalOrder R) where
   Point es k i = IsPartitionPoint (λ e. R e.0 k ≡ Less) (λ e. R e.0 k ≡ Greater) es i
 
   -- A search that hits.
-  pub hit : IsAntisymmetric R → (es : List (K × X)) (k : K) (i : ℕ) (d : K × X) → IsTrue (is_sorted R es) → i < length es → ((d : K × X) → R (get_or es i d).0 k ≡ Equal) → Some (get_or es i d).1 ≡ find R k es
+  pub hit : IsAntisymmetric R → (es : List (K × X)) (k : K) (i : ℕ) (d : K × X) → IsTrue (is_sorted R es) → i < length es
+      → ((d : K × X) → R (get_or es i d).0 k ≡ Equal) → Some (get_or es i d).1 ≡ find R k es
   hit same es k i d rises low at = sym (find_found o es i k d rises low (λ d. same _ _ (at d)))
 
   -- A search that misses.
-  pub miss : (es : List (K × X)) (k : K) (i : ℕ) → IsTrue (is_sorted R es) → (IsNonDecreasingBy (λ e. ordering_index (R e.0 k)) es → Point es k i) → None ≡ find R k es
+  pub miss : (es : List (K × X)) (k : K) (i : ℕ) → IsTrue (is_sorted R es) → (IsNonDecreasingBy (λ e. ordering_index (R e.0 k)) es → Point es k i)
+      → None ≡ find R k es
   miss es k i rises point = sym (find_missing o es i k (point (entries_searchable o es k rises)))
 
 pub ruleset sorted_entries = (entries_of, slice_seen, get_seen, rises_seen)

@@ -42,7 +42,7 @@ values_in es = filter_map (λ e. result_ok e.1) es
 
 -- ---- pairs of files
 
--- Each element with each that stands behind it, by the first and then by the second.
+-- Each element with each that is after it, by the first and then by the second.
 abbrev pub pairs_of : {X : Type 0} → List X → List (X × X)
 pairs_of [] = []
 pairs_of (x ∷ xs) = map (λ y. (x, y)) xs ++ pairs_of xs

@@ -13,11 +13,11 @@ abbrev pub name_in : List (List ℕ) → Option (List ℕ)
 name_in (first ∷ name ∷ field ∷ []) = Some name
 name_in _ = None
 
--- The names that stand behind a first segment, in keys of three segments that have a value.
+-- The names that are after a first segment, in keys of three segments that have a value.
 abbrev pub names_below : FinMap key_cmp Scalar → List ℕ → List (List ℕ)
 names_below values first = rising (filter_map (λ e. name_in e.0) (entries_below values (first ∷ [])))
 
--- What stands at the two fields of a name.
+-- What is at the two fields of a name.
 abbrev pub fields_at : FinMap key_cmp Scalar → List ℕ → List ℕ → List ℕ → List ℕ → Fields
 fields_at values first one other name = record { one = get values (first ∷ name ∷ one ∷ []); other = get values (first ∷ name ∷ other ∷ []) }
 

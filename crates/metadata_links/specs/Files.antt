@@ -50,6 +50,6 @@ file_of name f = file_with name (option_and_then text_in f.one) (option_and_then
 abbrev pub files_from : List (List ℕ × Fields) → List (List ℕ × Result FileRow ManifestError)
 files_from es = filter_map (λ e. option_map (λ r. (e.0, r)) (file_of e.0 e.1)) es
 
--- The files by name: the texts stand at `configuration-files.NAME.path` and `configuration-files.NAME.template-path`.
+-- The files by name: the texts are at `configuration-files.NAME.path` and `configuration-files.NAME.template-path`.
 abbrev pub files_in : Contents → List (List ℕ × Result FileRow ManifestError)
 files_in content = files_from (fields_below content.values (codes "configuration-files") (codes "path") (codes "template-path"))

@@ -16,7 +16,8 @@ fields_of found name = unwrap_or (get found name) no_fields
 
 -- The fields with the value in the one that is named, if either is.
 abbrev pub with_field : List ℕ → List ℕ → List ℕ → Scalar → Fields → Fields
-with_field one other field value f = if bytes_eq field one then record f { one = Some value } else if bytes_eq field other then record f { other = Some value } else f
+with_field one other field value f = if bytes_eq field one then record f { one = Some value } else if bytes_eq field other then record f { other = Some value }
+    else f
 
 -- The map with the value in a field of a name.
 abbrev pub with_named : List ℕ → List ℕ → List ℕ → List ℕ → Scalar → FinMap bytes_cmp Fields → FinMap bytes_cmp Fields

@@ -1,5 +1,6 @@
 -- The nearest list of a key, and the look-ups that find it.
-use Rattle.std.specs.Prelude.{ℕ, zero, suc, ◌+◌, ◌-◌, min, max, Bool, ◌&&◌, nat_lt, List, [], length, filter, map, take, unwrap_or, is_some, sum_by, if◌then◌else◌}
+use Rattle.std.specs.Prelude.{ℕ, zero, suc, ◌+◌, ◌-◌, min, max, Bool, ◌&&◌, nat_lt}
+use Rattle.std.specs.Prelude.{List, [], length, filter, map, take, unwrap_or, is_some, sum_by, if◌then◌else◌}
 use Rattle.std.specs.List.{flat_map}
 use Rattle.std.specs.FinMap.{FinMap, get, entries}
 use Rattle.key_names.specs.Key.{is_prefix}

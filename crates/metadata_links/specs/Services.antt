@@ -21,6 +21,6 @@ service_of f = service_with (option_and_then texts_in f.one) (option_and_then te
 abbrev pub services_from : List (List ℕ × Fields) → List (List ℕ × Service)
 services_from es = filter_map (λ e. option_map (λ s. (e.0, s)) (service_of e.1)) es
 
--- The services by name: the lists stand at `services.NAME.configuration-files` and `services.NAME.restart-commands`.
+-- The services by name: the lists are at `services.NAME.configuration-files` and `services.NAME.restart-commands`.
 abbrev pub services_in : Contents → List (List ℕ × Service)
 services_in content = services_from (fields_below content.values (codes "services") (codes "configuration-files") (codes "restart-commands"))

@@ -25,7 +25,8 @@ pub(crate) fn has_word(text: &Text) -> bool
 }
 
 fn push_word(words: &mut Vec<String>, alloc: Global, word: &str) -> Result<(), AllocError>
-    ensures { OnOk result (map (λ w. string_bytes w) words.new.items ≡ map (λ w. string_bytes w) words.old.items ++ filter (λ word. nat_lt 0 (length word)) (word.now ∷ [])) }
+    ensures { OnOk result (map (λ w. string_bytes w) words.new.items ≡ map (λ w. string_bytes w) words.old.items
+        ++ filter (λ word. nat_lt 0 (length word)) (word.now ∷ [])) }
 {
     if !word.is_empty() {
         words.push(String::from_str(alloc, word)?)?;
@@ -33,7 +34,7 @@ fn push_word(words: &mut Vec<String>, alloc: Global, word: &str) -> Result<(), A
     Ok(())
 }
 
-// The part before the first space, and what stands behind it.
+// The part before the first space, and what is after it.
 fn cut(text: &str) -> Option<(&str, &str)>
     ensures parts { MatchOption result (slice_split (λ b. b == 32) text.now ≡ text.now ∷ [])
         (λ p. slice_split (λ b. b == 32) text.now ≡ p.0.now ∷ slice_split (λ b. b == 32) p.1.now) }
@@ -42,7 +43,7 @@ fn cut(text: &str) -> Option<(&str, &str)>
     text.split_once(' ')
 }
 
-/// The words between runs of spaces. It takes one pass. The only error is want of memory.
+/// The words between runs of spaces. It takes one pass. The only error is out of memory.
 #[tactic(auto, using(crate::proofs::Spaces::words))]
 pub(crate) fn words_in(alloc: Global, text: &str) -> Result<Vec<String>, AllocError>
     ensures { IfOk result (λ words. map (λ w. string_bytes w) words.items ≡ words_in text.now) }

@@ -15,7 +15,7 @@ use settings_tree::Content;
 use std::alloc::{AllocError, Global};
 use std::collections::BTreeMap;
 
-/// What stands at two fields of a name.
+/// What is at two fields of a name.
 #[derive(Debug, Drop)]
 pub struct Fields {
     /// The value of the first field.
@@ -106,8 +106,8 @@ fn gather(
     Ok(found)
 }
 
-/// The fields of each name, by name: what stands at `FIRST.NAME.ONE` and at `FIRST.NAME.OTHER`. It
-/// takes a logarithmic step for each value below `FIRST`. The only error is want of memory.
+/// The fields of each name, by name: what is at `FIRST.NAME.ONE` and at `FIRST.NAME.OTHER`. It
+/// takes a logarithmic step for each value below `FIRST`. The only error is out of memory.
 pub(crate) fn fields_below(
     alloc: Global,
     content: &Content,

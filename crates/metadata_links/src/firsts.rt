@@ -32,7 +32,7 @@ impl Firsts {
         }
     }
 
-    /// Puts a copy of the name at the end, unless the list has it. The only error is want of memory.
+    /// Puts a copy of the name at the end, unless the list has it. The only error is out of memory.
     pub fn add(&mut self, name: &Text) -> Result<(), AllocError>
         ensures { OnOk result (self.new ≡ insert_key bytes_eq self.old name.now) }
     {
@@ -42,7 +42,7 @@ impl Firsts {
     }
 
     /// Puts copies of those of the names at the end that the list doesn't have yet. The only error is
-    /// want of memory.
+    /// out of memory.
     pub fn add_all(&mut self, names: &[Text]) -> Result<(), AllocError>
         ensures { OnOk result (self.new ≡ insert_all bytes_eq self.old names.now) }
     {
@@ -52,7 +52,7 @@ impl Firsts {
         Ok(())
     }
 
-    /// The names. The only error is want of memory.
+    /// The names. The only error is out of memory.
     pub fn into_vec(self) -> Result<Vec<Text>, AllocError>
         ensures { IfOk result (λ names. names.items ≡ self) }
     {

@@ -70,7 +70,7 @@ impl Model for Index {
     ghost invariant = { λ n. IsTrue (is_sorted key_cmp n.entries.items) };
 }
 
-// How a key stands to the first segments, so many, of another.
+// How a key compares to the first segments, so many, of another.
 fn cmp_to_prefix(own: &Key, key: &Key, len: usize) -> Ordering
     requires { len ≤ length key.now }
     ensures { result ≡ key_cmp own.now (take len key.now) }

@@ -60,7 +60,7 @@ impl Index {
     }
 
     /// The keys that have a list, are longer than the path and begin with it, rising. It takes one
-    /// logarithmic search and a step for each of them. The only error is want of memory.
+    /// logarithmic search and a step for each of them. The only error is out of memory.
     pub(crate) fn listed_below(&self, path: &Key) -> Result<Vec<Key>, AllocError>
         ensures { IfOk result (λ keys. keys.items ≡ listed_below self.now path.now) }
     {
@@ -90,7 +90,7 @@ impl Index {
 
     /// The services that the nearest lists of the keys name, rising. For each key it takes a step for
     /// each length from the key's own down to the greatest that has a list, or down to 1 where none
-    /// has. The only error is want of memory, after at most these steps.
+    /// has. The only error is out of memory, after at most these steps.
     pub fn affected(&self, keys: &KeyList, probes: &mut Steps) -> Result<Vec<Text>, AllocError>
         ensures services { IfOk result (λ services. services.items ≡ aff self.now keys.now) }
         ensures counted { OnOk result (probes.new ≡ stepped probes.old (all_steps self.now keys.now)) }

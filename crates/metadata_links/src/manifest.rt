@@ -91,9 +91,9 @@ impl Manifest {
     ghost use Rattle.metadata_links.specs.Nearest.{near, listed_below};
     ghost use Rattle.metadata_links.specs.declared.manifest_error.ManifestError.TheVariants.{Memory};
 
-    /// The manifest of the content. A service is there where a list of texts stands at
+    /// The manifest of the content. A service is there where a list of texts is at
     /// `services.NAME.configuration-files` or `services.NAME.restart-commands`; the other list may be
-    /// missing and is then empty. A file is there where a text stands at
+    /// missing and is then empty. A file is there where a text is at
     /// `configuration-files.NAME.path` or `configuration-files.NAME.template-path`. Values of other
     /// keys and forms, which the built-in types refuse, count for nothing.
     ///
@@ -136,7 +136,7 @@ impl Manifest {
     }
 
     /// The services that the owed keys affect, rising: those in the nearest lists of the keys, and
-    /// every service where all is owed. It goes by the index. The only error is want of memory.
+    /// every service where all is owed. It goes by the index. The only error is out of memory.
     pub fn affected(&self, owed: &Owed) -> Result<Vec<Text>, AllocError>
         ensures { IfOk result (λ names. names.items ≡ affected self.now owed.now) }
     {
@@ -183,7 +183,7 @@ impl Manifest {
 
     /// The files of the affected services, services by name and files as listed, first occurrences
     /// alone. Where all is owed, the files that no service lists follow by name. Each of them is a file
-    /// of the manifest. The only error is want of memory.
+    /// of the manifest. The only error is out of memory.
     pub fn files_of(&self, owed: &Owed) -> Result<Vec<Text>, AllocError>
         ensures files { IfOk result (λ files. files.items ≡ files_of self.now owed.now) }
         ensures known { IfOk result (λ files. All (λ file. IsSome (finite.get self.now.files file)) files.items) }
@@ -218,7 +218,7 @@ impl Manifest {
     }
 
     /// The restart commands of the affected services, services by name and commands as listed, each
-    /// split at runs of spaces, into a word at least. The only error is want of memory.
+    /// split at runs of spaces, into a word at least. The only error is out of memory.
     pub fn commands_of(&self, owed: &Owed) -> Result<Vec<Command>, AllocError>
         ensures commands { IfOk result (λ commands. map seen commands.items ≡ commands_of self.now owed.now) }
         ensures worded { IfOk result (λ commands. All (λ c. 0 < length c.words.items) commands.items) }
@@ -235,7 +235,7 @@ impl Manifest {
         self.files.get(name)
     }
 
-    /// The names of all files, rising. The only error is want of memory.
+    /// The names of all files, rising. The only error is out of memory.
     pub fn file_names(&self) -> Result<Vec<Text>, AllocError>
         ensures { IfOk result (λ names. names.items ≡ finite.keys self.now.files) }
     {
@@ -243,7 +243,7 @@ impl Manifest {
     }
 
     /// The services that list the file, rising. It takes one pass over the services' lists of files.
-    /// The only error is want of memory.
+    /// The only error is out of memory.
     pub fn services_of(&self, file: &[u8]) -> Result<Vec<Text>, AllocError>
         ensures { IfOk result (λ names. names.items ≡ services_of self.now file.now) }
     {
@@ -251,7 +251,7 @@ impl Manifest {
     }
 
     /// The keys that have `affected-services`, are longer than the path and begin with it, rising.
-    /// `nearest` of such a key is its own list. The only error is want of memory.
+    /// `nearest` of such a key is its own list. The only error is out of memory.
     pub fn listed_below(&self, path: &Key) -> Result<Vec<Key>, AllocError>
         ensures { IfOk result (λ keys. keys.items ≡ listed_below self.now.index path.now) }
     {

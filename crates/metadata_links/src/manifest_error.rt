@@ -57,7 +57,7 @@ pub enum ManifestError {
         /// The service.
         service: Text,
     },
-    /// Memory was wanting. It says nothing of the content.
+    /// Out of memory. It says nothing of the content.
     Memory,
 }
 

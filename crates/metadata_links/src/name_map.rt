@@ -70,7 +70,7 @@ impl<V: Drop> NameMap<V> {
         &self.entries
     }
 
-    /// The names, rising. The only error is want of memory.
+    /// The names, rising. The only error is out of memory.
     pub fn names(&self) -> Result<Vec<Text>, AllocError>
         ensures { IfOk result (λ names. names.items ≡ finite.keys self.now) }
     {

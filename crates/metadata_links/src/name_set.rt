@@ -45,7 +45,7 @@ impl NameSet {
     }
 
     /// Adds a copy of the name, and answers whether it is new. It is logarithmic. The only error is
-    /// want of memory.
+    /// out of memory.
     pub fn add(&mut self, name: &Text) -> Result<bool, AllocError>
         ensures added { IfOk result (λ added. added ≡ not (map.contains_key self.old name.now)) }
         ensures ok { OnOk result (self.new ≡ with_member self.old name.now) }

@@ -61,7 +61,7 @@ fn push_service(
     Ok(())
 }
 
-/// The services of the content, by name. The only error is want of memory.
+/// The services of the content, by name. The only error is out of memory.
 pub(crate) fn services_in(alloc: Global, content: &Content) -> Result<NameMap<Service>, AllocError>
     ensures { IfOk result (λ services. entries services ≡ services_in content.now) }
 {

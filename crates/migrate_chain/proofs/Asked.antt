@@ -14,7 +14,7 @@ asked_more (m ∷ a) b x y are more = (are.0, are.1 ++ y, ap (λ l. l ++ y) are.
 pub asked_none : (old : List Question) → HasAskedFor [] old old
 asked_none old = record { asked = []; new_is = sym (append-nil old); are = refl }
 
--- What was asked for some migrations, and behind it for others, was asked for all.
+-- What was asked for some migrations, and after it for others, was asked for all.
 pub asked_then : {a b : List Mapped} {old mid new : List Question} → HasAskedFor a old mid → HasAskedFor b mid new → HasAskedFor (a ++ b) old new
 asked_then {a = a} {b = b} {old = old} first then = record {
   asked = first.asked ++ then.asked;

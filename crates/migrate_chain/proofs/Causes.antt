@@ -29,7 +29,8 @@ failed_so : (e : TaskError) (name own : List ℕ) → Names own e → e ≡ unma
 failed_so e name own names is = subst (Names own) is names
 
 -- A task's failure has the task's name.
-pub cause_task : {S T : Type 0} (r : Result T TaskError) (e : TaskError) (own : List ℕ) (x z y : ℕ) → z ≡ x → IsErrAnd r (λ v. v ≡ e) → Names own e → HasCauseOf {T = S} (unmade.Failed own) z y (Err e) → HasNamedCause unmade.Failed x y r
+pub cause_task : {S T : Type 0} (r : Result T TaskError) (e : TaskError) (own : List ℕ) (x z y : ℕ) → z ≡ x → IsErrAnd r (λ v. v ≡ e) → Names own e
+    → HasCauseOf {T = S} (unmade.Failed own) z y (Err e) → HasNamedCause unmade.Failed x y r
 cause_task (Ok v) e own x z y same is names cause = absurd is
 cause_task (Err v) e own x z y same is names cause = record {
   later = subst (λ n. n ≤ y) same cause.later;
@@ -50,7 +51,8 @@ spawned (unmade.BadAnswer at) name is = cc
 spawned (unmade.Failed at) name is = let same : at ≡ name = cc in ap (λ n. unmade.Failed n) same
 spawned unmade.Memory name is = cc
 
-pub cause_spawned : {S T : Type 0} (r : Result T MoveError) (e : TaskError) (x z y : ℕ) → z ≡ x → IsErrAnd r (λ v. v ≡ of_task e) → HasNamedCause {T = S} unmade.Failed z y (Err e) → HasNamedCause Spawn x y r
+pub cause_spawned : {S T : Type 0} (r : Result T MoveError) (e : TaskError) (x z y : ℕ) → z ≡ x → IsErrAnd r (λ v. v ≡ of_task e)
+    → HasNamedCause {T = S} unmade.Failed z y (Err e) → HasNamedCause Spawn x y r
 cause_spawned (Ok v) e x z y same is cause = absurd is
 cause_spawned (Err v) e x z y same is cause = record {
   later = subst (λ n. n ≤ y) same cause.later;
@@ -60,7 +62,8 @@ cause_spawned (Err v) e x z y same is cause = record {
 }
 
 -- The same error is handed on.
-pub cause_handed : {S T : Type 0} (r : Result T MoveError) (e : MoveError) (x y : ℕ) → IsErrAnd r (λ v. v ≡ e) → HasNamedCause {T = S} Spawn x y (Err e) → HasNamedCause Spawn x y r
+pub cause_handed : {S T : Type 0} (r : Result T MoveError) (e : MoveError) (x y : ℕ) → IsErrAnd r (λ v. v ≡ e) → HasNamedCause {T = S} Spawn x y (Err e)
+    → HasNamedCause Spawn x y r
 cause_handed (Ok v) e x y is cause = absurd is
 cause_handed (Err v) e x y is cause = record {
   later = cause.later;
@@ -70,7 +73,8 @@ cause_handed (Err v) e x y is cause = record {
 }
 
 -- The spawner was not asked, or answered all it was asked, and the error is another.
-pub cause_quiet : {T : Type 0} (r : Result T MoveError) (e : MoveError) (x y : ℕ) → y ≡ x → IsErrAnd r (λ v. v ≡ e) → (IsRefusal e → ⊥) → HasNamedCause Spawn x y r
+pub cause_quiet : {T : Type 0} (r : Result T MoveError) (e : MoveError) (x y : ℕ) → y ≡ x → IsErrAnd r (λ v. v ≡ e) → (IsRefusal e → ⊥)
+    → HasNamedCause Spawn x y r
 cause_quiet (Ok v) e x y same is quiet = absurd is
 cause_quiet (Err v) e x y same is quiet = record {
   later = subst (λ n. x ≤ n) (sym same) (omega arith);
@@ -89,7 +93,8 @@ cause_done v x y same = record {
 }
 
 -- It was not asked since, whatever else is answered.
-pub cause_unasked : {S T : Type 0} (v : S) (r : Result T MoveError) (x y : ℕ) → IfErr r (λ e. IsRefusal e → ⊥) → HasNamedCause {E = MoveError} Spawn x y (Ok v) → HasNamedCause Spawn x y r
+pub cause_unasked : {S T : Type 0} (v : S) (r : Result T MoveError) (x y : ℕ) → IfErr r (λ e. IsRefusal e → ⊥) → HasNamedCause {E = MoveError} Spawn x y (Ok v)
+    → HasNamedCause Spawn x y r
 cause_unasked v (Ok w) x y quiet cause = cause_done w x y cause.kept
 cause_unasked v (Err e) x y quiet cause = cause_quiet (Err e) e x y cause.kept refl quiet
 
@@ -100,7 +105,8 @@ disk_quiet device.Memory refusal = refusal
 -- ---- the disk
 
 -- The same error is handed on.
-pub cause_passed : {S T E : Type 0} (r : Result T E) (failure e : E) (x y : ℕ) → IsErrAnd r (λ v. v ≡ e) → HasCauseOf {T = S} failure x y (Err e) → HasCauseOf failure x y r
+pub cause_passed : {S T E : Type 0} (r : Result T E) (failure e : E) (x y : ℕ) → IsErrAnd r (λ v. v ≡ e) → HasCauseOf {T = S} failure x y (Err e)
+    → HasCauseOf failure x y r
 cause_passed (Ok v) failure e x y is cause = absurd is
 cause_passed (Err v) failure e x y is cause = record {
   later = cause.later;

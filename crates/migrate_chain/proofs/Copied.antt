@@ -1,5 +1,6 @@
 -- A copy is saved in a directory to which the links don't lead.
-use Rattle.std.proofs.Common.{◌≡◌, ◌≢◌, ℕ, List, [], ◌∷◌, ◌++◌, Option, Some, None, IsSome, Result, Ok, Err, refl, sym, ◌∙◌, ap, subst, length, take, arith, length-append}
+use Rattle.std.proofs.Common.{◌≡◌, ◌≢◌, ℕ, List, [], ◌∷◌, ◌++◌, Option, Some, None, IsSome}
+use Rattle.std.proofs.Common.{Result, Ok, Err, refl, sym, ◌∙◌, ap, subst, length, take, arith, length-append}
 use Rattle.std.specs.Result.{result_and}
 use Rattle.std.proofs.lemmas.Bool.{false≢true}
 use Rattle.std.proofs.Math.Seq.{take-append_seam}
@@ -48,7 +49,8 @@ length-id id = length-hex 16 id
 one_version : (one other : Target) → name_of (numbers one) ≡ name_of (numbers other)
     → patch_name one.version.major one.version.minor one.version.patch ≡ patch_name other.version.major other.version.minor other.version.patch
 one_version one other same =
-    fronts_same (patch_name one.version.major one.version.minor one.version.patch) (patch_name other.version.major other.version.minor other.version.patch) (95 ∷ id_text one.id) (95 ∷ id_text other.id) (omega (arith, length-id one.id, length-id other.id)) same
+    fronts_same (patch_name one.version.major one.version.minor one.version.patch) (patch_name other.version.major other.version.minor other.version.patch)
+    (95 ∷ id_text one.id) (95 ∷ id_text other.id) (omega (arith, length-id one.id, length-id other.id)) same
 
 -- A data directory that is free is another than the one to which the links lead.
 pub free_is_other : (tree : Tree) (target : Target) (place : Place) → IsFree tree target → Resolves tree (at_place place) → directory target ≢ place.directory
@@ -59,10 +61,12 @@ free_is_other tree target place free (id, led, at) same =
 
 -- Where no path is listed, there is none.
 empty : (target : Target) (tree : Tree) → IsFree tree target → IsEmptyBelow (directory target) tree
-empty target tree free name rest = elim (files_below (directory target) tree (name ∷ rest)) as (λ o. files_below (directory target) tree (name ∷ rest) ≡ o → o ≡ None) [
-  | None ↦ λ e. refl
-  | Some node ↦ λ e. absurd (false≢true (sym (ap (in_list (directory target ++ name ∷ rest)) free.empty) ∙ each_listed (directory target) tree name rest (subst IsSome (sym e) refl)))
-] refl
+empty target tree free name rest = elim (files_below (directory target) tree (name ∷ rest)) as
+    (λ o. files_below (directory target) tree (name ∷ rest) ≡ o → o ≡ None) [
+      | None ↦ λ e. refl
+      | Some node ↦ λ e. absurd (false≢true (sym (ap (in_list (directory target ++ name ∷ rest)) free.empty)
+          ∙ each_listed (directory target) tree name rest (subst IsSome (sym e) refl)))
+    ] refl
 
 -- Changes below one directory are changes below another than that one.
 map_at : (Q R : Names → Type 0) → ((p : Names) → Q p → R p) → (change : Change) → IsAtOrSync Q change → IsAtOrSync R change
@@ -70,31 +74,47 @@ map_at Q R f (replaced path now) here = f path here
 map_at Q R f (scribbled path now) here = f path here
 map_at Q R f synced here = tt
 
-touches_other : (target : Target) (dir : Names) (old new : History) → directory target ≢ dir → Touches (IsBelow (directory target)) old new → Touches (IsInOther dir) old new
+touches_other : (target : Target) (dir : Names) (old new : History) → directory target ≢ dir → Touches (IsBelow (directory target)) old new
+    → Touches (IsInOther dir) old new
 touches_other target dir old new other touches =
-    goes_map (IsAtOrSync (IsBelow (directory target))) (IsAtOrSync (IsInOther dir)) old new (map_at (IsBelow (directory target)) (IsInOther dir) (λ p below. record { target = target; other = other; below = below })) touches
+    goes_map (IsAtOrSync (IsBelow (directory target))) (IsAtOrSync (IsInOther dir)) old new
+    (map_at (IsBelow (directory target)) (IsInOther dir) (λ p below. record { target = target; other = other; below = below })) touches
 
 module _ (version : Version) (held : Held) where
   -- No directory is found.
   pub copy_none : (e : DiskErr) (a b : Option History) → b ≡ a → Moves a b (Copies version held (Err e))
-  copy_none e a b same = moves_same same (λ h. record { others = record { touches = λ place led. goes_stay (IsAtOrSync (IsInOther place.directory)) h }; copied = tt })
+  copy_none e a b same = moves_same same (λ h. record {
+    others = record { touches = λ place led. goes_stay (IsAtOrSync (IsInOther place.directory)) h };
+    copied = tt;
+  })
 
   -- What is held is not saved whole.
-  copy_fails : (e : DiskErr) (target : Target) (dir : Names) (a b c : Option History) → WhereTold a (λ h. IsFirstFree (tree_of h) target) → b ≡ a → dir ≡ directory target → Moves b c (Saves {E = DiskErr} dir held (Err e)) → Moves a c (Copies version held (Err e))
+  copy_fails : (e : DiskErr) (target : Target) (dir : Names) (a b c : Option History) → WhereTold a (λ h. IsFirstFree (tree_of h) target) → b ≡ a
+      → dir ≡ directory target → Moves b c (Saves {E = DiskErr} dir held (Err e)) → Moves a c (Copies version held (Err e))
   copy_fails e target dir a b c first same at m = moves_map (λ old new both. record {
-    others = record { touches = λ place led. touches_other target place.directory old new (free_is_other (tree_of old) target place both.0.free led) (subst (λ d. Touches (IsBelow d) old new) at both.1.others.touches) };
+    others = record {
+      touches = λ place led. touches_other target place.directory old new (free_is_other (tree_of old) target place both.0.free led)
+          (subst (λ d. Touches (IsBelow d) old new) at both.1.others.touches);
+    };
     copied = tt;
   }) (moves_where first (moves_after same m))
 
   -- What is held is saved.
-  copy_done : (done : Unit) (target : Target) (dir : Names) (a b c : Option History) → target.version ≡ version → WhereTold a (λ h. IsFirstFree (tree_of h) target) → b ≡ a → dir ≡ directory target → Moves b c (Saves {E = DiskErr} dir held (Ok done)) → Moves a c (Copies {E = DiskErr} version held (Ok target))
+  copy_done : (done : Unit) (target : Target) (dir : Names) (a b c : Option History) → target.version ≡ version
+      → WhereTold a (λ h. IsFirstFree (tree_of h) target) → b ≡ a → dir ≡ directory target → Moves b c (Saves {E = DiskErr} dir held (Ok done))
+      → Moves a c (Copies {E = DiskErr} version held (Ok target))
   copy_done done target dir a b c same_version first same at m = moves_map (λ old new both.
       let saves = subst (λ d. Saves {E = DiskErr} d held (Ok done) old new) at both.1 in record {
-        others = record { touches = λ place led. touches_other target place.directory old new (free_is_other (tree_of old) target place both.0.free led) saves.others.touches };
+        others = record {
+          touches = λ place led. touches_other target place.directory old new (free_is_other (tree_of old) target place both.0.free led)
+              saves.others.touches;
+        };
         copied = record { version_is = same_version; first = both.0; stands = saves.done (empty target (tree_of old) both.0.free); settled = saves.settled };
       }) (moves_where first (moves_after same m))
 
   -- It is saved, or not.
-  pub copy_saves : (saved : Result Unit DiskErr) (target : Target) (dir : Names) (a b c : Option History) → target.version ≡ version → WhereTold a (λ h. IsFirstFree (tree_of h) target) → b ≡ a → dir ≡ directory target → Moves b c (Saves dir held saved) → Moves a c (Copies version held (result_and saved (Ok target)))
+  pub copy_saves : (saved : Result Unit DiskErr) (target : Target) (dir : Names) (a b c : Option History) → target.version ≡ version
+      → WhereTold a (λ h. IsFirstFree (tree_of h) target) → b ≡ a → dir ≡ directory target → Moves b c (Saves dir held saved)
+      → Moves a c (Copies version held (result_and saved (Ok target)))
   copy_saves (Ok done) target dir a b c same_version first same at m = copy_done done target dir a b c same_version first same at m
   copy_saves (Err e) target dir a b c same_version first same at m = copy_fails e target dir a b c first same at m

@@ -1,5 +1,6 @@
 -- A store is moved to a version, as a whole.
-use Rattle.std.proofs.Common.{◌≡◌, inl, inr, ◌⊎◌, ℕ, Bool, true, false, ◌&&◌, List, [], ◌∷◌, map, length, Option, Result, Ok, Err, refl, sym, ◌∙◌, ap, subst, codes, arith}
+use Rattle.std.proofs.Common.{◌≡◌, inl, inr, ◌⊎◌, ℕ, Bool, true, false, ◌&&◌, List, [], ◌∷◌}
+use Rattle.std.proofs.Common.{map, length, Option, Result, Ok, Err, refl, sym, ◌∙◌, ap, subst, codes, arith}
 use Rattle.std.specs.Prelude.{IsTrue, Contains, OnOk, IfErr, IsErrOf, reverse}
 use Rattle.std.specs.List.{list_all}
 use Rattle.std.proofs.lemmas.Result.{IfErr-weaker}
@@ -8,7 +9,7 @@ use Rattle.std.proofs.lemmas.List.{length-map, length-reverse, reverse-append}
 use Rattle.std.proofs.lemmas.List.Folds.{list_all_at, list_all-append}
 use Rattle.outside.specs.Names.{Names}
 use Rattle.outside.specs.Tree.{Tree}
-use Rattle.outside.specs.History.{History, next, synced, tree_of, IsSettled}
+use Rattle.outside.specs.History.{History, next, synced, tree_of, IsImage}
 use Rattle.outside.specs.Since.{EachSince, IsAtOrSync, Touches}
 use Rattle.outside.specs.Told.{Moves}
 use Rattle.outside.proofs.Crash.{settled_image, settled_synced}
@@ -33,7 +34,8 @@ use Rattle.release_file.specs.declared.plan_error.PlanError.TheVariants as plan
 use Rattle.migrate_chain.specs.declared.task_error.TaskError.{TaskError}
 use Rattle.migrate_chain.specs.declared.task_error.TaskError.TheVariants as unmade
 use Rattle.migrate_chain.specs.declared.move_error.MoveError.{MoveError}
-use Rattle.migrate_chain.specs.declared.move_error.MoveError.TheVariants.{NoStore, BadLink, BadJournal, Damaged, Missing, Conflict, Status, BadAnswer, Spawn, Failed, Memory}
+use Rattle.migrate_chain.specs.declared.move_error.MoveError.TheVariants.{NoStore, BadLink, BadJournal, Damaged, Missing}
+use Rattle.migrate_chain.specs.declared.move_error.MoveError.TheVariants.{Conflict, Status, BadAnswer, Spawn, Failed, Memory}
 use Rattle.migrate_chain.specs.Errors.{of_disk, of_task, of_plan}
 use Rattle.release_file.specs.Order.{is_before}
 use Rattle.release_file.specs.Release.{leads_on}
@@ -43,7 +45,7 @@ use Rattle.migrate_chain.specs.Tasks.{Task, Mapped, Refused, tasks_of}
 use Rattle.migrate_chain.specs.Store.{at_place, HasStore}
 use Rattle.migrate_chain.specs.Starting.{Starts, IsReady, IsFound}
 use Rattle.migrate_chain.specs.Moving.{IsAtHand, HasMoved, HasOldOrNew, MovesAlong, Ends, IsAnswer, IsBehind, IsRefusal, is_early}
-use Rattle.migrate_chain.specs.Migrating.{HasMigrated, IsThere, HasSome, Migrates}
+use Rattle.migrate_chain.specs.Migrating.{HasMigrated, IsThere, HasSome, Migrates, SinceStart}
 use Rattle.migrate_chain.proofs.Stays.{standing}
 use Rattle.migrate_chain.proofs.Along.{in_store}
 use Rattle.std.proofs.lemmas.Result.{IfOk-weaker}
@@ -61,27 +63,32 @@ both_true true true one two = refl
 both_true true false one two = two
 both_true false b one two = one
 
-chain_known : (p : Transition → Bool) (all : List Transition) (target at : Version) (chain : List Transition) (end : Version) → IsTrue (list_all p all) → Leads all target at chain end → IsTrue (list_all p chain)
+chain_known : (p : Transition → Bool) (all : List Transition) (target at : Version) (chain : List Transition) (end : Version) → IsTrue (list_all p all)
+    → Leads all target at chain end → IsTrue (list_all p chain)
 chain_known p all target at [] end holds led = refl
-chain_known p all target at (t ∷ chain) end holds led = both_true (p t) (list_all p chain) (contained p all t holds led.0.listed) (chain_known p all target t.to chain end holds led.1)
+chain_known p all target at (t ∷ chain) end holds led = both_true (p t) (list_all p chain) (contained p all t holds led.0.listed)
+    (chain_known p all target t.to chain end holds led.1)
 
 reversed_known : (p : Transition → Bool) (ts : List Transition) → IsTrue (list_all p ts) → IsTrue (list_all p (reverse ts))
 reversed_known p [] holds = refl
 reversed_known p (t ∷ ts) holds =
     let parts = both_parts (p t) (list_all p ts) holds in
-    ap (list_all p) (reverse-append (t ∷ []) ts) ∙ list_all-append p (reverse ts) (t ∷ []) ∙ both_true (list_all p (reverse ts)) (list_all p (t ∷ [])) (reversed_known p ts parts.1) (both_true (p t) true parts.0 refl)
+    ap (list_all p) (reverse-append (t ∷ []) ts) ∙ list_all-append p (reverse ts) (t ∷ [])
+    ∙ both_true (list_all p (reverse ts)) (list_all p (t ∷ [])) (reversed_known p ts parts.1) (both_true (p t) true parts.0 refl)
   where
     both_parts : (a b : Bool) → (a && b) ≡ true → (a ≡ true) × (b ≡ true)
     both_parts true b e = (refl, e)
     both_parts false b e = absurd (false≢true e)
 
 -- What is known of all steps is known of those of a way.
-pub way_known : (p : Transition → Bool) (known all : List Transition) (from to : Version) (way : List Transition) → known ≡ all → IsTrue (list_all p all) → IsWay known from to way → IsTrue (list_all p way)
+pub way_known : (p : Transition → Bool) (known all : List Transition) (from to : Version) (way : List Transition) → known ≡ all → IsTrue (list_all p all)
+    → IsWay known from to way → IsTrue (list_all p way)
 way_known p known all from to way same holds is =
     subst (λ l. IsTrue (list_all p l)) (sym is.way_is) (turned (is_back from to))
   where
     chained : IsTrue (list_all p is.chain)
-    chained = chain_known p known (upper (is_back from to) from to) (lower (is_back from to) from to) is.chain (upper (is_back from to) from to) (ap (list_all p) same ∙ holds) is.is_chain.led
+    chained = chain_known p known (upper (is_back from to) from to) (lower (is_back from to) from to) is.chain (upper (is_back from to) from to)
+        (ap (list_all p) same ∙ holds) is.is_chain.led
 
     turned : (b : Bool) → IsTrue (list_all p (in_order b is.chain))
     turned true = reversed_known p is.chain chained
@@ -103,12 +110,14 @@ no_steps all from to way none is = by (is_back from to) is.chain is.is_chain.led
   by b chain led e = ends b chain (size b chain e) led
 
 -- Where the versions are one, no step is to be made.
-pub no_way_on : (all : List Transition) (from to : Version) (way : List Transition) → IsTrue (list_all leads_on all) → from ≡ to → IsWay all from to way → length way ≡ 0
+pub no_way_on : (all : List Transition) (from to : Version) (way : List Transition) → IsTrue (list_all leads_on all) → from ≡ to → IsWay all from to way
+    → length way ≡ 0
 no_way_on all from to way lead same is =
     let back = is_back from to in
     let steps = map (step_of back) way in
     let none : IsWay all from to [] = record { chain = []; is_chain = record { led = meets back }; way_is = in_any back } in
-    let empty : [] ≡ steps = plans_once all from to [] steps lead (record { way = []; is_way = none; steps_are = refl }) (record { way = way; is_way = is; steps_are = refl }) in
+    let empty : [] ≡ steps = plans_once all from to [] steps lead (record { way = []; is_way = none; steps_are = refl })
+    (record { way = way; is_way = is; steps_are = refl }) in
     sym (length-map way (step_of back)) ∙ sym (ap length empty)
   where
     meets : (b : Bool) → lower b from to ≡ upper b from to
@@ -121,15 +130,23 @@ no_way_on all from to way lead same is =
 
 -- ---- from the start on
 
-settled_since : (P : Tree → Type 0) (old new : History) → IsSettled old → P (tree_of old) → FromSyncOn (EachSince P) old new → EachSince P old new
-settled_since P old new settled here (inl is) = subst (λ h. EachSince P old h) (sym is) (since_start P old (λ image im. subst P (sym (settled_image old settled image im)) here))
-settled_since P old new settled here (inr since) =
-    since_joined P old (next synced old) new
-    (since_next P old old synced (since_start P old (λ image im. subst P (sym (settled_image old settled image im)) here)) (λ image im. subst P (sym (settled_image (next synced old) (settled_synced old) image im)) here)) since
+pub since_first : (P : Tree → Type 0) (old new : History) → P (tree_of old) → FromSyncOn (EachSince P) old new → SinceStart P old new
+since_first P old new here (inl is) = subst (λ h. SinceStart P old h) (sym is) (since_start (λ image. IsImage old image ⊎ P image) old (λ image im. inl im))
+since_first P old new here (inr since) =
+    since_joined (λ image. IsImage old image ⊎ P image) old (next synced old) new
+    (since_next (λ image. IsImage old image ⊎ P image) old old synced (since_start (λ image. IsImage old image ⊎ P image) old (λ image im. inl im))
+    (λ image im. inr (subst P (sym (settled_image (next synced old) (settled_synced old) image im)) here)))
+    (since_map P (λ image. IsImage old image ⊎ P image) (next synced old) new (λ image there. inr there) since)
+
+-- Where each tree that has P has Q.
+since_wider : (P Q : Tree → Type 0) (old new : History) → ((image : Tree) → P image → Q image) → SinceStart P old new → SinceStart Q old new
+since_wider P Q old new wider since = since_map (λ image. IsImage old image ⊎ P image) (λ image. IsImage old image ⊎ Q image) old new
+    (λ image either. elim either [ inl im ↦ inl im | inr there ↦ inr (wider image there) ]) since
 
 pub touched_since : (Q : Names → Type 0) (old new : History) → FromSyncOn (Touches Q) old new → Touches Q old new
 touched_since Q old new (inl is) = subst (λ h. Touches Q old h) (sym is) (goes_stay (IsAtOrSync Q) old)
-touched_since Q old new (inr more) = goes_joined (IsAtOrSync Q) old (next synced old) new (goes_next (IsAtOrSync Q) old old synced (goes_stay (IsAtOrSync Q) old) tt) more
+touched_since Q old new (inr more) = goes_joined (IsAtOrSync Q) old (next synced old) new
+    (goes_next (IsAtOrSync Q) old old synced (goes_stay (IsAtOrSync Q) old) tt) more
 
 -- ---- the errors
 
@@ -160,7 +177,8 @@ not_plan : (e : PlanError) (x : MoveError) → is_other x ≡ true → of_plan e
 not_plan e x other is = false≢true (sym (plan_is e) ∙ ap is_other is ∙ other)
 
 plan_told : (e : PlanError) (at target : Version) → of_plan e ≡ Missing at target → e ≡ plan.Missing at target
-plan_told (plan.Missing v w) at target is = let one : v ≡ at = cc in let two : w ≡ target = cc in ap (λ x. plan.Missing x w) one ∙ ap (λ x. plan.Missing at x) two
+plan_told (plan.Missing v w) at target is = let one : v ≡ at = cc in let two : w ≡ target = cc in ap (λ x. plan.Missing x w) one
+    ∙ ap (λ x. plan.Missing at x) two
 plan_told plan.Memory at target is = cc
 
 not_behind : (e : MoveError) → (IsRefusal e → ⊥) → ((at target : Version) → e ≡ Missing at target → ⊥) → IsBehind e → ⊥
@@ -186,7 +204,8 @@ late tasks h a b p q e (inl (inr of)) = ap is_early of.1 ∙ early_task of.0
 late tasks h a b p q e (inr (inl is, done, same)) = ap is_early is
 late tasks h a b p q e (inr (inr is, done, same)) = ap is_early is
 
-not_early : (tasks : List Task) (h : Held) (a b : Option (List Mapped)) (p q : Option (List Refused)) (r : Result Moved MoveError) (e : MoveError) → IfErr r (Ends tasks h a b p q) → is_early e ≡ true → IsErrOf r e → ⊥
+not_early : (tasks : List Task) (h : Held) (a b : Option (List Mapped)) (p q : Option (List Refused)) (r : Result Moved MoveError) (e : MoveError)
+    → IfErr r (Ends tasks h a b p q) → is_early e ≡ true → IsErrOf r e → ⊥
 not_early tasks h a b p q r e ends early is = false≢true (sym (late tasks h a b p q e (subst (λ x. IfErr x (Ends tasks h a b p q)) is ends)) ∙ early)
 
 same_error : {T : Type 0} (x y : MoveError) → ◌≡◌ {A = Result T MoveError} (Err x) (Err y) → x ≡ y
@@ -198,21 +217,26 @@ ok_err v x e = cc
 -- ---- a store that was found
 
 -- What holds of the store that was found holds of the one that was there.
-for_found : (F : Place → Held → ℕ → Type 0) (start : Start) (place : Place) (held : Held) (format : ℕ) → IsFound start place held format → F start.place start.held start.format → F place held format
+for_found : (F : Place → Held → ℕ → Type 0) (start : Start) (place : Place) (held : Held) (format : ℕ) → IsFound start place held format
+    → F start.place start.held start.format → F place held format
 for_found F start place held format is own =
     subst (λ f. F place held f) is.format_is (subst (λ h. F place h start.format) is.held_is (subst (λ p. F p start.held start.format) is.place_is own))
 
 -- And the other way round.
-back_found : (F : Place → Held → ℕ → Type 0) (start : Start) (place : Place) (held : Held) (format : ℕ) → IsFound start place held format → F place held format → F start.place start.held start.format
+back_found : (F : Place → Held → ℕ → Type 0) (start : Start) (place : Place) (held : Held) (format : ℕ) → IsFound start place held format → F place held format
+    → F start.place start.held start.format
 back_found F start place held format is own =
-    subst (λ p. F p start.held start.format) (sym is.place_is) (subst (λ h. F place h start.format) (sym is.held_is) (subst (λ f. F place held f) (sym is.format_is) own))
+    subst (λ p. F p start.held start.format) (sym is.place_is) (subst (λ h. F place h start.format) (sym is.held_is)
+    (subst (λ f. F place held f) (sym is.format_is) own))
 
 dir_in_store : (tree : Tree) (place : Place) → Resolves tree (at_place place) → (p : Names) → IsBelow place.directory p → IsBelow (codes "store" ∷ []) p
 dir_in_store tree place (id, led, at) p below = let there = subst (λ d. IsBelow d p) at below in (_, there.0 ∷ there.1, there.2)
 
-start_outside : (old new : History) (r : Result Start MoveError) → Starts r old new → (place : Place) → Resolves (tree_of old) (at_place place) → Touches (IsBelow (codes "store" ∷ [])) old new
+start_outside : (old new : History) (r : Result Start MoveError) → Starts r old new → (place : Place) → Resolves (tree_of old) (at_place place)
+    → Touches (IsBelow (codes "store" ∷ [])) old new
 start_outside old new r starts place led =
-    goes_map (IsAtOrSync (IsBelow place.directory)) (IsAtOrSync (IsBelow (codes "store" ∷ []))) old new (λ change here. in_store change (IsBelow place.directory) (dir_in_store (tree_of old) place led) here)
+    goes_map (IsAtOrSync (IsBelow place.directory)) (IsAtOrSync (IsBelow (codes "store" ∷ []))) old new
+    (λ change here. in_store change (IsBelow place.directory) (dir_in_store (tree_of old) place led) here)
     (touched_since (IsBelow place.directory) old new (starts.sync_first place led))
 
 -- What holds of any answer.
@@ -230,17 +254,19 @@ module _ (to : Version) (transitions : List Transition) (migrations : List Named
   Moment place held format image = HasStore place held format image ⊎ HasMigrated place held to transitions migrations before after image
 
   -- The store is not found.
-  pub not_found : (e : MoveError) (a b : Option History) → after ≡ before → q ≡ p → (IsRefusal e → ⊥) → Moves a b (Starts (Err e)) → Moves a b (Migrates to transitions migrations before after p q (Err e))
+  pub not_found : (e : MoveError) (a b : Option History) → after ≡ before → q ≡ p → (IsRefusal e → ⊥) → Moves a b (Starts (Err e))
+      → Moves a b (Migrates to transitions migrations before after p q (Err e))
   not_found e a b mapped noted quiet m = moves_map (λ old new starts. record {
-    any_moment = λ place held format settled store. since_map (HasStore place held format) (Moment place held format) old new (λ image s. inl s) (settled_since (HasStore place held format) old new settled store (starts.keeps place held format store));
+    any_moment = λ place held format store. since_wider (HasStore place held format) (Moment place held format) old new (λ image s. inl s)
+        (since_first (HasStore place held format) old new store (starts.keeps place held format store));
     done = tt;
     answer = tt;
     found = tt;
     found_first = λ behind. absurd (not_behind e quiet (λ at target is. starts.no_plan at target (ap Err is)) behind);
     stays = λ place held store same. starts.sync_first place store.led;
-    still = λ place held settled store same. settled_since (HasStore place held 2) old new settled store (starts.keeps place held 2 store);
+    still = λ place held store same. since_first (HasStore place held 2) old new store (starts.keeps place held 2 store);
     not_refused = tt;
-    kept = λ other place held format settled store. settled_since (HasStore place held format) old new settled store (starts.keeps place held format store);
+    kept = λ other place held format store. since_first (HasStore place held format) old new store (starts.keeps place held format store);
     ended = λ place held format store. record { ended = inl (mapped, noted, quiet) };
     outside = start_outside old new (Err e) starts;
     no_store = λ is. starts.no_store (ap Err (same_error e NoStore is));
@@ -253,22 +279,26 @@ module _ (to : Version) (transitions : List Transition) (migrations : List Named
   some_store : (start : Start) (old new : History) → Starts (Ok start) old new → HasSome (tree_of old)
   some_store start old new starts = record { place = start.place; held = start.held; format = start.format; store = starts.ready.was }
 
-  keeps_since : (r : Result Start MoveError) (old new : History) → Starts r old new → (place : Place) (held : Held) (format : ℕ) → IsSettled old → HasStore place held format (tree_of old) → EachSince (HasStore place held format) old new
-  keeps_since r old new starts place held format settled store = settled_since (HasStore place held format) old new settled store (starts.keeps place held format store)
+  keeps_since : (r : Result Start MoveError) (old new : History) → Starts r old new → (place : Place) (held : Held) (format : ℕ)
+      → HasStore place held format (tree_of old) → SinceStart (HasStore place held format) old new
+  keeps_since r old new starts place held format store = since_first (HasStore place held format) old new store (starts.keeps place held format store)
 
   -- No way leads to the version.
-  pub no_way : (start : Start) (e : PlanError) (a b : Option History) → after ≡ before → q ≡ p → Moves a b (Starts (Ok start)) → ((at target : Version) → e ≡ plan.Missing at target → HasNoPlan transitions start.place.version to at target) → Moves a b (Migrates to transitions migrations before after p q (Err (of_plan e)))
+  pub no_way : (start : Start) (e : PlanError) (a b : Option History) → after ≡ before → q ≡ p → Moves a b (Starts (Ok start))
+      → ((at target : Version) → e ≡ plan.Missing at target → HasNoPlan transitions start.place.version to at target)
+      → Moves a b (Migrates to transitions migrations before after p q (Err (of_plan e)))
   unfolding is_other
   no_way start e a b mapped noted m missing = moves_map (λ old new starts. record {
-    any_moment = λ place held format settled store. since_map (HasStore place held format) (Moment place held format) old new (λ image s. inl s) (keeps_since (Ok start) old new starts place held format settled store);
+    any_moment = λ place held format store. since_wider (HasStore place held format) (Moment place held format) old new (λ image s. inl s)
+        (keeps_since (Ok start) old new starts place held format store);
     done = tt;
     answer = tt;
     found = tt;
     found_first = λ behind. some_store start old new starts;
     stays = λ place held store same. starts.sync_first place store.led;
-    still = λ place held settled store same. keeps_since (Ok start) old new starts place held 2 settled store;
+    still = λ place held store same. keeps_since (Ok start) old new starts place held 2 store;
     not_refused = tt;
-    kept = λ other place held format settled store. keeps_since (Ok start) old new starts place held format settled store;
+    kept = λ other place held format store. keeps_since (Ok start) old new starts place held format store;
     ended = λ place held format store. record { ended = inl (mapped, noted, plan_quiet e) };
     outside = start_outside old new (Ok start) starts;
     no_store = λ is. absurd (not_plan e NoStore refl (same_error (of_plan e) NoStore is));
@@ -279,27 +309,35 @@ module _ (to : Version) (transitions : List Transition) (migrations : List Named
   }) m
 
   -- The store is at the version, in format 2.
-  pub is_there : (start : Start) (moved : Moved) (a b : Option History) → moved.from ≡ start.place.version → moved.to ≡ to → moved.directory ≡ start.place.directory → q ≡ p → Moves a b (Starts (Ok start)) → start.format ≡ 2 → start.place.version ≡ to → Moves a b (Migrates to transitions migrations before after p q (Ok moved))
+  pub is_there : (start : Start) (moved : Moved) (a b : Option History) → moved.from ≡ start.place.version → moved.to ≡ to
+      → moved.directory ≡ start.place.directory → q ≡ p → Moves a b (Starts (Ok start)) → start.format ≡ 2 → start.place.version ≡ to
+      → Moves a b (Migrates to transitions migrations before after p q (Ok moved))
   is_there start moved a b from_is to_is at noted m two same = moves_map (λ old new starts. record {
-    any_moment = λ place held format settled store. since_map (HasStore place held format) (Moment place held format) old new (λ image s. inl s) (keeps_since (Ok start) old new starts place held format settled store);
+    any_moment = λ place held format store. since_wider (HasStore place held format) (Moment place held format) old new (λ image s. inl s)
+        (keeps_since (Ok start) old new starts place held format store);
     done = λ place held format store. (
       starts.ready.settled,
       inl (for_found (λ p h f. IsThere p h f to (tree_of new)) start place held format (starts.found place held format store) (record {
         version_is = same;
         format_is = two;
-        store = record { led = starts.ready.led; stands = standing start.place.directory start.held start.format (tree_of new) (tree_of new) (λ p below. refl) starts.ready.stands };
+        store = record {
+          led = starts.ready.led;
+          stands = standing start.place.directory start.held start.format (tree_of new) (tree_of new) (λ p below. refl)
+              starts.ready.stands;
+        };
       })),
     );
     answer = λ place held format store.
         for_found (λ r h f. IsAnswer moved r.version to (tree_of new)) start place held format (starts.found place held format store) (record {
           from_is = from_is;
           to_is = to_is;
-          led = subst (λ (d : Names). Resolves (tree_of new) (outcome.found to d)) (sym at) (subst (λ (v : Version). Resolves (tree_of new) (outcome.found v start.place.directory)) same starts.ready.led);
+          led = subst (λ (d : Names). Resolves (tree_of new) (outcome.found to d)) (sym at)
+              (subst (λ (v : Version). Resolves (tree_of new) (outcome.found v start.place.directory)) same starts.ready.led);
         });
     found = some_store start old new starts;
     found_first = tt;
     stays = λ place held store same. starts.sync_first place store.led;
-    still = λ place held settled store same. keeps_since (Ok start) old new starts place held 2 settled store;
+    still = λ place held store same. keeps_since (Ok start) old new starts place held 2 store;
     not_refused = noted;
     kept = tt;
     ended = tt;
@@ -311,9 +349,18 @@ module _ (to : Version) (transitions : List Transition) (migrations : List Named
     missing = λ at target is. absurd (ok_err moved (Missing at target) is);
   }) m
 
-  module _ (start : Start) (way : List Transition) (is_way : IsWay transitions start.place.version to way) (back : Bool) (turned : back ≡ is_before to start.place.version) (result : Result Moved MoveError) (ends : IfErr result (Ends (tasks_of migrations back way) start.held before after p q)) (noted : OnOk result (q ≡ p)) (needed : start.place.version ≡ to → start.format ≡ 2 → ⊥) where
-    migrated_image : (image : Tree) → HasMoved (tasks_of migrations back way) to start.held before after image → HasMigrated start.place start.held to transitions migrations before after image
-    migrated_image image moved = record { way = way; is_way = is_way; moved = subst (λ b. HasMoved (tasks_of migrations b way) to start.held before after image) turned moved }
+  module _ (start : Start) (way : List Transition) (is_way : IsWay transitions start.place.version to way) (back : Bool)
+      (turned : back ≡ is_before to start.place.version) (result : Result Moved MoveError)
+      (ends : IfErr result (Ends (tasks_of migrations back way) start.held before after p q)) (noted : OnOk result (q ≡ p))
+      (needed : start.place.version ≡ to → start.format ≡ 2 → ⊥) where
+    migrated_image : (image : Tree) → HasMoved (tasks_of migrations back way) to start.held before after image
+        → HasMigrated start.place start.held to transitions migrations before after image
+    migrated_image image moved = record {
+      way = way;
+      is_way = is_way;
+      moved =
+          subst (λ b. HasMoved (tasks_of migrations b way) to start.held before after image) turned moved;
+    }
 
     hand : (old mid : History) → IsReady start old mid → IsAtHand start mid
     hand old mid ready = record { led = ready.led; stands = ready.stands; settled = ready.settled }
@@ -322,43 +369,56 @@ module _ (to : Version) (transitions : List Transition) (migrations : List Named
     refuted x early is = not_early (tasks_of migrations back way) start.held before after p q result x ends early is
 
     -- The store is moved along the way, or not.
-    pub migrated : (a b c : Option History) → Moves a b (Starts (Ok start)) → Moves b c (MovesAlong start (tasks_of migrations back way) to before after result) → Moves a c (Migrates to transitions migrations before after p q result)
+    pub migrated : (a b c : Option History) → Moves a b (Starts (Ok start)) → Moves b c (MovesAlong start (tasks_of migrations back way) to before after result)
+        → Moves a c (Migrates to transitions migrations before after p q result)
     migrated a b c m n = moves_then (λ old mid new starts along. record {
-      any_moment = λ place held format settled store.
+      any_moment = λ place held format store.
           let found = starts.found place held format store in
-          for_found (λ q h f. EachSince (Moment q h f) old new) start place held format found
-          (since_joined (Moment start.place start.held start.format) old mid new
-          (since_map (HasStore start.place start.held start.format) (Moment start.place start.held start.format) old mid (λ image s. inl s)
-          (keeps_since (Ok start) old mid starts start.place start.held start.format settled (back_found (λ q h f. HasStore q h f (tree_of old)) start place held format found store)))
-          (since_map (HasOldOrNew start (tasks_of migrations back way) to before after) (Moment start.place start.held start.format) mid new (λ image either. elim either [ inl s ↦ inl s | inr m ↦ inr (migrated_image image m) ])
+          for_found (λ q h f. SinceStart (Moment q h f) old new) start place held format found
+          (since_joined (λ image. IsImage old image ⊎ Moment start.place start.held start.format image) old mid new
+          (since_wider (HasStore start.place start.held start.format) (Moment start.place start.held start.format) old mid (λ image s. inl s)
+          (keeps_since (Ok start) old mid starts start.place start.held start.format
+          (back_found (λ q h f. HasStore q h f (tree_of old)) start place held format found store)))
+          (since_map (HasOldOrNew start (tasks_of migrations back way) to before after)
+          (λ image. IsImage old image ⊎ Moment start.place start.held start.format image) mid new
+          (λ image either. elim either [ inl s ↦ inr (inl s) | inr m ↦ inr (inr (migrated_image image m)) ])
           (along.any_moment (hand old mid starts.ready))));
       done = IfOk-weaker result _ _ (λ moved done place held format store.
-          let both = done (hand old mid starts.ready) in
-          (both.1, inr (for_found (λ q h f. HasMigrated q h to transitions migrations before after (tree_of new)) start place held format (starts.found place held format store) (migrated_image (tree_of new) both.0)))) along.done;
-      answer = IfOk-weaker result _ _ (λ moved answer place held format store. for_found (λ r h f. IsAnswer moved r.version to (tree_of new)) start place held format (starts.found place held format store) (answer (hand old mid starts.ready))) along.answer;
+          let both = done (hand old mid starts.ready) in (
+            both.1,
+            inr (for_found (λ q h f. HasMigrated q h to transitions migrations before after (tree_of new)) start place held format
+                (starts.found place held format store) (migrated_image (tree_of new) both.0)),
+          )) along.done;
+      answer = IfOk-weaker result _ _ (λ moved answer place held format store. for_found (λ r h f. IsAnswer moved r.version to (tree_of new)) start place held
+          format (starts.found place held format store) (answer (hand old mid starts.ready))) along.answer;
       found = on_ok_all result (some_store start old mid starts);
       found_first = if_err_any result (λ e behind. some_store start old mid starts);
       stays = λ place held store same.
           let found = starts.found place held 2 store in
           absurd (needed (ap (λ (r : Place). r.version) found.place_is ∙ same) found.format_is);
-      still = λ place held settled store same.
+      still = λ place held store same.
           let found = starts.found place held 2 store in
           absurd (needed (ap (λ (r : Place). r.version) found.place_is ∙ same) found.format_is);
       not_refused = noted;
-      kept = IfErr-weaker result _ _ (λ e kept other place held format settled store.
+      kept = IfErr-weaker result _ _ (λ e kept other place held format store.
           let found = starts.found place held format store in
-          for_found (λ q h f. EachSince (HasStore q h f) old new) start place held format found
-          (since_joined (HasStore start.place start.held start.format) old mid new
-          (keeps_since (Ok start) old mid starts start.place start.held start.format settled (back_found (λ q h f. HasStore q h f (tree_of old)) start place held format found store))
-          (kept other (hand old mid starts.ready)))) along.kept;
+          for_found (λ q h f. SinceStart (HasStore q h f) old new) start place held format found
+          (since_joined (λ image. IsImage old image ⊎ HasStore start.place start.held start.format image) old mid new
+          (keeps_since (Ok start) old mid starts start.place start.held start.format
+          (back_found (λ q h f. HasStore q h f (tree_of old)) start place held format found store))
+          (since_map (HasStore start.place start.held start.format) (λ image. IsImage old image ⊎ HasStore start.place start.held start.format image) mid new
+          (λ image s. inr s)
+          (kept other (hand old mid starts.ready))))) along.kept;
       ended = IfErr-weaker result _ _ (λ e end place held format store. record {
         ended = inr (
           way,
           for_found (λ q h f. IsWay transitions q.version to way) start place held format (starts.found place held format store) is_way,
-          for_found (λ r h f. Ends (tasks_of migrations (is_back r.version to) way) h before after p q e) start place held format (starts.found place held format store) (subst (λ b. Ends (tasks_of migrations b way) start.held before after p q e) turned end),
+          for_found (λ r h f. Ends (tasks_of migrations (is_back r.version to) way) h before after p q e) start place held format
+              (starts.found place held format store) (subst (λ b. Ends (tasks_of migrations b way) start.held before after p q e) turned end),
         );
       }) ends;
-      outside = λ place led. goes_joined (IsAtOrSync (IsBelow (codes "store" ∷ []))) old mid new (start_outside old mid (Ok start) starts place led) (along.outside (hand old mid starts.ready));
+      outside = λ place led. goes_joined (IsAtOrSync (IsBelow (codes "store" ∷ []))) old mid new (start_outside old mid (Ok start) starts place led)
+          (along.outside (hand old mid starts.ready));
       no_store = λ is. absurd (refuted NoStore refl is);
       bad_link = λ path is. absurd (refuted (BadLink path) refl is);
       bad_journal = λ path is. absurd (refuted (BadJournal path) refl is);

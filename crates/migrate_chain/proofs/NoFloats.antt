@@ -17,7 +17,8 @@ use Rattle.json_trees.specs.declared.scalar.Scalar.TheVariants as scalar
 use Rattle.settings_tree.specs.declared.entry.Owed.{Owed}
 use Rattle.settings_tree.specs.declared.entry.Owed.TheVariants.{All, Keys}
 use Rattle.settings_tree.specs.declared.held.Held.{Held}
-use Rattle.held_text.specs.HeldText.{Row, rows, key_data, keys_data, pair_data, map_data, row_data, metadata_data, transaction_data, pending_maps_data, owed_data, image_data, held_data}
+use Rattle.held_text.specs.HeldText.{Row, rows, key_data, keys_data, pair_data, map_data}
+use Rattle.held_text.specs.HeldText.{row_data, metadata_data, transaction_data, pending_maps_data, owed_data, image_data, held_data}
 
 both : (a b : Bool) → a ≡ false → b ≡ false → (a || b) ≡ false
 both a b one other = λ i. one i || other i

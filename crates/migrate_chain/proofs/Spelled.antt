@@ -52,10 +52,12 @@ compact_prints text compact h is spells =
 -- And the text spells what its compact text is the print of.
 pub print_spelled : (text compact : List ℕ) (h : Held) → IsCompact text compact → IsHeld h → held_text h ≡ compact → SpellsHeld text h
 print_spelled text compact h is valid prints =
-    let back : read compact ≡ Some (held_data h) = subst (λ (t : List ℕ). read t ≡ Some (held_data h)) prints (read_of (is_utf8 (held_text h)) (read (held_text h)) (held_data h) (held_back h valid)) in
+    let back : read compact ≡ Some (held_data h) = subst (λ (t : List ℕ). read t ≡ Some (held_data h)) prints
+    (read_of (is_utf8 (held_text h)) (read (held_text h)) (held_data h) (held_back h valid)) in
     record { valid = valid; value_is = is.value_is ∙ sym is.reads_back ∙ back }
 
 -- A refusal says that nothing is spelled.
-pub none_spelled : (text : List ℕ) (r : Result Held HeldError) → ((h : Held) → SpellsHeld text h → IsRead r h) → IfErr r (λ e. e ≡ BadHeld → (h : Held) → SpellsHeld text h → ⊥)
+pub none_spelled : (text : List ℕ) (r : Result Held HeldError) → ((h : Held) → SpellsHeld text h → IsRead r h)
+    → IfErr r (λ e. e ≡ BadHeld → (h : Held) → SpellsHeld text h → ⊥)
 none_spelled text (Ok held) exact = tt
 none_spelled text (Err e) exact = λ bad h spells. let memory : e ≡ Memory = exact h spells in cc (bad, memory)

@@ -21,7 +21,8 @@ use Rattle.migrate_chain.specs.Store.{StandsIn, at_place, HasStore, IsInOther, H
 -- ---- paths that are not touched
 
 -- At paths that are not touched each image has what the tree had.
-pub paths_kept : (Q R : Names → Type 0) → ((p : Names) → R p → Q p → ⊥) → (old new : History) → Touches Q old new → ((p : Names) → R p → IsSettledAt old p) → EachSince (λ image. (p : Names) → R p → node_at image p ≡ node_at (tree_of old) p) old new
+pub paths_kept : (Q R : Names → Type 0) → ((p : Names) → R p → Q p → ⊥) → (old new : History) → Touches Q old new → ((p : Names) → R p → IsSettledAt old p)
+    → EachSince (λ image. (p : Names) → R p → node_at image p ≡ node_at (tree_of old) p) old new
 paths_kept Q R apart old new touches settled =
     since_goes (λ image. (p : Names) → R p → node_at image p ≡ node_at (tree_of old) p) (IsAtOrSync Q) old new
     (λ h goes image is. λ p at. settled p at (node_at image p) (may_leave_untouched Q old h goes p (apart p at) (node_at image p) (is p))) touches
@@ -56,7 +57,8 @@ pub other_apart : (target : Target) (p : Names) → Matters (directory target) p
 other_apart target p (inl link) other = below_no_link other.target p other.below link
 other_apart target p (inr (name, rest, is)) other =
     let same : name_of (numbers other.target) ≡ name_of (numbers target) =
-    sym (second_is (name_of (numbers other.target)) other.below.0 other.below.1) ∙ seconds_same _ _ (sym other.below.2 ∙ is) ∙ second_is (name_of (numbers target)) name rest in
+    sym (second_is (name_of (numbers other.target)) other.below.0 other.below.1) ∙ seconds_same _ _ (sym other.below.2 ∙ is)
+    ∙ second_is (name_of (numbers target)) name rest in
     other.other (ap store same)
 
 -- A link's path is below no data directory.
@@ -66,15 +68,17 @@ link_apart target there p below (inr (inl is)) = below_no_link there p below (ap
 link_apart target there p below (inr (inr (inl is))) = below_no_link there p below (ap is_in_store is)
 link_apart target there p below (inr (inr (inr is))) = below_no_link there p below (ap is_in_store is)
 
--- ---- what files stand for
+-- ---- what files represent
 
--- What files stand for, those that are alike below the directory stand for.
-pub stands_alike : (dir : Names) (held : Held) (format : ℕ) (one other : Tree) → ((p : Names) → IsBelow dir p → node_at one p ≡ node_at other p) → Stands (files_below dir other) held format → Stands (files_below dir one) held format
+-- What files represent, those that are alike below the directory represent.
+pub stands_alike : (dir : Names) (held : Held) (format : ℕ) (one other : Tree) → ((p : Names) → IsBelow dir p → node_at one p ≡ node_at other p)
+    → Stands (files_below dir other) held format → Stands (files_below dir one) held format
 stands_alike dir held format one other same stands =
     stand_alike (files_below dir other) (files_below dir one) held format (λ name rest. sym (same (dir ++ name ∷ rest) (name, rest, refl))) stands
 
--- What stands for something without a journal is found so where the files below are alike.
-pub standing : (dir : Names) (held : Held) (format : ℕ) (one other : Tree) → ((p : Names) → IsBelow dir p → node_at one p ≡ node_at other p) → Stands (files_below dir other) held format → StandsIn dir held format one
+-- What represents something without a journal is found so where the files below are alike.
+pub standing : (dir : Names) (held : Held) (format : ℕ) (one other : Tree) → ((p : Names) → IsBelow dir p → node_at one p ≡ node_at other p)
+    → Stands (files_below dir other) held format → StandsIn dir held format one
 standing dir held format one other same stands =
     let here = stands_alike dir held format one other same stands in
     record { files = files_below dir one; found = inl (stands_without_journal (files_below dir one) held format here, refl); stands = here }
@@ -83,20 +87,24 @@ standing dir held format one other same stands =
 
 module _ (place : Place) (held : Held) (format : ℕ) where
   -- Trees with the same links and the same files below the directory have the same store.
-  store_alike : (one other : Tree) → ((p : Names) → Matters place.directory p → node_at one p ≡ node_at other p) → Resolves other (at_place place) → Stands (files_below place.directory other) held format → HasStore place held format one
+  store_alike : (one other : Tree) → ((p : Names) → Matters place.directory p → node_at one p ≡ node_at other p) → Resolves other (at_place place)
+      → Stands (files_below place.directory other) held format → HasStore place held format one
   store_alike one other same led stands = record {
     led = same_outcome one other (record { same = λ p pass. same p (inl pass) }) (at_place place) led;
     stands = standing place.directory held format one other (λ p below. same p (inr below)) stands;
   }
 
   -- Changes below other data directories leave the store as it is, at every moment.
-  pub store_kept : (old new : History) → IsSettled old → Resolves (tree_of old) (at_place place) → Stands (files_below place.directory (tree_of old)) held format → Touches (IsInOther place.directory) old new → EachSince (HasStore place held format) old new
+  pub store_kept : (old new : History) → IsSettled old → Resolves (tree_of old) (at_place place)
+      → Stands (files_below place.directory (tree_of old)) held format → Touches (IsInOther place.directory) old new
+      → EachSince (HasStore place held format) old new
   store_kept old new settled (id, led, at) stands touches =
       let there : Target = record { version = place.version; id = id } in
       since_map (λ image. (p : Names) → Matters place.directory p → node_at image p ≡ node_at (tree_of old) p) (HasStore place held format) old new
       (λ image same. store_alike image (tree_of old) same (id, led, at) stands)
       (paths_kept (IsInOther place.directory) (Matters place.directory)
-      (λ p matters other. other_apart there p (subst (λ d. Matters d p) at matters) (subst (λ d. IsInOther d p) at other)) old new touches (λ p matters. settled p))
+      (λ p matters other. other_apart there p (subst (λ d. Matters d p) at matters) (subst (λ d. IsInOther d p) at other)) old new touches
+      (λ p matters. settled p))
 
 -- ---- the links are pointed to a copy
 
@@ -104,19 +112,36 @@ module _ (place : Place) (held : Held) (format : ℕ) (target : Target) (made : 
   abbrev Below : Names → Type 0
   Below p = IsBelow place.directory p ⊎ IsBelow (directory target) p
 
-  either : (image tree : Tree) → ResolvesToEither (at_place place) target image → ((p : Names) → Below p → node_at image p ≡ node_at tree p) → Stands (files_below place.directory tree) held format → Stands (files_below (directory target) tree) made 2 → HasEither place held format target made image
-  either image tree (inl led) same old new = inl (record { led = led; stands = standing place.directory held format image tree (λ p below. same p (inl below)) old })
-  either image tree (inr led) same old new = inr (record { led = (target.id, led, refl); stands = standing (directory target) made 2 image tree (λ p below. same p (inr below)) new })
+  either : (image tree : Tree) → ResolvesToEither (at_place place) target image → ((p : Names) → Below p → node_at image p ≡ node_at tree p)
+      → Stands (files_below place.directory tree) held format → Stands (files_below (directory target) tree) made 2
+      → HasEither place held format target made image
+  either image tree (inl led) same old new = inl (record {
+    led = led;
+    stands =
+        standing place.directory held format image tree (λ p below. same p (inl below)) old;
+  })
+  either image tree (inr led) same old new = inr (record {
+    led = (target.id, led, refl);
+    stands =
+        standing (directory target) made 2 image tree (λ p below. same p (inr below)) new;
+  })
 
   -- At every moment the store is at its old place or at the new one, complete.
-  pub flipped : {E : Type 0} (result : Result Unit E) (old new : History) → IsSettled old → Resolves (tree_of old) (at_place place) → Stands (files_below place.directory (tree_of old)) held format → Stands (files_below (directory target) (tree_of old)) made 2 → Flips target result old new → EachSince (HasEither place held format target made) old new
+  pub flipped : {E : Type 0} (result : Result Unit E) (old new : History) → IsSettled old → Resolves (tree_of old) (at_place place)
+      → Stands (files_below place.directory (tree_of old)) held format → Stands (files_below (directory target) (tree_of old)) made 2
+      → Flips target result old new → EachSince (HasEither place held format target made) old new
   flipped result old new settled (id, led, at) before after flips =
       let there : Target = record { version = place.version; id = id } in
-      since_map (λ image. ResolvesToEither (at_place place) target image × ((p : Names) → Below p → node_at image p ≡ node_at (tree_of old) p)) (HasEither place held format target made) old new
+      since_map (λ image. ResolvesToEither (at_place place) target image × ((p : Names) → Below p → node_at image p ≡ node_at (tree_of old) p))
+      (HasEither place held format target made) old new
       (λ image both. either image (tree_of old) both.0 both.1 before after)
       (since_both (ResolvesToEither (at_place place) target) (λ image. (p : Names) → Below p → node_at image p ≡ node_at (tree_of old) p) old new
       (flips.any_moment (at_place place) (record { at = λ p pass. settled p }) (id, led, at))
-      (paths_kept (IsLinkTo target) Below (λ p below link. elim below [ inl here ↦ link_apart target there p (subst (λ d. IsBelow d p) at here) link | inr here ↦ link_apart target target p here link ]) old new flips.others.touches (λ p below. settled p)))
+      (paths_kept (IsLinkTo target) Below (λ p below link. elim below [
+        | inl here ↦ link_apart target there p (subst (λ d. IsBelow d p) at here) link
+        | inr here
+            ↦ link_apart target target p here link
+      ]) old new flips.others.touches (λ p below. settled p)))
 
 -- ---- changes below other data directories, one after another
 
@@ -126,18 +151,23 @@ module _ (place : Place) (old new : History) (led : Resolves (tree_of old) (at_p
 
   untouched : (p : Names) → Matters place.directory p → node_at (tree_of new) p ≡ node_at (tree_of old) p
   unfolding there
-  untouched p matters = tree_untouched (IsInOther place.directory) old new touches p (λ other. other_apart there p (subst (λ d. Matters d p) led.2 matters) (subst (λ d. IsInOther d p) led.2 other))
+  untouched p matters = tree_untouched (IsInOther place.directory) old new touches p
+      (λ other. other_apart there p (subst (λ d. Matters d p) led.2 matters) (subst (λ d. IsInOther d p) led.2 other))
 
   -- The links lead where they led.
   pub led_on : Resolves (tree_of new) (at_place place)
   led_on = same_outcome (tree_of new) (tree_of old) (record { same = λ p pass. untouched p (inl pass) }) (at_place place) led
 
-  -- The files stand for what they stood for.
-  pub stands_on : (held : Held) (format : ℕ) → Stands (files_below place.directory (tree_of old)) held format → Stands (files_below place.directory (tree_of new)) held format
+  -- The files represent what they represented.
+  pub stands_on : (held : Held) (format : ℕ) → Stands (files_below place.directory (tree_of old)) held format
+      → Stands (files_below place.directory (tree_of new)) held format
   stands_on held format stands = stands_alike place.directory held format (tree_of new) (tree_of old) (λ p below. untouched p (inr below)) stands
 
 pub others_stay : (h : History) → TouchesOthers h h
 others_stay h = record { touches = λ place led. goes_stay (IsAtOrSync (IsInOther place.directory)) h }
 
 pub others_joined : (a b c : History) → TouchesOthers a b → TouchesOthers b c → TouchesOthers a c
-others_joined a b c one two = record { touches = λ place led. goes_joined (IsAtOrSync (IsInOther place.directory)) a b c (one.touches place led) (two.touches place (led_on place a b led (one.touches place led))) }
+others_joined a b c one two = record {
+  touches = λ place led. goes_joined (IsAtOrSync (IsInOther place.directory)) a b c (one.touches place led)
+      (two.touches place (led_on place a b led (one.touches place led)));
+}

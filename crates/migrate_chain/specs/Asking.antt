@@ -29,7 +29,7 @@ pub record IsStateAfter (held : Held) (output : List ℕ) (made : Held) : Type 0
   pub owed_same : made.owed ≡ held.owed
   pub image_same : made.image ≡ held.image
 
--- What is made of a status and an output: what the output spells, or its refusal. Memory may always be wanting.
+-- What is made of a status and an output: what the output spells, or its refusal. Memory may always run out.
 abbrev pub Takes : Held → ℕ → List ℕ → Result Held TaskError → Type 0
 Takes held status output (Ok made) = (status ≡ 0) × IsStateAfter held output made
 Takes held status output (Err (Status name number)) = (status ≢ 0) × (number ≡ status)
@@ -38,7 +38,7 @@ Takes held status output (Err Memory) = ⊤
 Takes held status output (Err (Conflict key)) = ⊥
 Takes held status output (Err (Failed name)) = ⊥
 
--- An answer that comes without an asked program: it could not be asked, or memory was wanting.
+-- An answer that comes without an asked program: it could not be asked, or it ran out of memory.
 abbrev pub IsUnasked : Result Held TaskError → Type 0
 IsUnasked (Ok made) = ⊥
 IsUnasked (Err (Status name number)) = ⊥
@@ -63,7 +63,7 @@ AsksBy (program words) back held result asked = IsAskedBy words back held result
 abbrev pub Asks : Task → Held → Result Held TaskError → List Question → Type 0
 Asks task held result asked = AsksBy task.deed task.back held result asked
 
--- The task came to this, and what was asked for it came behind what was asked before.
+-- The task came to this, and what was asked for it came after what was asked before.
 pub record HasAsked (task : Task) (held : Held) (result : Result Held TaskError) (old new : List Question) : Type 0 where
   pub asked : List Question
   pub new_is : new ≡ old ++ asked
@@ -74,13 +74,13 @@ abbrev pub AreAsked : List Mapped → List Question → Type 0
 AreAsked [] asked = asked ≡ []
 AreAsked (m ∷ ms) asked = (first rest : List Question) × (asked ≡ first ++ rest) × Asks m.task m.input (Ok m.output) first × AreAsked ms rest
 
--- What was asked for the migrations that were carried out came behind what was asked before.
+-- What was asked for the migrations that were carried out came after what was asked before.
 pub record HasAskedFor (mapped : List Mapped) (old new : List Question) : Type 0 where
   pub asked : List Question
   pub new_is : new ≡ old ++ asked
   pub are : AreAsked mapped asked
 
--- The same, and behind it what was asked for the one that met the error.
+-- The same, and after it what was asked for the one that met the error.
 pub record HasAskedUpTo (mapped : List Mapped) (task : Task) (held : Held) (why : TaskError) (old new : List Question) : Type 0 where
   pub asked : List Question
   pub last : List Question

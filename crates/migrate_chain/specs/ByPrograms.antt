@@ -29,7 +29,7 @@ pub record EndsTurned (refused : List Refused) (error : MoveError) (last : List 
   pub refused_are : refused ≡ refusals_of task input why
   pub asks : Asks task input (Err why) last
 
--- What was asked behind the migrations that were carried out.
+-- What was asked after the migrations that were carried out.
 abbrev pub AsksLast : List Refused → Result Moved MoveError → List Question → Type 0
 AsksLast refused (Ok moved) last = last ≡ []
 AsksLast refused (Err error) last = EndsQuiet error last ⊎ EndsTurned refused error last

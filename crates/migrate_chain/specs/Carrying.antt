@@ -42,7 +42,7 @@ pub record StopsAt (tasks : List Task) (held : Held) (a a' : Option (List Questi
   pub refused : Refuses task reached error
   pub asked : Moves a a' (HasAskedUpTo mapped task reached error)
 
--- A task met an error, or the disk failed behind some of them.
+-- A task met an error, or the disk failed after some of them.
 abbrev pub StopsEarly : List Task → Held → Option (List Question) → Option (List Question) → MoveError → Type 0
 StopsEarly tasks held a a' error = ((e : DiskErr) × (error ≡ of_disk e) × IsPartlyDone tasks held a a')
     ⊎ ((e : TaskError) × (error ≡ of_task e) × StopsAt tasks held a a' e)

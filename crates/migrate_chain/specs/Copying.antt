@@ -9,7 +9,7 @@ use Rattle.version_links.specs.Names.{Target, directory}
 use Rattle.version_links.specs.Fresh.{IsFirstFree}
 use Rattle.migrate_chain.specs.Store.{TouchesOthers}
 
--- The fresh data directory of the version stands for what is held, and all is on the disk.
+-- The fresh data directory of the version represents what is held, and all is on the disk.
 pub record IsCopied (version : Version) (held : Held) (target : Target) (old new : History) : Type 0 where
   pub version_is : target.version ≡ version
   pub first : IsFirstFree (tree_of old) target

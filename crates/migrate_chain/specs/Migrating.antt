@@ -2,7 +2,7 @@
 use Rattle.std.specs.Prelude.{◌≡◌, ◌≢◌, ◌⊎◌, ◌∷◌, [], codes, ℕ, List, Option, Result, IfOk, OnOk, IfErr, IsErrOf}
 use Rattle.outside.specs.Names.{Names}
 use Rattle.outside.specs.Tree.{Tree}
-use Rattle.outside.specs.History.{History, tree_of, IsSettled}
+use Rattle.outside.specs.History.{History, tree_of, IsImage, IsSettled}
 use Rattle.outside.specs.Since.{EachSince, Touches}
 use Rattle.commit_journal.specs.Files.{IsBelow}
 use Rattle.commit_journal.specs.Recovery.{FromSyncOn}
@@ -42,36 +42,41 @@ pub record HasEnded (place : Place) (held : Held) (to : Version) (transitions : 
       ⊎ ((way : List Transition) × IsWay transitions place.version to way
       × Ends (tasks_of migrations (is_back place.version to) way) held before after refused_before refused_after error)
 
--- The links lead to a data directory that stands for something.
+-- The links lead to a data directory that represents something.
 pub record HasSome (tree : Tree) : Type 0 where
   pub place : Place
   pub held : Held
   pub format : ℕ
   pub store : HasStore place held format tree
 
--- A store is moved to a version. What is said of a store and of images is said of one that was there at the start, on a settled disk.
+-- At every moment a crash leaves what it might have left at the start, or a tree that has P.
+abbrev pub SinceStart : (Tree → Type 0) → History → History → Type 0
+SinceStart P old new = EachSince (λ image. IsImage old image ⊎ P image) old new
+
+-- A store is moved to a version. What is said of a store is said of one that was there at the start.
 pub record Migrates (to : Version) (transitions : List Transition) (migrations : List Named) (before after : Option (List Mapped))
     (refused_before refused_after : Option (List Refused)) (result : Result Moved MoveError) (old new : History) : Type 0 where
   -- At every moment the store is as it was, or it has moved: all tasks of the way were carried out, once and in order.
-  pub any_moment : (place : Place) (held : Held) (format : ℕ) → IsSettled old → HasStore place held format (tree_of old)
-      → EachSince (λ image. HasStore place held format image ⊎ HasMigrated place held to transitions migrations before after image) old new
+  pub any_moment : (place : Place) (held : Held) (format : ℕ) → HasStore place held format (tree_of old)
+      → SinceStart (λ image. HasStore place held format image ⊎ HasMigrated place held to transitions migrations before after image) old new
   -- After Ok it has moved, or it was there in format 2, and this is on the disk.
   pub done : IfOk result (λ moved. (place : Place) (held : Held) (format : ℕ) → HasStore place held format (tree_of old)
       → IsSettled new × (IsThere place held format to (tree_of new) ⊎ HasMigrated place held to transitions migrations before after (tree_of new)))
   -- The answer is the version that it had, and the place to which the links lead now.
-  pub answer : IfOk result (λ moved. (place : Place) (held : Held) (format : ℕ) → HasStore place held format (tree_of old) → IsAnswer moved place.version to (tree_of new))
+  pub answer : IfOk result (λ moved. (place : Place) (held : Held) (format : ℕ) → HasStore place held format (tree_of old)
+      → IsAnswer moved place.version to (tree_of new))
   -- Ok comes only where a store was, and so do no plan and the refusals of migrations.
   pub found : OnOk result (HasSome (tree_of old))
   pub found_first : IfErr result (λ e. IsBehind e → HasSome (tree_of old))
   -- Where it is at the version in format 2, only its journal is carried out.
   pub stays : (place : Place) (held : Held) → HasStore place held 2 (tree_of old) → place.version ≡ to → FromSyncOn (Touches (IsBelow place.directory)) old new
   -- And so at every moment the store is as it was.
-  pub still : (place : Place) (held : Held) → IsSettled old → HasStore place held 2 (tree_of old) → place.version ≡ to → EachSince (HasStore place held 2) old new
+  pub still : (place : Place) (held : Held) → HasStore place held 2 (tree_of old) → place.version ≡ to → SinceStart (HasStore place held 2) old new
   -- After Ok nothing was refused.
   pub not_refused : OnOk result (refused_after ≡ refused_before)
   -- After every error but a failure of the disk it is as it was, at every moment.
-  pub kept : IfErr result (λ e. e ≢ Failed → (place : Place) (held : Held) (format : ℕ) → IsSettled old → HasStore place held format (tree_of old)
-      → EachSince (HasStore place held format) old new)
+  pub kept : IfErr result (λ e. e ≢ Failed → (place : Place) (held : Held) (format : ℕ) → HasStore place held format (tree_of old)
+      → SinceStart (HasStore place held format) old new)
   -- Whatever error is met, the tasks of the way were carried out from the first on, up to the one that was refused.
   pub ended : IfErr result (λ e. (place : Place) (held : Held) (format : ℕ) → HasStore place held format (tree_of old)
       → HasEnded place held to transitions migrations before after refused_before refused_after e)

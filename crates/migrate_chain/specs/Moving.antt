@@ -20,7 +20,8 @@ use Rattle.migrate_chain.specs.declared.start.Start.{Start}
 use Rattle.migrate_chain.specs.declared.moving.Moved.{Moved}
 use Rattle.migrate_chain.specs.declared.task_error.TaskError.{TaskError}
 use Rattle.migrate_chain.specs.declared.move_error.MoveError.{MoveError}
-use Rattle.migrate_chain.specs.declared.move_error.MoveError.TheVariants.{NoStore, BadLink, BadJournal, Damaged, Missing, Conflict, Status, BadAnswer, Spawn, Failed, Memory}
+use Rattle.migrate_chain.specs.declared.move_error.MoveError.TheVariants.{NoStore, BadLink, BadJournal, Damaged, Missing}
+use Rattle.migrate_chain.specs.declared.move_error.MoveError.TheVariants.{Conflict, Status, BadAnswer, Spawn, Failed, Memory}
 
 -- The tasks were carried out, one after another, and noted.
 pub record IsCarried (tasks : List Task) (held : Held) (before after : Option (List Mapped)) (made : Held) : Type 0 where
@@ -48,13 +49,13 @@ pub record IsStopped (tasks : List Task) (held : Held) (before after : Option (L
   pub noted : refused_after ≡ with_more refused_before (refusals_of task reached error)
   pub refused : Refuses task reached error
 
--- A task was refused, or the disk failed behind some of them.
+-- A task was refused, or the disk failed after some of them.
 abbrev pub EndsEarly : List Task → Held → Option (List Mapped) → Option (List Mapped) → Option (List Refused) → Option (List Refused) → MoveError → Type 0
 EndsEarly tasks held before after refused_before refused_after error =
     ((e : DiskErr) × (error ≡ of_disk e) × IsPartly tasks held before after × (refused_after ≡ refused_before))
     ⊎ ((e : TaskError) × (error ≡ of_task e) × IsStopped tasks held before after refused_before refused_after e)
 
--- A task was refused, or the disk failed behind some of them, or all were carried out and the disk failed or memory was wanting.
+-- A task was refused, or the disk failed after some of them, or all were carried out and the disk failed or memory ran out.
 abbrev pub Ends : List Task → Held → Option (List Mapped) → Option (List Mapped) → Option (List Refused) → Option (List Refused) → MoveError → Type 0
 Ends tasks held before after refused_before refused_after error =
     EndsEarly tasks held before after refused_before refused_after error
@@ -74,7 +75,7 @@ is_early (Spawn name) = false
 is_early Failed = false
 is_early Memory = false
 
--- The error comes behind the reading of the store: no plan, or a refusal of a migration, or a program that could not be asked.
+-- The error comes after the reading of the store: no plan, or a refusal of a migration, or a program that could not be asked.
 abbrev pub IsBehind : MoveError → Type 0
 IsBehind NoStore = ⊥
 IsBehind (BadLink path) = ⊥
@@ -102,13 +103,13 @@ IsRefusal (Spawn name) = Unit {0}
 IsRefusal Failed = ⊥
 IsRefusal Memory = ⊥
 
--- A data directory of the version stands for what is held, and is on the disk.
+-- A data directory of the version represents what is held, and is on the disk.
 pub record IsSaved (version : Version) (held : Held) (target : Target) (old new : History) : Type 0 where
   pub version_is : target.version ≡ version
   pub stands : Stands (files_below (directory target) (tree_of new)) held 2
   pub settled : IsSettled new
 
--- The links were not pointed to the data directory whole: memory was wanting and nothing was done, or the disk failed and a part of it was.
+-- The links were not pointed to the data directory whole: it ran out of memory and nothing was done, or the disk failed and a part of it was.
 abbrev pub FallsShort : Target → Option History → Option History → MoveError → Type 0
 FallsShort target before after error =
     ((error ≡ Memory) × (after ≡ before)) ⊎ ((failure : Failure) × (error ≡ of_failure failure) × Moves before after (Flips target (Err failure)))
@@ -119,7 +120,7 @@ pub record IsAtHand (start : Start) (history : History) : Type 0 where
   pub stands : Stands (files_below start.place.directory (tree_of history)) start.held start.format
   pub settled : IsSettled history
 
--- The links lead to a data directory of the version, which stands in format 2 for what all of the tasks made, with every key owed.
+-- The links lead to a data directory of the version, which represents, in format 2, what all of the tasks made, with every key owed.
 pub record HasMoved (tasks : List Task) (to : Version) (held : Held) (before after : Option (List Mapped)) (tree : Tree) : Type 0 where
   pub made : Held
   pub carried : IsCarried tasks held before after made
@@ -138,7 +139,8 @@ pub record IsAnswer (moved : Moved) (from to : Version) (tree : Tree) : Type 0 w
   pub led : Resolves tree (found to moved.directory)
 
 -- The store is moved along the tasks.
-pub record MovesAlong (start : Start) (tasks : List Task) (to : Version) (before after : Option (List Mapped)) (result : Result Moved MoveError) (old new : History) : Type 0 where
+pub record MovesAlong (start : Start) (tasks : List Task) (to : Version) (before after : Option (List Mapped)) (result : Result Moved MoveError)
+    (old new : History) : Type 0 where
   -- At every moment it is as it was, or it has moved.
   pub any_moment : IsAtHand start old → EachSince (HasOldOrNew start tasks to before after) old new
   -- After Ok it has moved, and this is on the disk.

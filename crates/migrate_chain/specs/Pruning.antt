@@ -26,14 +26,17 @@ pub record Prunes (result : Result ℕ PruneError) (old new : History) : Type 0 
   -- Before the first sync nothing is written, and after it only below other data directories.
   pub sync_first : (place : Place) → Resolves (tree_of old) (at_place place) → FromSyncOn (Touches (IsInOther place.directory)) old new
   -- From that sync on each image has the store where it was and as it was, with the journal that may be in it.
-  pub keeps : (place : Place) (held : Held) (format : ℕ) → HasStore place held format (tree_of old) → FromSyncOn (EachSince (HasStore place held format)) old new
+  pub keeps : (place : Place) (held : Held) (format : ℕ) → HasStore place held format (tree_of old)
+      → FromSyncOn (EachSince (HasStore place held format)) old new
   -- On a settled disk this is so from the start.
-  pub kept : (place : Place) (held : Held) (format : ℕ) → IsSettled old → HasStore place held format (tree_of old) → EachSince (HasStore place held format) old new
+  pub kept : (place : Place) (held : Held) (format : ℕ) → IsSettled old → HasStore place held format (tree_of old)
+      → EachSince (HasStore place held format) old new
   -- After Ok nothing is left below another data directory.
   pub emptied : OnOk result ((place : Place) → Resolves (tree_of old) (at_place place)
       → (path : Names) → IsLeftOver place.directory path → node_at (tree_of new) path ≡ None)
   -- The answer is how many nodes were there.
-  pub counted : IfOk result (λ count. (place : Place) → Resolves (tree_of old) (at_place place) → SoMany (IsLeftOver place.directory) (paths_in_store old) count)
+  pub counted : IfOk result (λ count. (place : Place) → Resolves (tree_of old) (at_place place)
+      → SoMany (IsLeftOver place.directory) (paths_in_store old) count)
   -- Ok comes only where the links lead to a data directory.
   pub led : OnOk result ((place : Place) × Resolves (tree_of old) (at_place place))
   -- Where no store or a bad link is, nothing is changed.

@@ -17,7 +17,7 @@ use Rattle.migrate_chain.specs.declared.start.Start.{Start}
 use Rattle.migrate_chain.specs.declared.move_error.MoveError.{MoveError}
 use Rattle.migrate_chain.specs.declared.move_error.MoveError.TheVariants.{NoStore, BadLink, BadJournal, Damaged, Missing}
 
--- The links led to the place, and what was read is what its directory stood for. They lead there, and the files stand for it alone and are on the disk.
+-- The links led to the place, and what was read is what its directory represented. They lead there, and the files represent it alone and are on the disk.
 pub record IsReady (start : Start) (old new : History) : Type 0 where
   pub was : HasStore start.place start.held start.format (tree_of old)
   pub led : Resolves (tree_of new) (at_place start.place)
@@ -46,7 +46,8 @@ pub record HasBadJournal (path : Names) (old : History) : Type 0 where
 -- The store is found and its journal carried out.
 pub record Starts (result : Result Start MoveError) (old new : History) : Type 0 where
   -- From the first sync on each image has the store that was there.
-  pub keeps : (place : Place) (held : Held) (format : ℕ) → HasStore place held format (tree_of old) → FromSyncOn (EachSince (HasStore place held format)) old new
+  pub keeps : (place : Place) (held : Held) (format : ℕ) → HasStore place held format (tree_of old)
+      → FromSyncOn (EachSince (HasStore place held format)) old new
   -- Before that sync nothing is written, and after it only below the directory to which the links lead.
   pub sync_first : (place : Place) → Resolves (tree_of old) (at_place place) → FromSyncOn (Touches (IsBelow place.directory)) old new
   -- After Ok the store is ready.

@@ -13,7 +13,7 @@ use Rattle.version_links.specs.Names.{Target, IsTarget, directory}
 use Rattle.version_links.specs.Chain.{Outcome, found, Resolves}
 use Rattle.version_links.specs.declared.chain.Place.{Place}
 
--- The data directory stands for what is held, in this format: its files do, with those of a journal laid over them.
+-- The data directory represents what is held, in this format: its files do, with those of a journal laid over them.
 pub record StandsIn (dir : Names) (held : Held) (format : ℕ) (tree : Tree) : Type 0 where
   pub files : Files
   pub found : TreeStandsFor dir files tree
@@ -23,7 +23,7 @@ pub record StandsIn (dir : Names) (held : Held) (format : ℕ) (tree : Tree) : T
 abbrev pub at_place : Place → Outcome
 at_place place = found place.version place.directory
 
--- The links lead to the data directory, and it stands for what is held, in this format.
+-- The links lead to the data directory, and it represents what is held, in this format.
 pub record HasStore (place : Place) (held : Held) (format : ℕ) (tree : Tree) : Type 0 where
   pub led : Resolves tree (at_place place)
   pub stands : StandsIn place.directory held format tree

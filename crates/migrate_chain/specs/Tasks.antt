@@ -44,7 +44,7 @@ MakesBy (program words) back held made = ⊤
 abbrev pub Makes : Task → Held → Held → Type 0
 Makes task held made = MakesBy task.deed task.back held made
 
--- What a mapping may be refused for: the conflict of its function, or want of memory.
+-- What a mapping may be refused for: the conflict of its function, or out of memory.
 abbrev pub RefusesStep : Step → Held → TaskError → Type 0
 RefusesStep step held (Conflict key) = after_step step held ≡ Err (map_error.Conflict key)
 RefusesStep step held (Status name number) = ⊥
@@ -73,11 +73,11 @@ pub record Refused : Type 0 where
   pub input : Held
   pub refusal : TaskError
 
--- A list, where one is kept, with more behind it.
+-- A list, where one is kept, with more after it.
 abbrev pub with_more : {T : Type 0} → Option (List T) → List T → Option (List T)
 with_more log more = option_map (λ entries. entries ++ more) log
 
--- What is noted of an error: a refusal is, and a failure and want of memory are not.
+-- What is noted of an error: a refusal is, and a failure and out of memory are not.
 abbrev pub refusals_of : Task → Held → TaskError → List Refused
 refusals_of task held (Conflict key) = record { task = task; input = held; refusal = Conflict key } ∷ []
 refusals_of task held (Status name number) = record { task = task; input = held; refusal = Status name number } ∷ []
@@ -117,7 +117,8 @@ tasks_in migrations back t = flat_map (task_in migrations back) (names_in_order 
 abbrev pub tasks_of : List Named → Bool → List Transition → List Task
 tasks_of migrations back way = flat_map (tasks_in migrations back) way
 
--- These tasks were carried out, one after another: the first on what is held, and each other on what the one before it made. A mapping made what its function gives.
+-- These tasks were carried out, one after another: the first on what is held, and each other on what the one before it made. A mapping made what its
+-- function gives.
 abbrev pub AreDone : List Task → Held → List Mapped → Held → Type 0
 AreDone [] held [] made = made ≡ held
 AreDone [] held (m ∷ ms) made = ⊥

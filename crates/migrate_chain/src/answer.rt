@@ -40,7 +40,7 @@ fn state_of(alloc: Global, name: Text, held: &Held, output: &[u8]) -> Result<Hel
 /// What a program made of what is held, by its answer.
 ///
 /// `Status` exactly where its status isn't 0. `BadAnswer` exactly where the output is longer than 16,777,216 bytes, spells nothing
-/// that a store may hold, or spells something with other keys owed or another image text. `Memory` where memory is wanting.
+/// that a store may hold, or spells something with other keys owed or another image text. `Memory` where it runs out of memory.
 pub(crate) fn state_in(
     alloc: Global,
     name: Text,

@@ -62,11 +62,11 @@ fn ask_program<S: Asker>(
 }
 
 /// What the migration makes of what is held, forward or back: a mapping its value, and a program what it answers. A program is
-/// asked with its words and `--forward` or `--backward` behind them, and is given the held text to read.
+/// asked with its words and `--forward` or `--backward` after them, and is given the held text to read.
 ///
 /// `Conflict` exactly where the mapping has one. `Status` exactly where the program's status isn't 0. `BadAnswer` exactly where its
 /// output is longer than 16,777,216 bytes, spells nothing that a store may hold, or spells something with other keys owed or
-/// another image text. `Failed` where it could not be asked: the spawner's count of faults rose. `Memory` where memory is wanting.
+/// another image text. `Failed` where it could not be asked: the spawner's count of faults rose. `Memory` where it runs out of memory.
 pub(crate) fn make<S: Asker>(
     alloc: Global,
     spawner: &mut S,

@@ -1,4 +1,4 @@
-//! A store is moved from one version to another, along the transitions of a release, and what it leaves behind is removed:
+//! A store is moved from one version to another, along the transitions of a release, and what it leaves over is removed:
 //! each crash leaves the old version or the new one, complete. A migration is a mapping, or a child program that is asked
 //! with the held text of what the store holds, and answers that of what it makes of it.
 #![tactic(auto)]

@@ -24,7 +24,7 @@ fn mapped_by(migration: &Migration, back: bool, held: &Held) -> Result<Held, Map
 }
 
 /// What a migration makes of what is held, forward or back: what its mapping gives. It refuses `Conflict` exactly where the mapping
-/// does, and `Memory` where memory is wanting.
+/// does, and `Memory` where it runs out of memory.
 pub(crate) fn made_by(migration: &Migration, back: bool, held: &Held) -> Result<Held, TaskError>
     ensures made { IfOk result (λ made. after_step (step_in (forward_step migration.now) (backward_step migration.now) back) held.now ≡ Ok made) }
     ensures kept { KeepsPrefixRule held.now → IfOk result (Kept held.now) }

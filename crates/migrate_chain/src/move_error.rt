@@ -28,7 +28,7 @@ pub enum MoveError {
         /// Where the file is.
         path: Path,
     },
-    /// The files of the data directory stand for nothing, and this is the first path that is at fault.
+    /// The files of the data directory represent nothing, and this is the first path that is at fault.
     #[error("a file of the data directory is damaged")]
     Damaged {
         /// The path of the file.
@@ -71,7 +71,7 @@ pub enum MoveError {
     /// The disk failed: its count of faults rose.
     #[error("the disk failed")]
     Failed,
-    /// Want of memory.
+    /// Out of memory.
     #[error("out of memory")]
     Memory,
 }

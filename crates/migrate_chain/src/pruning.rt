@@ -98,8 +98,8 @@ fn prune_beside<D: Disk>(alloc: Global, disk: &mut D, directory: &Path) -> Resul
 /// move to this directory. It takes one pass over what is in the folder `store`.
 ///
 /// At every moment the data directory to which the links lead has all its files. `NoStore` where `store/current` is no
-/// link, `BadLink` with the first path of the chain that is bad, `Failed` where the disk failed, `Memory` where memory is
-/// wanting. After `Failed` some files may be left; a later call removes them.
+/// link, `BadLink` with the first path of the chain that is bad, `Failed` where the disk failed, `Memory` where it runs
+/// out of memory. After `Failed` some files may be left; a later call removes them.
 pub fn prune<D: Disk>(alloc: Global, disk: &mut D) -> Result<u64, PruneError>
     ensures prunes { Moves (D.told disk.old) (D.told disk.new) (Prunes result) }
     ensures cause { HasCauseOf PruneError.Failed (D.faults disk.old) (D.faults disk.new) result }

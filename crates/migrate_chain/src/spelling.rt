@@ -25,7 +25,7 @@ fn compact_of(alloc: Global, text: &[u8]) -> Result<Option<String>, AllocError>
 /// What the text spells: it is JSON (RFC 8259), in whatever spelling, with the value of a held text. Numbers are written as whole
 /// numbers, and of two members of one name the last one counts.
 ///
-/// `BadHeld` exactly where it spells nothing that a store may hold; `Memory` where memory is wanting. It takes the time of reading
+/// `BadHeld` exactly where it spells nothing that a store may hold; `Memory` where it runs out of memory. It takes the time of reading
 /// the text and of `HeldText::read`.
 pub(crate) fn read_spelled(alloc: Global, text: &[u8]) -> Result<Held, HeldError>
     ensures ok { IfOk result (SpellsHeld text.now) }

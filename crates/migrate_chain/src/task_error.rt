@@ -28,7 +28,7 @@ pub(crate) enum TaskError {
         /// The name of the migration.
         name: Text,
     },
-    /// Want of memory.
+    /// Out of memory.
     Memory,
 }
 

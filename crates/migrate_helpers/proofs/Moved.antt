@@ -15,7 +15,7 @@ use Rattle.migrate_helpers.specs.declared.setting.Setting.{Setting}
 abbrev pub value_of : Option Setting → Option Scalar
 value_of found = option_map (λ s. s.value) found
 
--- At each key stands the value of the whole: still among the settings, or already among the values.
+-- At each key is the value of the whole: still among the settings, or already among the values.
 abbrev pub Split : FinMap key_cmp Setting → FinMap key_cmp Setting → FinMap key_cmp Scalar → Type 0
 Split whole settings values = (k : List (List ℕ)) → option_or (value_of (get settings k)) (get values k) ≡ value_of (get whole k)
 
@@ -24,20 +24,25 @@ or_none None = refl
 or_none (Some x) = refl
 
 pub split_start : (whole : FinMap key_cmp Setting) (values : FinMap key_cmp Scalar) → values ≡ empty → Split whole whole values
-split_start whole values none k = ap (option_or (value_of (get whole k))) (ap (λ (m : FinMap key_cmp Scalar). get m k) none ∙ get-empty key_cmp k) ∙ or_none (value_of (get whole k))
+split_start whole values none k = ap (option_or (value_of (get whole k))) (ap (λ (m : FinMap key_cmp Scalar). get m k) none ∙ get-empty key_cmp k)
+    ∙ or_none (value_of (get whole k))
 
-moved_there : (k : List (List ℕ)) (x : Setting) (whole settings : FinMap key_cmp Setting) (values : FinMap key_cmp Scalar) → get settings k ≡ Some x → Split whole settings values → Split whole (remove settings k) (insert values k x.value)
+moved_there : (k : List (List ℕ)) (x : Setting) (whole settings : FinMap key_cmp Setting) (values : FinMap key_cmp Scalar) → get settings k ≡ Some x
+    → Split whole settings values → Split whole (remove settings k) (insert values k x.value)
 moved_there k x whole settings values is split q =
     ap (λ o. option_or (value_of o) (get (insert values k x.value) q)) (get-remove key_total settings k q)
     ∙ ap (option_or (value_of (cond (eq_by_cmp key_cmp q k) None (get settings q)))) (get-insert key_total values k x.value q)
     ∙ by (eq_by_cmp key_cmp q k) refl
   where
-    by : (b : Bool) → eq_by_cmp key_cmp q k ≡ b → option_or (value_of (cond b None (get settings q))) (cond b (Some x.value) (get values q)) ≡ value_of (get whole q)
-    by true tie = sym (ap (λ o. option_or (value_of o) (get values k)) is) ∙ split k ∙ ap (λ (p : List (List ℕ)). value_of (get whole p)) (sym (key_cmp-IsAntisymmetric q k (tied_by _ tie)))
+    by : (b : Bool) → eq_by_cmp key_cmp q k ≡ b → option_or (value_of (cond b None (get settings q))) (cond b (Some x.value) (get values q)) ≡ value_of
+        (get whole q)
+    by true tie = sym (ap (λ o. option_or (value_of o) (get values k)) is) ∙ split k ∙ ap (λ (p : List (List ℕ)). value_of (get whole p))
+        (sym (key_cmp-IsAntisymmetric q k (tied_by _ tie)))
     by false tie = split q
 
--- With one more value moved, the same stands at each key.
-pub split_next : (k : List (List ℕ)) (whole settings left : FinMap key_cmp Setting) (values more : FinMap key_cmp Scalar) → IsSome (get settings k) → left ≡ remove settings k → more ≡ option_map_or (λ s. insert values k s.value) (get settings k) values
+-- With one more value moved, the same is at each key.
+pub split_next : (k : List (List ℕ)) (whole settings left : FinMap key_cmp Setting) (values more : FinMap key_cmp Scalar) → IsSome (get settings k)
+    → left ≡ remove settings k → more ≡ option_map_or (λ s. insert values k s.value) (get settings k) values
     → Split whole settings values → Split whole left more
 split_next k whole settings left values more has taken put split = by (get settings k) refl has put
   where
@@ -47,6 +52,8 @@ split_next k whole settings left values more has taken put split = by (get setti
         ∙ ap (λ (m : FinMap key_cmp Scalar). option_or (value_of (get (remove settings k) q)) (get m q)) put ∙ moved_there k x whole settings values is split q
 
 -- Where no setting is left, the values are those of the whole.
-pub split_end : (whole settings : FinMap key_cmp Setting) (values : FinMap key_cmp Scalar) → HasNoneAfter settings None → Split whole settings values → values ≡ values_of whole
+pub split_end : (whole settings : FinMap key_cmp Setting) (values : FinMap key_cmp Scalar) → HasNoneAfter settings None → Split whole settings values
+    → values ≡ values_of whole
 split_end whole settings values none split = same_map key_total key_cmp-IsAntisymmetric values (values_of whole) (λ k.
-    ap (λ o. option_or (value_of o) (get values k)) (sym (none.none k tt)) ∙ split k ∙ sym (get-mapped key_total key_cmp-IsAntisymmetric (λ k x. x.value) whole k))
+    ap (λ o. option_or (value_of o) (get values k)) (sym (none.none k tt)) ∙ split k
+    ∙ sym (get-mapped key_total key_cmp-IsAntisymmetric (λ k x. x.value) whole k))

@@ -25,10 +25,12 @@ put_replaced : pending_replaced (codes "Welcome") (codes "Hello") (Put (Text (co
 put_replaced = refl
 
 -- A weak setting stays weak below `settings`, and is strong elsewhere.
-still_weak : setting_at (codes "settings" ∷ codes "motd" ∷ []) (record { value = Text (codes "Welcome"); weak = true }) ≡ record { value = Text (codes "Welcome"); weak = true }
+still_weak : setting_at (codes "settings" ∷ codes "motd" ∷ []) (record { value = Text (codes "Welcome"); weak = true }) ≡
+    record { value = Text (codes "Welcome"); weak = true }
 still_weak = refl
 
-not_weak : setting_at (codes "services" ∷ codes "motd" ∷ []) (record { value = Text (codes "Welcome"); weak = true }) ≡ record { value = Text (codes "Welcome"); weak = false }
+not_weak : setting_at (codes "services" ∷ codes "motd" ∷ []) (record { value = Text (codes "Welcome"); weak = true }) ≡
+    record { value = Text (codes "Welcome"); weak = false }
 not_weak = refl
 
 -- A key is a proper prefix of a longer one that begins with it, and not of itself.
@@ -39,5 +41,6 @@ same : is_proper_prefix (codes "settings" ∷ codes "ntp" ∷ []) (codes "settin
 same = refl
 
 -- Pairs go back in reverse order.
-back : swapped_back ((codes "a" ∷ [], codes "b" ∷ []) ∷ (codes "b" ∷ [], codes "c" ∷ []) ∷ []) ≡ (codes "c" ∷ [], codes "b" ∷ []) ∷ (codes "b" ∷ [], codes "a" ∷ []) ∷ []
+back : swapped_back ((codes "a" ∷ [], codes "b" ∷ []) ∷ (codes "b" ∷ [], codes "c" ∷ []) ∷ []) ≡ (codes "c" ∷ [], codes "b" ∷ [])
+    ∷ (codes "b" ∷ [], codes "a" ∷ []) ∷ []
 back = refl

@@ -1,5 +1,6 @@
 -- The settings of a content are its content, both ways.
-use Rattle.std.proofs.Common.{◌≡◌, ◌||◌, ℕ, List, [], ◌∷◌, Option, Some, None, Bool, true, false, cond, filter, is_some, option_map, unwrap_or, refl, sym, ◌∙◌, ap}
+use Rattle.std.proofs.Common.{◌≡◌, ◌||◌, ℕ, List, [], ◌∷◌, Option, Some, None, Bool}
+use Rattle.std.proofs.Common.{true, false, cond, filter, is_some, option_map, unwrap_or, refl, sym, ◌∙◌, ap}
 use Rattle.std.specs.Prelude.{All}
 use Rattle.std.specs.List.{AllByRecursion, list_any}
 use Rattle.std.specs.Ordering.{eq_by_cmp, is_eq, ordering_reverse}
@@ -28,29 +29,34 @@ same_Some x y is = ap (λ o. unwrap_or o x) is
 none_weak : (es : List (List (List ℕ) × Setting)) (q : List (List ℕ)) → find key_cmp q es ≡ None → list_any (eq_by_cmp key_cmp q) (weak_keys es) ≡ false
 none_weak [] q none = refl
 none_weak (e ∷ es) q none = by (eq_by_cmp key_cmp q e.0) refl e.1.weak none (none_weak es q) where
-  by : (b : Bool) → eq_by_cmp key_cmp q e.0 ≡ b → (w : Bool) → cond b (Some e.1) (find key_cmp q es) ≡ None → (find key_cmp q es ≡ None → list_any (eq_by_cmp key_cmp q) (weak_keys es) ≡ false)
+  by : (b : Bool) → eq_by_cmp key_cmp q e.0 ≡ b → (w : Bool) → cond b (Some e.1) (find key_cmp q es) ≡ None
+      → (find key_cmp q es ≡ None → list_any (eq_by_cmp key_cmp q) (weak_keys es) ≡ false)
       → list_any (eq_by_cmp key_cmp q) (firsts (cond w (e ∷ filter (λ e. e.1.weak) es) (filter (λ e. e.1.weak) es))) ≡ false
   by true tie w is rest = absurd (cc is)
   by false tie true is rest = or_from _ _ tie (rest is)
   by false tie false is rest = rest is
 
 -- A setting is weak where its key is one of the weak keys.
-weak_of : (es : List (List (List ℕ) × Setting)) → is_sorted key_cmp es ≡ true → (q : List (List ℕ)) (x : Setting) → find key_cmp q es ≡ Some x → list_any (eq_by_cmp key_cmp q) (weak_keys es) ≡ x.weak
+weak_of : (es : List (List (List ℕ) × Setting)) → is_sorted key_cmp es ≡ true → (q : List (List ℕ)) (x : Setting) → find key_cmp q es ≡ Some x
+    → list_any (eq_by_cmp key_cmp q) (weak_keys es) ≡ x.weak
 weak_of [] order q x has = absurd (cc has)
 weak_of (e ∷ es) order q x has = by (eq_by_cmp key_cmp q e.0) refl e.1.weak refl has (weak_of es sorted.1 q x) where
   sorted : (below_all key_cmp e.0 es ≡ true) × (is_sorted key_cmp es ≡ true)
   sorted = and_parts (below_all key_cmp e.0 es) (is_sorted key_cmp es) order
 
-  by : (b : Bool) → eq_by_cmp key_cmp q e.0 ≡ b → (w : Bool) → e.1.weak ≡ w → cond b (Some e.1) (find key_cmp q es) ≡ Some x → (find key_cmp q es ≡ Some x → list_any (eq_by_cmp key_cmp q) (weak_keys es) ≡ x.weak)
+  by : (b : Bool) → eq_by_cmp key_cmp q e.0 ≡ b → (w : Bool) → e.1.weak ≡ w → cond b (Some e.1) (find key_cmp q es) ≡ Some x
+      → (find key_cmp q es ≡ Some x → list_any (eq_by_cmp key_cmp q) (weak_keys es) ≡ x.weak)
       → list_any (eq_by_cmp key_cmp q) (firsts (cond w (e ∷ filter (λ e. e.1.weak) es) (filter (λ e. e.1.weak) es))) ≡ x.weak
   by true tie true w is rest = or_left _ _ tie ∙ sym w ∙ ap (λ (s : Setting). s.weak) (same_Some e.1 x is)
-  by true tie false w is rest = none_weak es q (ap (λ (k : List (List ℕ)). find key_cmp k es) (key_cmp-IsAntisymmetric q e.0 (tied_by _ tie)) ∙ none_below key_cmp es e.0 sorted.0) ∙ sym w ∙ ap (λ (s : Setting). s.weak) (same_Some e.1 x is)
+  by true tie false w is rest = none_weak es q (ap (λ (k : List (List ℕ)). find key_cmp k es) (key_cmp-IsAntisymmetric q e.0 (tied_by _ tie))
+      ∙ none_below key_cmp es e.0 sorted.0) ∙ sym w ∙ ap (λ (s : Setting). s.weak) (same_Some e.1 x is)
   by false tie true w is rest = ap (λ b. b || list_any (eq_by_cmp key_cmp q) (weak_keys es)) tie ∙ rest is
   by false tie false w is rest = rest is
 
 -- The settings of the content of settings are these.
 pub settings_content : (s : FinMap key_cmp Setting) (metadata : FinMap key_cmp (FinMap bytes_cmp Scalar)) → settings (content_of s metadata) ≡ s
-settings_content s metadata = same_map key_total key_cmp-IsAntisymmetric _ _ (λ q. get-mapped key_total key_cmp-IsAntisymmetric (setting_of (weak_keys (entries s))) (values_of s) q
+settings_content s metadata = same_map key_total key_cmp-IsAntisymmetric _ _
+    (λ q. get-mapped key_total key_cmp-IsAntisymmetric (setting_of (weak_keys (entries s))) (values_of s) q
     ∙ ap (option_map (setting_of (weak_keys (entries s)) q)) (get-mapped key_total key_cmp-IsAntisymmetric (λ k x. x.value) s q) ∙ by q (get s q) refl)
   where
     by : (q : List (List ℕ)) (z : Option Setting) → get s q ≡ z → option_map (setting_of (weak_keys (entries s)) q) (option_map (λ x. x.value) z) ≡ z
@@ -61,7 +67,8 @@ not_in : (k : List (List ℕ)) (ks : List (List (List ℕ))) → AllByRecursion 
 not_in k [] above = refl
 not_in k (y ∷ ks) above = or_from _ _ (ap is_eq above.0) (not_in k ks above.1)
 
-all_past : (k b : List (List ℕ)) (ks : List (List (List ℕ))) → key_cmp k b ≡ Less → AllByRecursion (λ y. key_cmp b y ≡ Less) ks → AllByRecursion (λ y. key_cmp k y ≡ Less) ks
+all_past : (k b : List (List ℕ)) (ks : List (List (List ℕ))) → key_cmp k b ≡ Less → AllByRecursion (λ y. key_cmp b y ≡ Less) ks
+    → AllByRecursion (λ y. key_cmp k y ≡ Less) ks
 all_past k b [] less above = tt
 all_past k b (y ∷ ks) less above = (key_total.trans k b y less above.0, all_past k b ks less above.1)
 
@@ -69,11 +76,14 @@ itself : (k : List (List ℕ)) → eq_by_cmp key_cmp k k ≡ true
 itself k = (eq_by_cmp_equiv key_total).refl k
 
 -- The first of a rising list is in no list whose keys are all above it.
-first_apart : (a b : List (List ℕ)) (xs ys : List (List (List ℕ))) → IsRising (b ∷ ys) → key_cmp a b ≡ Less → list_any (eq_by_cmp key_cmp a) (a ∷ xs) ≡ list_any (eq_by_cmp key_cmp a) (b ∷ ys) → ⊥
-first_apart a b xs ys rises less same = both_ways _ (not_in a (b ∷ ys) (less, all_past a b ys less (sorted_head key_cmp b ys rises))) (sym same ∙ or_left _ _ (itself a))
+first_apart : (a b : List (List ℕ)) (xs ys : List (List (List ℕ))) → IsRising (b ∷ ys) → key_cmp a b ≡ Less
+    → list_any (eq_by_cmp key_cmp a) (a ∷ xs) ≡ list_any (eq_by_cmp key_cmp a) (b ∷ ys) → ⊥
+first_apart a b xs ys rises less same = both_ways _ (not_in a (b ∷ ys) (less, all_past a b ys less (sorted_head key_cmp b ys rises)))
+    (sym same ∙ or_left _ _ (itself a))
 
 -- Rising lists with the same keys are one.
-same_rising : (xs ys : List (List (List ℕ))) → IsRising xs → IsRising ys → ((q : List (List ℕ)) → list_any (eq_by_cmp key_cmp q) xs ≡ list_any (eq_by_cmp key_cmp q) ys) → xs ≡ ys
+same_rising : (xs ys : List (List (List ℕ))) → IsRising xs → IsRising ys
+    → ((q : List (List ℕ)) → list_any (eq_by_cmp key_cmp q) xs ≡ list_any (eq_by_cmp key_cmp q) ys) → xs ≡ ys
 same_rising [] [] one other same = refl
 same_rising [] (b ∷ ys) one other same = absurd (cc (same b, or_left _ (list_any (eq_by_cmp key_cmp b) ys) (itself b)))
 same_rising (a ∷ xs) [] one other same = absurd (cc (same a, or_left _ (list_any (eq_by_cmp key_cmp a) xs) (itself a)))
@@ -83,9 +93,11 @@ same_rising (a ∷ xs) (b ∷ ys) one other same = by (key_cmp a b) refl (same_r
       let at : q ≡ a = key_cmp-IsAntisymmetric q a (tied_by _ tie) in
       ap (λ (k : List (List ℕ)). list_any (eq_by_cmp key_cmp k) xs) at ∙ not_in a xs (sorted_head key_cmp a xs one)
       ∙ sym (ap (λ (k : List (List ℕ)). list_any (eq_by_cmp key_cmp k) ys) (at ∙ is) ∙ not_in b ys (sorted_head key_cmp b ys other))
-  tails is q false tie = sym (ap (λ c. c || list_any (eq_by_cmp key_cmp q) xs) tie) ∙ same q ∙ ap (λ c. c || list_any (eq_by_cmp key_cmp q) ys) (ap (eq_by_cmp key_cmp q) (sym is) ∙ tie)
+  tails is q false tie = sym (ap (λ c. c || list_any (eq_by_cmp key_cmp q) xs) tie) ∙ same q
+      ∙ ap (λ c. c || list_any (eq_by_cmp key_cmp q) ys) (ap (eq_by_cmp key_cmp q) (sym is) ∙ tie)
 
-  by : (r : Ordering) → key_cmp a b ≡ r → (((q : List (List ℕ)) → list_any (eq_by_cmp key_cmp q) xs ≡ list_any (eq_by_cmp key_cmp q) ys) → xs ≡ ys) → a ∷ xs ≡ b ∷ ys
+  by : (r : Ordering) → key_cmp a b ≡ r → (((q : List (List ℕ)) → list_any (eq_by_cmp key_cmp q) xs ≡ list_any (eq_by_cmp key_cmp q) ys) → xs ≡ ys)
+      → a ∷ xs ≡ b ∷ ys
   by Less is rest = absurd (first_apart a b xs ys other is (same a))
   by Equal is rest =
       let at : a ≡ b = key_cmp-IsAntisymmetric a b is in
@@ -105,13 +117,15 @@ content_settings c may rises = λ i. record { values = values i; metadata = c.me
       ∙ ap (option_map (λ x. x.value)) (get-mapped key_total key_cmp-IsAntisymmetric (setting_of c.weak) c.values q) ∙ there q (get c.values q))
 
   not_weak : (q : List (List ℕ)) → get c.values q ≡ None → list_any (eq_by_cmp key_cmp q) c.weak ≡ false
-  not_weak q none = false_from_ne_true _ (λ any. let here : MayBeWeak c.values q = any_all (MayBeWeak c.values) q c.weak may any in absurd (cc (here.stands, ap is_some none)))
+  not_weak q none = false_from_ne_true _ (λ any. let here : MayBeWeak c.values q = any_all (MayBeWeak c.values) q c.weak may any in
+      absurd (cc (here.stands, ap is_some none)))
 
   missing : (k : List (List ℕ)) (z : Option Scalar) → option_map (setting_of c.weak k) z ≡ None → z ≡ None
   missing k None is = refl
   missing k (Some v) is = absurd (cc is)
 
-  at : (q : List (List ℕ)) (z : Option Setting) → get (settings c) q ≡ z → list_any (eq_by_cmp key_cmp q) (weak_keys (entries (settings c))) ≡ list_any (eq_by_cmp key_cmp q) c.weak
+  at : (q : List (List ℕ)) (z : Option Setting) → get (settings c) q ≡ z → list_any (eq_by_cmp key_cmp q) (weak_keys (entries (settings c))) ≡ list_any
+      (eq_by_cmp key_cmp q) c.weak
   at q None is = none_weak (entries (settings c)) q (sym (get-entries (settings c) q) ∙ is)
       ∙ sym (not_weak q (missing q (get c.values q) (sym (get-mapped key_total key_cmp-IsAntisymmetric (setting_of c.weak) c.values q) ∙ is)))
   at q (Some x) is = weak_of (entries (settings c)) (in_order (settings c)) q x (sym (get-entries (settings c) q) ∙ is)

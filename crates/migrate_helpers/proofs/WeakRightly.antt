@@ -1,5 +1,6 @@
 -- Only settings at keys that begin with `settings` are weak, before and after each edit.
-use Rattle.std.proofs.Common.{◌≡◌, ◌||◌, ℕ, List, [], ◌∷◌, Option, Some, None, Ok, Bool, true, false, cond, not, fold, IsTrue, option_map, unwrap_or, refl, sym, ◌∙◌, ap, subst}
+use Rattle.std.proofs.Common.{◌≡◌, ◌||◌, ℕ, List, [], ◌∷◌, Option, Some, None, Ok, Bool, true}
+use Rattle.std.proofs.Common.{false, cond, not, fold, IsTrue, option_map, unwrap_or, refl, sym, ◌∙◌, ap, subst}
 use Rattle.std.specs.Prelude.{All}
 use Rattle.std.specs.List.{list_any}
 use Rattle.std.specs.Option.{option_map_or}
@@ -35,7 +36,8 @@ same_Some : {A : Type 0} (x y : A) → Some x ≡ Some y → x ≡ y
 same_Some x y is = ap (λ o. unwrap_or o x) is
 
 -- A value is a weak setting where its key is one of the weak keys.
-pub weakness_of : (ws : List (List (List ℕ))) (k : List (List ℕ)) (z : Option Scalar) (x : Setting) → option_map (setting_of ws k) z ≡ Some x → x.weak ≡ list_any (eq_by_cmp key_cmp k) ws
+pub weakness_of : (ws : List (List (List ℕ))) (k : List (List ℕ)) (z : Option Scalar) (x : Setting) → option_map (setting_of ws k) z ≡ Some x
+    → x.weak ≡ list_any (eq_by_cmp key_cmp k) ws
 weakness_of ws k None x is = absurd (cc is)
 weakness_of ws k (Some v) x is = sym (ap (λ (s : Setting). s.weak) (same_Some (setting_of ws k v) x is))
 
@@ -43,7 +45,8 @@ weakness_of ws k (Some v) x is = sym (ap (λ (s : Setting). s.weak) (same_Some (
 pub rightly_made : (c : Contents) (s : FinMap key_cmp Setting) → IsContent c → s ≡ settings c → IsWeakRightly s
 rightly_made c s content is = subst IsWeakRightly (sym is) (record {
   begins = λ k x has weak.
-      let may : MayBeWeak c.values k = any_all (MayBeWeak c.values) k c.weak content.weak (sym (weakness_of c.weak k (get c.values k) x (sym (get-mapped key_total key_cmp-IsAntisymmetric (setting_of c.weak) c.values k) ∙ has)) ∙ weak) in
+      let may : MayBeWeak c.values k = any_all (MayBeWeak c.values) k c.weak content.weak
+      (sym (weakness_of c.weak k (get c.values k) x (sym (get-mapped key_total key_cmp-IsAntisymmetric (setting_of c.weak) c.values k) ∙ has)) ∙ weak) in
       may.setting;
 })
 
@@ -56,15 +59,23 @@ left true z x is = absurd (cc is)
 left false z x is = is
 
 rightly_remove : (s : FinMap key_cmp Setting) (k : List (List ℕ)) → IsWeakRightly s → IsWeakRightly (remove s k)
-rightly_remove s k rightly = record { begins = λ q x has weak. rightly.begins q x (still (eq_by_cmp key_cmp q k) (get s q) x (sym (get-remove key_total s k q) ∙ has)) weak }
+rightly_remove s k rightly = record {
+  begins = λ q x has weak. rightly.begins q x
+      (still (eq_by_cmp key_cmp q k) (get s q) x (sym (get-remove key_total s k q) ∙ has)) weak;
+}
 
 rightly_without : (s : FinMap key_cmp Setting) (p : List (List ℕ)) → IsWeakRightly s → IsWeakRightly (without_prefix s p)
 rightly_without s p rightly = record { begins = λ q x has weak. rightly.begins q x (left (is_prefix p q) (get s q) x (sym (get-without s p q) ∙ has)) weak }
 
-rightly_insert : (s : FinMap key_cmp Setting) (k : List (List ℕ)) (y : Setting) → IsWeakRightly s → (y.weak ≡ true → IsTrue (is_prefix settings_key k)) → IsWeakRightly (insert s k y)
-rightly_insert s k y rightly here = record { begins = λ q x has weak. by q x (eq_by_cmp key_cmp q k) refl (sym (get-insert key_total s k y q) ∙ has) weak } where
-  by : (q : List (List ℕ)) (x : Setting) (b : Bool) → eq_by_cmp key_cmp q k ≡ b → cond b (Some y) (get s q) ≡ Some x → x.weak ≡ true → IsTrue (is_prefix settings_key q)
-  by q x true tie is weak = subst (λ (z : List (List ℕ)). IsTrue (is_prefix settings_key z)) (sym (key_cmp-IsAntisymmetric q k (tied_by _ tie))) (here (ap (λ (s : Setting). s.weak) (same_Some y x is) ∙ weak))
+rightly_insert : (s : FinMap key_cmp Setting) (k : List (List ℕ)) (y : Setting) → IsWeakRightly s → (y.weak ≡ true → IsTrue (is_prefix settings_key k))
+    → IsWeakRightly (insert s k y)
+rightly_insert s k y rightly here = record {
+  begins = λ q x has weak. by q x (eq_by_cmp key_cmp q k) refl (sym (get-insert key_total s k y q) ∙ has) weak;
+} where
+  by : (q : List (List ℕ)) (x : Setting) (b : Bool) → eq_by_cmp key_cmp q k ≡ b → cond b (Some y) (get s q) ≡ Some x → x.weak ≡ true
+      → IsTrue (is_prefix settings_key q)
+  by q x true tie is weak = subst (λ (z : List (List ℕ)). IsTrue (is_prefix settings_key z)) (sym (key_cmp-IsAntisymmetric q k (tied_by _ tie)))
+      (here (ap (λ (s : Setting). s.weak) (same_Some y x is) ∙ weak))
   by q x false tie is weak = rightly.begins q x is weak
 
 rightly_changed : (old new : List ℕ) (s : FinMap key_cmp Setting) (k : List (List ℕ)) → IsWeakRightly s → IsWeakRightly (changed (setting_replaced old new) s k)
@@ -78,9 +89,12 @@ pub rightly_moved : (s : FinMap key_cmp Setting) (pair : List (List ℕ) × List
 rightly_moved s pair rightly = by (get s pair.0) where
   by : (z : Option Setting) → IsWeakRightly (option_map_or (λ x. insert (remove s pair.0) pair.1 (setting_at pair.1 x)) z s)
   by None = rightly
-  by (Some x) = rightly_insert (remove s pair.0) pair.1 (setting_at pair.1 x) (rightly_remove s pair.0 rightly) (λ weak. (and_parts x.weak (is_prefix settings_key pair.1) weak).1)
+  by (Some x) = rightly_insert (remove s pair.0) pair.1 (setting_at pair.1 x) (rightly_remove s pair.0 rightly)
+      (λ weak. (and_parts x.weak (is_prefix settings_key pair.1) weak).1)
 
-rightly_fold : {E : Type 0} (f : FinMap key_cmp Setting → E → FinMap key_cmp Setting) → ((s : FinMap key_cmp Setting) (e : E) → IsWeakRightly s → IsWeakRightly (f s e)) → (es : List E) (s : FinMap key_cmp Setting) → IsWeakRightly s → IsWeakRightly (fold f s es)
+rightly_fold : {E : Type 0} (f : FinMap key_cmp Setting → E → FinMap key_cmp Setting)
+    → ((s : FinMap key_cmp Setting) (e : E) → IsWeakRightly s → IsWeakRightly (f s e)) → (es : List E) (s : FinMap key_cmp Setting) → IsWeakRightly s
+    → IsWeakRightly (fold f s es)
 rightly_fold f step [] s rightly = rightly
 rightly_fold f step (e ∷ es) s rightly = rightly_fold f step es (f s e) (step s e rightly)
 
@@ -96,5 +110,7 @@ rightly_edited (ReplacesName key name old new) s rightly = rightly
 rightly_edited RemovesWeak s rightly = rightly
 
 -- So settings that came without a conflict are weak rightly.
-pub rightly_allowed : (step : Step) (s made : FinMap key_cmp Setting) → IsWeakRightly s → unless_conflict (conflict (edited setting_at setting_replaced step s)) (edited setting_at setting_replaced step s) ≡ Ok made → IsWeakRightly made
-rightly_allowed step s made rightly fine = subst IsWeakRightly ((allowed _ (edited setting_at setting_replaced step s) made fine).1) (rightly_edited step s rightly)
+pub rightly_allowed : (step : Step) (s made : FinMap key_cmp Setting) → IsWeakRightly s → unless_conflict (conflict (edited setting_at setting_replaced step s))
+    (edited setting_at setting_replaced step s) ≡ Ok made → IsWeakRightly made
+rightly_allowed step s made rightly fine = subst IsWeakRightly ((allowed _ (edited setting_at setting_replaced step s) made fine).1)
+    (rightly_edited step s rightly)

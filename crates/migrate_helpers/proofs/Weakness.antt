@@ -1,5 +1,6 @@
 -- Live settings with their weakness, and the contents that they are parts of.
-use Rattle.std.proofs.Common.{arith, ◌≡◌, ℕ, List, [], ◌∷◌, ◌++◌, Option, Some, None, Bool, true, false, cond, filter, map, is_some, option_map, append_assoc, append-nil, refl, sym, ◌∙◌, ap, subst}
+use Rattle.std.proofs.Common.{arith, ◌≡◌, ℕ, List, [], ◌∷◌, ◌++◌, Option, Some, None, Bool, true}
+use Rattle.std.proofs.Common.{false, cond, filter, map, is_some, option_map, append_assoc, append-nil, refl, sym, ◌∙◌, ap, subst}
 use Rattle.std.specs.Prelude.{All}
 use Rattle.std.specs.List.{AllByRecursion}
 use Rattle.std.specs.List.Sorted.{IsStrictlySortedBy}
@@ -51,21 +52,27 @@ weak_past s after = weak_keys (entries_past s after)
 pub weak_start : (s : FinMap key_cmp Setting) (keys : List (List (List ℕ))) → keys ≡ [] → keys ++ weak_past s None ≡ weak_keys (entries s)
 weak_start s keys none = ap (λ (l : List (List (List ℕ))). l ++ weak_past s None) none ∙ ap weak_keys (walk_start key_total key_cmp-IsAntisymmetric s)
 
-pub weak_next : (s : FinMap key_cmp Setting) (after : Option (List (List ℕ))) (k : List (List ℕ)) (x : Setting) (keys now : List (List (List ℕ))) → IsLeastAfter s after k x → keys ++ weak_past s after ≡ weak_keys (entries s)
+pub weak_next : (s : FinMap key_cmp Setting) (after : Option (List (List ℕ))) (k : List (List ℕ)) (x : Setting) (keys now : List (List (List ℕ)))
+    → IsLeastAfter s after k x → keys ++ weak_past s after ≡ weak_keys (entries s)
     → now ≡ keys ++ weak_keys ((k, x) ∷ []) → now ++ weak_past s (Some k) ≡ weak_keys (entries s)
-weak_next s after k x keys now next left pushed = ap (λ (l : List (List (List ℕ))). l ++ weak_past s (Some k)) pushed ∙ assoc keys (weak_keys ((k, x) ∷ [])) (weak_past s (Some k))
-    ∙ ap (λ (l : List (List (List ℕ))). keys ++ l) (sym (weak_first k x (entries_past s (Some k))) ∙ sym (ap weak_keys (walk_next key_total key_cmp-IsAntisymmetric s after k x next))) ∙ left
+weak_next s after k x keys now next left pushed = ap (λ (l : List (List (List ℕ))). l ++ weak_past s (Some k)) pushed
+    ∙ assoc keys (weak_keys ((k, x) ∷ [])) (weak_past s (Some k))
+    ∙ ap (λ (l : List (List (List ℕ))). keys ++ l) (sym (weak_first k x (entries_past s (Some k)))
+    ∙ sym (ap weak_keys (walk_next key_total key_cmp-IsAntisymmetric s after k x next))) ∙ left
   where
     assoc : (a b c : List (List (List ℕ))) → (a ++ b) ++ c ≡ a ++ (b ++ c)
     assoc a b c = append_assoc a b c
 
-pub weak_end : (s : FinMap key_cmp Setting) (after : Option (List (List ℕ))) (keys : List (List (List ℕ))) → HasNoneAfter s after → keys ++ weak_past s after ≡ weak_keys (entries s) → keys ≡ weak_keys (entries s)
-weak_end s after keys none left = sym (ap (λ (l : List (List (List ℕ))). keys ++ l) (ap weak_keys (walk_end key_total key_cmp-IsAntisymmetric s after none)) ∙ append-nil keys) ∙ left
+pub weak_end : (s : FinMap key_cmp Setting) (after : Option (List (List ℕ))) (keys : List (List (List ℕ))) → HasNoneAfter s after
+    → keys ++ weak_past s after ≡ weak_keys (entries s) → keys ≡ weak_keys (entries s)
+weak_end s after keys none left = sym (ap (λ (l : List (List (List ℕ))). keys ++ l) (ap weak_keys (walk_end key_total key_cmp-IsAntisymmetric s after none))
+    ∙ append-nil keys) ∙ left
 
 all_above : (k : List (List ℕ)) (es : List (List (List ℕ) × Setting)) → below_all key_cmp k es ≡ true → AllByRecursion (λ y. key_cmp k y ≡ Less) (weak_keys es)
 all_above k [] below = tt
 all_above k (e ∷ es) below = by e.1.weak (all_above k es ((and_parts (is_lt (key_cmp k e.0)) (below_all key_cmp k es) below).1)) where
-  by : (b : Bool) → AllByRecursion (λ y. key_cmp k y ≡ Less) (weak_keys es) → AllByRecursion (λ y. key_cmp k y ≡ Less) (firsts (cond b (e ∷ filter (λ e. e.1.weak) es) (filter (λ e. e.1.weak) es)))
+  by : (b : Bool) → AllByRecursion (λ y. key_cmp k y ≡ Less) (weak_keys es)
+      → AllByRecursion (λ y. key_cmp k y ≡ Less) (firsts (cond b (e ∷ filter (λ e. e.1.weak) es) (filter (λ e. e.1.weak) es)))
   by true rest = (less _ ((and_parts (is_lt (key_cmp k e.0)) (below_all key_cmp k es) below).0), rest)
   by false rest = rest
 
@@ -73,7 +80,8 @@ rising : (es : List (List (List ℕ) × Setting)) → is_sorted key_cmp es ≡ t
 unfolding IsStrictlySortedBy
 rising [] order = tt
 rising (e ∷ es) order = by e.1.weak (rising es ((and_parts (below_all key_cmp e.0 es) (is_sorted key_cmp es) order).1)) where
-  by : (b : Bool) → IsStrictlySortedBy key_cmp (weak_keys es) → IsStrictlySortedBy key_cmp (firsts (cond b (e ∷ filter (λ e. e.1.weak) es) (filter (λ e. e.1.weak) es)))
+  by : (b : Bool) → IsStrictlySortedBy key_cmp (weak_keys es) → IsStrictlySortedBy key_cmp
+      (firsts (cond b (e ∷ filter (λ e. e.1.weak) es) (filter (λ e. e.1.weak) es)))
   by true rest = (all_above e.0 es ((and_parts (below_all key_cmp e.0 es) (is_sorted key_cmp es) order).0), rest)
   by false rest = rest
 
@@ -81,15 +89,19 @@ rising (e ∷ es) order = by e.1.weak (rising es ((and_parts (below_all key_cmp 
 pub weak_rises : (s : FinMap key_cmp Setting) (keys : List (List (List ℕ))) → keys ≡ weak_keys (entries s) → IsRising keys
 weak_rises s keys is = subst IsRising (sym is) (rising (entries s) (in_order s))
 
-each_weak : (P : List (List ℕ) → Type 0) (es : List (List (List ℕ) × Setting)) → is_sorted key_cmp es ≡ true → ((k : List (List ℕ)) (x : Setting) → find key_cmp k es ≡ Some x → x.weak ≡ true → P k) → All P (weak_keys es)
+each_weak : (P : List (List ℕ) → Type 0) (es : List (List (List ℕ) × Setting)) → is_sorted key_cmp es ≡ true
+    → ((k : List (List ℕ)) (x : Setting) → find key_cmp k es ≡ Some x → x.weak ≡ true → P k) → All P (weak_keys es)
 each_weak P [] order holds = All-nil P
-each_weak P (e ∷ es) order holds = by e.1.weak refl (each_weak P es sorted.1 (λ k x has weak. holds k x (found_behind key_cmp-IsAntisymmetric e es k x sorted.0 has) weak)) where
-  sorted : (below_all key_cmp e.0 es ≡ true) × (is_sorted key_cmp es ≡ true)
-  sorted = and_parts (below_all key_cmp e.0 es) (is_sorted key_cmp es) order
+each_weak P (e ∷ es) order holds = by e.1.weak refl (each_weak P es sorted.1
+    (λ k x has weak. holds k x (found_behind key_cmp-IsAntisymmetric e es k x sorted.0 has) weak)) where
+      sorted : (below_all key_cmp e.0 es ≡ true) × (is_sorted key_cmp es ≡ true)
+      sorted = and_parts (below_all key_cmp e.0 es) (is_sorted key_cmp es) order
 
-  by : (b : Bool) → e.1.weak ≡ b → All P (weak_keys es) → All P (firsts (cond b (e ∷ filter (λ e. e.1.weak) es) (filter (λ e. e.1.weak) es)))
-  by true weak rest = All-cons P e.0 (weak_keys es) (holds e.0 e.1 (cond-true _ (Some e.1) (find key_cmp e.0 es) (ap is_eq (tied_itself key_total e.0))) weak) rest
-  by false weak rest = rest
+      by : (b : Bool) → e.1.weak ≡ b → All P (weak_keys es) → All P (firsts (cond b (e ∷ filter (λ e. e.1.weak) es) (filter (λ e. e.1.weak) es)))
+      by true weak rest = All-cons P e.0 (weak_keys es) (holds e.0 e.1 (cond-true _ (Some e.1) (find key_cmp e.0 es) (ap is_eq (tied_itself key_total e.0)))
+          weak)
+          rest
+      by false weak rest = rest
 
 -- The weak ones of settings may be weak in the content of the settings.
 pub may_be_weak : (s : FinMap key_cmp Setting) → IsWeakRightly s → All (MayBeWeak (values_of s)) (weak_keys (entries s))
@@ -101,19 +113,24 @@ may_be_weak s rightly = each_weak (MayBeWeak (values_of s)) (entries s) (in_orde
   }
 
 -- The content of settings that keep the prefix rule is one.
-pub content_made : (s : FinMap key_cmp Setting) (v : Contents) (values : FinMap key_cmp Scalar) (metadata : FinMap key_cmp (FinMap bytes_cmp Scalar)) (weak : List (List (List ℕ))) → IsContent v → IsPrefixFree s → IsWeakRightly s
+pub content_made : (s : FinMap key_cmp Setting) (v : Contents) (values : FinMap key_cmp Scalar) (metadata : FinMap key_cmp (FinMap bytes_cmp Scalar))
+    (weak : List (List (List ℕ))) → IsContent v → IsPrefixFree s → IsWeakRightly s
     → values ≡ values_of s → metadata ≡ v.metadata → weak ≡ weak_keys (entries s) → IsContent (record { values = values; metadata = metadata; weak = weak })
-content_made s v values metadata weak content free rightly one two three = subst IsContent (λ i. record { values = sym one i; metadata = sym two i; weak = sym three i }) (record {
-  rule = mapped_free (λ k x. x.value) s free;
-  full = content.full;
-  named = content.named;
-  weak = may_be_weak s rightly;
-})
+content_made s v values metadata weak content free rightly one two three =
+    subst IsContent (λ i. record { values = sym one i; metadata = sym two i; weak = sym three i }) (record {
+      rule = mapped_free (λ k x. x.value) s free;
+      full = content.full;
+      named = content.named;
+      weak = may_be_weak s rightly;
+    })
 
 -- A content without its weak settings is one.
-pub strong_made : (v : Contents) (values copies : FinMap key_cmp Scalar) (metadata : FinMap key_cmp (FinMap bytes_cmp Scalar)) (weak keys : List (List (List ℕ))) → IsContent v
-    → copies ≡ v.values → weak ≡ v.weak → values ≡ removed copies weak → metadata ≡ v.metadata → keys ≡ [] → ◌≡◌ {A = Contents} (record { values = values; metadata = metadata; weak = keys }) (strong v)
-strong_made v values copies metadata weak keys content one two three four five = λ i. record { values = (three ∙ ap (λ (m : FinMap key_cmp Scalar). removed m weak) one ∙ ap (removed v.values) two) i; metadata = four i; weak = five i }
+pub strong_made : (v : Contents) (values copies : FinMap key_cmp Scalar) (metadata : FinMap key_cmp (FinMap bytes_cmp Scalar))
+    (weak keys : List (List (List ℕ))) → IsContent v
+    → copies ≡ v.values → weak ≡ v.weak → values ≡ removed copies weak → metadata ≡ v.metadata → keys ≡ []
+    → ◌≡◌ {A = Contents} (record { values = values; metadata = metadata; weak = keys }) (strong v)
+strong_made v values copies metadata weak keys content one two three four five =
+    λ i. record { values = (three ∙ ap (λ (m : FinMap key_cmp Scalar). removed m weak) one ∙ ap (removed v.values) two) i; metadata = four i; weak = five i }
 
 pub strong_content : (v made : Contents) → IsContent v → made ≡ strong v → IsContent made
 strong_content v made content is = subst IsContent (sym is) (record {

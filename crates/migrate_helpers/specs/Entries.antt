@@ -25,12 +25,12 @@ module _ {X : Type 0} where
   abbrev pub removed_below : FinMap key_cmp X → List (List (List ℕ)) → FinMap key_cmp X
   removed_below m prefixes = fold without_prefix m prefixes
 
-  -- The map with what f makes of what stands at the key, if something does.
+  -- The map with what f makes of what is at the key, if something is.
   abbrev pub changed : (X → X) → FinMap key_cmp X → List (List ℕ) → FinMap key_cmp X
   changed f m k = option_map_or (λ x. insert m k (f x)) (get m k) m
 
-  -- The map with what stands at the first key of the pair, if something does, at the second key and
-  -- nowhere else: landed there, over what stood there.
+  -- The map with what is at the first key of the pair, if something is, at the second key and
+  -- nowhere else: landed there, over what was there.
   abbrev pub moved : (List (List ℕ) → X → X) → FinMap key_cmp X → List (List ℕ) × List (List ℕ) → FinMap key_cmp X
   moved land m pair = option_map_or (λ x. insert (remove m pair.0) pair.1 (land pair.1 x)) (get m pair.0) m
 

@@ -24,7 +24,7 @@ keeps_forward m h g rule made = keeps_step (forward_step m) h g rule made
 pub keeps_backward : (m : Migration) (h g : Held) → KeepsPrefixRule h → backward_of m h ≡ Ok g → Kept h g
 keeps_backward m h g rule made = keeps_step (backward_step m) h g rule made
 
--- The way forward never refuses for want of memory.
+-- The way forward never refuses because it is out of memory.
 pub refuses_forward : (m : Migration) (h : Held) (e : MapError) → forward_of m h ≡ Err e → e ≢ Memory
 refuses_forward m h e is = refuses_step (forward_step m) h e is
 

@@ -23,7 +23,7 @@ use Rattle.migrate_helpers.specs.Step.{Stays, Removes, RemovesBelow, Replaces, R
 abbrev pub without_names : FinMap key_cmp (FinMap bytes_cmp Scalar) → List (List ℕ) → List (List ℕ) → FinMap key_cmp (FinMap bytes_cmp Scalar)
 without_names m key names = fold (λ n name. without_value n key name) m names
 
--- The metadata with the new value at the key and the name, where the old one stands there.
+-- The metadata with the new value at the key and the name, where the old one is there.
 abbrev pub name_replaced : FinMap key_cmp (FinMap bytes_cmp Scalar) → List (List ℕ) → List ℕ → Scalar → Scalar → FinMap key_cmp (FinMap bytes_cmp Scalar)
 name_replaced m key name old new = option_map_or (λ v. if scalar_eq v old then with_value m key name new else m) (value_at m key name) m
 

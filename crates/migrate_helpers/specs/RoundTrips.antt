@@ -24,7 +24,7 @@ seconds pairs = map (λ p. p.1) pairs
 abbrev pub IsSecond : List (List (List ℕ) × List (List ℕ)) → List (List ℕ) → Type 0
 IsSecond pairs q = IsTrue (list_any (eq_by_cmp key_cmp q) (seconds pairs))
 
--- The second keys of the pairs are all different, begin with `settings`, and stand in none of the maps.
+-- The second keys of the pairs are all different, begin with `settings`, and are in none of the maps.
 pub record AreNew (pairs : List (List (List ℕ) × List (List ℕ))) (h : Held) : Type 0 where
   pub distinct : IsDistinct (eq_by_cmp key_cmp) (seconds pairs)
   pub begin : (q : List (List ℕ)) → IsSecond pairs q → IsTrue (is_prefix settings_key q)

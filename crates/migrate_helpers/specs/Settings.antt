@@ -55,6 +55,6 @@ abbrev pub pending_replaced : List ℕ → List ℕ → Pending → Pending
 pending_replaced old new (pending.Put v) = pending.Put (text_replaced old new v)
 pending_replaced old new pending.Gone = pending.Gone
 
--- Each weak one of these settings stands at a key that begins with `settings`.
+-- Each weak one of these settings is at a key that begins with `settings`.
 pub record IsWeakRightly (s : FinMap key_cmp Setting) : Type 0 where
   pub begins : (k : List (List ℕ)) (x : Setting) → get s k ≡ Some x → IsTrue x.weak → IsTrue (is_prefix settings_key k)

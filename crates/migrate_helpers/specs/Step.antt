@@ -15,7 +15,7 @@ pub data Step : Type 0 where
   RemovesBelow : List (List (List ℕ)) → Step
   -- At the key a text equal to the first becomes the second.
   Replaces : List (List ℕ) → List ℕ → List ℕ → Step
-  -- For each pair in order, what stands at its first key moves to its second.
+  -- For each pair in order, what is at its first key moves to its second.
   Renames : List (List (List ℕ) × List (List ℕ)) → Step
   -- The names at the key lose their metadata.
   RemovesNames : List (List ℕ) → List (List ℕ) → Step

@@ -123,7 +123,7 @@ fn apply<V: Entry>(edit: &Edit, map: &mut KeyMap<V>) -> Result<(), AllocError>
 /// The entries as the edit leaves them.
 ///
 /// `Conflict` with the least key that is then a proper prefix of another, exactly where there is one;
-/// `Memory` where memory is wanting.
+/// `Memory` where it runs out of memory.
 pub(crate) fn edited<V: Entry>(edit: &Edit, mut map: KeyMap<V>) -> Result<KeyMap<V>, MapError>
     ensures ok { IfOk result (λ made. let whole = edited V.landed V.replaced (step_of edit.now) map
         in unless_conflict (conflict whole) whole ≡ Ok made) }

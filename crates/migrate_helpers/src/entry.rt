@@ -1,4 +1,4 @@
-//! What stands at a key of a map that a migration edits.
+//! What is at a key of a map that a migration edits.
 ghost use Rattle.std.specs.Prelude.{◌≡◌, ℕ, List, IfOk};
 ghost use Rattle.migrate_helpers.specs.Settings.{text_replaced, setting_at, setting_replaced, pending_at, pending_replaced};
 
@@ -8,7 +8,7 @@ use key_names::{Key, Text};
 use settings_tree::is_setting;
 use std::alloc::AllocError;
 
-/// What stands at a key: a live setting, or what is pending.
+/// What is at a key: a live setting, or what is pending.
 pub(crate) trait Entry: Drop {
     /// The entry at another key.
     ghost landed: { List (List ℕ) → Self → Self };
@@ -20,7 +20,7 @@ pub(crate) trait Entry: Drop {
     fn landed(self, key: &Key) -> Self
         ensures { result ≡ landed key.now self };
 
-    /// The entry with its text replaced, where that is the old one. The only error is want of memory.
+    /// The entry with its text replaced, where that is the old one. The only error is out of memory.
     fn replaced(self, old: &Text, new: &Text) -> Result<Self, AllocError>
         ensures { IfOk result (λ entry. entry ≡ replaced old.now new.now self) };
 }

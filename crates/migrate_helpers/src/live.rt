@@ -49,7 +49,7 @@ fn first_key(settings: &KeyMap<Setting>) -> Result<Option<Key>, AllocError>
     }
 }
 
-// Moves what stands at the key, without a copy of its value.
+// Moves what is at the key, without a copy of its value.
 fn move_value(
     settings: &mut KeyMap<Setting>,
     key: Key,
@@ -114,7 +114,7 @@ fn with_settings(content: &Content, settings: KeyMap<Setting>) -> Result<Content
 /// for each and for each key that the edit names.
 ///
 /// `Conflict` with the least key that is then a proper prefix of another, exactly where there is one;
-/// `Memory` where memory is wanting.
+/// `Memory` where it runs out of memory.
 pub(crate) fn edited_live(edit: &Edit, content: &Content) -> Result<Content, MapError>
     ensures ok { IfOk result (λ made. let whole = live_edited (step_of edit.now) content.now
         in unless_conflict (conflict whole) (content_of whole content.now.metadata) ≡ Ok made) }
@@ -126,7 +126,7 @@ pub(crate) fn edited_live(edit: &Edit, content: &Content) -> Result<Content, Map
 }
 
 /// The content without its weak settings. It takes a logarithmic step for each value. The only error
-/// is want of memory.
+/// is out of memory.
 pub(crate) fn without_weak(content: &Content) -> Result<Content, AllocError>
     ensures { IfOk result (λ made. made ≡ strong content.now) }
 {

@@ -12,7 +12,7 @@ pub enum MapError {
         /// rule, and else of the first transaction by name that does.
         key: Key,
     },
-    /// Memory was wanting. It says nothing of what is held.
+    /// Out of memory. It says nothing of what is held.
     Memory,
 }
 

@@ -38,9 +38,9 @@ pub trait Mapping {
     /// The way back keeps the prefix rule, the owed keys and the image text.
     ghost keeps_backward: { (m : Self) (h g : World) → KeepsPrefixRule h → backward_of m h ≡ Ok g → Kept h g };
 
-    /// The way forward never refuses for want of memory.
+    /// The way forward never refuses because it is out of memory.
     ghost refuses_forward: { (m : Self) (h : World) (e : Refusal) → forward_of m h ≡ Err e → e ≢ Memory };
 
-    /// The way back never refuses for want of memory.
+    /// The way back never refuses because it is out of memory.
     ghost refuses_backward: { (m : Self) (h : World) (e : Refusal) → backward_of m h ≡ Err e → e ≢ Memory };
 }

@@ -16,7 +16,7 @@ pub(crate) fn remove_names(content: &mut Content, key: &Key, names: &[Text])
     }
 }
 
-/// Puts the new metadata at the key and the name, where the old stands there. The only error is want
+/// Puts the new metadata at the key and the name, where the old is there. The only error is out
 /// of memory.
 pub(crate) fn replace_name(
     content: &mut Content,

@@ -34,8 +34,8 @@ pub enum Migration {
         old: Text,
         new: Text,
     },
-    /// Settings that moved: forward the pairs in order, what stands at the first key moves to the
-    /// second, over what stands there; backward the pairs in reverse order, second to first. Weakness
+    /// Settings that moved: forward the pairs in order, what is at the first key moves to the
+    /// second, over what is there; backward the pairs in reverse order, second to first. Weakness
     /// moves along to a key that begins with `settings`, and else ends.
     RenameSettings {
         pairs: Vec<(Key, Key)>,
@@ -114,7 +114,7 @@ impl Migration {
         }
     }
 
-    /// A copy that does the same on each way. The only error is want of memory.
+    /// A copy that does the same on each way. The only error is out of memory.
     pub fn copy(&self) -> Result<Migration, AllocError>
         ensures forward { IfOk result (λ copy. forward_step copy ≡ forward_step self.now) }
         ensures backward { IfOk result (λ copy. backward_step copy ≡ backward_step self.now) }

@@ -16,7 +16,7 @@ use std::alloc::Global;
 /// empty. It takes a logarithmic step or two for each key.
 ///
 /// `Conflict` with the least key that is then a proper prefix of another key of its transaction, of
-/// the first transaction that has such a key, exactly where one has; `Memory` where memory is wanting.
+/// the first transaction that has such a key, exactly where one has; `Memory` where it runs out of memory.
 pub(crate) fn edited_pending(
     alloc: Global,
     edit: &Edit,

@@ -12,9 +12,9 @@ pub(crate) enum Edit<'a> {
     RemovesBelow(&'a [Key]),
     /// At the key a text equal to the first becomes the second.
     Replaces(&'a Key, &'a Text, &'a Text),
-    /// For each pair in order, what stands at its first key moves to its second.
+    /// For each pair in order, what is at its first key moves to its second.
     Renames(&'a [(Key, Key)]),
-    /// For each pair in reverse order, what stands at its second key moves to its first.
+    /// For each pair in reverse order, what is at its second key moves to its first.
     RenamesBack(&'a [(Key, Key)]),
 }
 

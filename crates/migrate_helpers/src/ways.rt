@@ -16,7 +16,7 @@ use key_names::{Key, Text};
 use settings_tree::Held;
 use std::alloc::AllocError;
 
-// The live settings come first, so their conflict is the one that is told.
+// The live settings come first, so their conflict is the one that is reported.
 #[tactic(auto, using(crate::specs::Laws::Refusals::refusals))]
 fn edited_held(edit: &Edit, held: &Held) -> Result<Held, MapError>
     ensures ok { IfOk result (λ made. held_edited (step_of edit.now) held.now ≡ Ok made) }
@@ -34,7 +34,10 @@ fn edited_held(edit: &Edit, held: &Held) -> Result<Held, MapError>
 }
 
 fn without_names(held: &Held, key: &Key, names: &[Text]) -> Result<Held, AllocError>
-    ensures { IfOk result (λ made. made ≡ record held.now { live = record held.now.live { metadata = without_names held.now.live.metadata key.now names.now } }) }
+    ensures { IfOk result (λ made. made ≡ record held.now {
+      live = record held.now.live
+          { metadata = without_names held.now.live.metadata key.now names.now };
+    }) }
 {
     let mut made = held.copy()?;
     remove_names(&mut made.live, key, names);
@@ -48,7 +51,12 @@ fn with_name(
     old: &Scalar,
     new: &Scalar,
 ) -> Result<Held, AllocError>
-    ensures { IfOk result (λ made. made ≡ record held.now { live = record held.now.live { metadata = name_replaced held.now.live.metadata key.now name.now old.now new.now } }) }
+    ensures { IfOk result (λ made. made ≡ record held.now {
+      live = record held.now.live {
+        metadata =
+            name_replaced held.now.live.metadata key.now name.now old.now new.now;
+      };
+    }) }
 {
     let mut made = held.copy()?;
     replace_name(&mut made.live, key, name, old, new)?;

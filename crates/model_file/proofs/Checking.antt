@@ -13,7 +13,7 @@ use Rattle.model_file.specs.declared.refusal.Refusal.TheVariants.{Fault, Memory}
 pub passes_both : (rows : RowTexts) (xs ys : List Check) → Passes rows xs → Passes rows ys → Passes rows (xs ++ ys)
 passes_both rows = AllByRecursion-append (Holds rows)
 
--- What is the first to fail in a list is so with others behind it.
+-- What is the first to fail in a list is so with others after it.
 pub failing_before : (rows : RowTexts) (xs ys : List Check) (c : Check) → IsFirstFailing rows xs c → IsFirstFailing rows (xs ++ ys) c
 failing_before rows xs ys c first = record {
   before = first.before;
@@ -33,7 +33,7 @@ failing_after rows xs ys c front first = record {
   fails = first.fails;
 }
 
--- A refusal of some checks is one with others behind them.
+-- A refusal of some checks is one with others after them.
 pub refuses_before : (rows : RowTexts) (xs ys : List Check) (e : Refusal) → Refuses rows xs e → Refuses rows (xs ++ ys) e
 refuses_before rows xs ys Memory refused = tt
 refuses_before rows xs ys (Fault kind at) refused = (refused.0, failing_before rows xs ys refused.0 refused.1, refused.2, refused.3)
@@ -44,12 +44,14 @@ refuses_after rows xs ys Memory front refused = tt
 refuses_after rows xs ys (Fault kind at) front refused = (refused.0, failing_after rows xs ys refused.0 front refused.1, refused.2, refused.3)
 
 -- The first check fails, and the refusal is of its kind and at its path.
-pub refuses_first : (rows : RowTexts) (c : Check) (rest : List Check) (e : Refusal) → (Holds rows c → ⊥) → IsAt (kind_of c) (path_of c) e → Refuses rows (c ∷ rest) e
+pub refuses_first : (rows : RowTexts) (c : Check) (rest : List Check) (e : Refusal) → (Holds rows c → ⊥) → IsAt (kind_of c) (path_of c) e
+    → Refuses rows (c ∷ rest) e
 refuses_first rows c rest Memory fails at = tt
 refuses_first rows c rest (Fault kind text) fails at = (c, record { before = []; after = rest; split = refl; hold = tt; fails = fails }, at.0, at.1)
 
--- Unless memory was wanting, the first check fails, and the refusal is of its kind and at its path.
-pub refuses_unless : (rows : RowTexts) (c : Check) (rest : List Check) (e : Refusal) → (e ≢ Memory → Holds rows c → ⊥) → IsAt (kind_of c) (path_of c) e → Refuses rows (c ∷ rest) e
+-- Unless it ran out of memory, the first check fails, and the refusal is of its kind and at its path.
+pub refuses_unless : (rows : RowTexts) (c : Check) (rest : List Check) (e : Refusal) → (e ≢ Memory → Holds rows c → ⊥) → IsAt (kind_of c) (path_of c) e
+    → Refuses rows (c ∷ rest) e
 refuses_unless rows c rest Memory fails at = tt
 refuses_unless rows c rest (Fault kind text) fails at = refuses_first rows c rest (Fault kind text) (fails (λ same. absurd (cc))) at
 

@@ -22,10 +22,12 @@ use Rattle.key_names.proofs.Prefixes.{behind}
 
 -- In a table no known key begins another.
 pub table_free : (rows : RowTexts) (table : List Row) → IsTableOf rows table → IsPrefixFree table
-table_free rows table is = prefix_free table (permuted_apart (built_in ++ is.given) table is.rows (whole_apart is.given (all_of_settings rows is.given is.spelled) is.apart))
+table_free rows table is = prefix_free table (permuted_apart (built_in ++ is.given) table is.rows
+    (whole_apart is.given (all_of_settings rows is.given is.spelled) is.apart))
 
 -- Two tables of the same rows take the same values.
-pub same_taken : (rows : RowTexts) (one other : List Row) (key : Path) (value : Scalar) → IsTableOf rows one → IsTableOf rows other → IsTyped one key value → IsTyped other key value
+pub same_taken : (rows : RowTexts) (one other : List Row) (key : Path) (value : Scalar) → IsTableOf rows one → IsTableOf rows other → IsTyped one key value
+    → IsTyped other key value
 same_taken rows one other key value is too typed = record {
   row = typed.row;
   has = record { among = same_rows rows one other typed.row is too typed.has.among; matches = typed.has.matches };
@@ -54,10 +56,12 @@ none_typed table key value is = absurd (nothing_there (get {X = Scalar} empty ke
     nothing_there o none some = cc
 
 -- Nor with a typed value at its key.
-pub typed_put : (table : List Row) (values : FinMap key_cmp Scalar) (key : Path) (value : Scalar) → AreTyped table values → IsTyped table key value → AreTyped table (insert values key value)
+pub typed_put : (table : List Row) (values : FinMap key_cmp Scalar) (key : Path) (value : Scalar) → AreTyped table values → IsTyped table key value
+    → AreTyped table (insert values key value)
 typed_put table values key value typed here q v is = by (eq_by_cmp key_cmp q key) refl (sym (get-insert key_total values key value q) ∙ is) where
   by : (b : Bool) → eq_by_cmp key_cmp q key ≡ b → cond b (Some value) (get values q) ≡ Some v → IsTyped table q v
-  by true e same = subst (λ (k : Path). IsTyped table k v) (sym (key_cmp-IsAntisymmetric q key (tied_by (key_cmp q key) e))) (subst (IsTyped table key) (ap (λ o. unwrap_or o value) same) here)
+  by true e same = subst (λ (k : Path). IsTyped table k v) (sym (key_cmp-IsAntisymmetric q key (tied_by (key_cmp q key) e)))
+      (subst (IsTyped table key) (ap (λ o. unwrap_or o value) same) here)
   by false e same = typed q v same
 
 -- ---- maps whose keys are known
@@ -70,7 +74,8 @@ one_known table p k free first second begins =
     sym (parts.1 ∙ ap (λ (l : Path). p ++ l) nothing ∙ append-nil p)
 
 -- A known key fits a map whose keys are known.
-pub known_fits : (table : List Row) (values : FinMap key_cmp Scalar) (key : Path) → IsPrefixFree table → AreKnown table values → IsKnown table key → Fits values key
+pub known_fits : (table : List Row) (values : FinMap key_cmp Scalar) (key : Path) → IsPrefixFree table → AreKnown table values → IsKnown table key
+    → Fits values key
 known_fits table values key free known here = record {
   longer = record { alone = λ q has begins. one_known table key q free here (known q has) begins };
   shorter = record { alone = λ q has begins. one_known table q key free (known q has) here begins };

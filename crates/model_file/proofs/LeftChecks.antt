@@ -15,14 +15,16 @@ pub all_left : (all : List Check) → Decides all all
 all_left all = record { passes = λ rows hold. hold; refuses = λ rows e refused. refused }
 
 -- One more check holds.
-pub one_holds : (left all rest : List Check) (c : Check) → Decides left all → left ≡ c ∷ rest → ((rows : List (List ℕ × List ℕ)) → Passes rows (c ∷ [])) → Decides rest all
+pub one_holds : (left all rest : List Check) (c : Check) → Decides left all → left ≡ c ∷ rest → ((rows : List (List ℕ × List ℕ)) → Passes rows (c ∷ []))
+    → Decides rest all
 one_holds left all rest c so_far is holds = record {
   passes = λ rows hold. so_far.passes rows (rw is ((holds rows).0, hold));
   refuses = λ rows e refused. so_far.refuses rows e (rw is (refuses_after rows (c ∷ []) rest e (holds rows) refused));
 }
 
 -- The next check fails.
-pub one_refused : (left all rest : List Check) (c : Check) (e : Refusal) → Decides left all → left ≡ c ∷ rest → ((rows : List (List ℕ × List ℕ)) → Refuses rows (c ∷ []) e)
+pub one_refused : (left all rest : List Check) (c : Check) (e : Refusal) → Decides left all → left ≡ c ∷ rest
+    → ((rows : List (List ℕ × List ℕ)) → Refuses rows (c ∷ []) e)
     → (rows : List (List ℕ × List ℕ)) → Refuses rows all e
 one_refused left all rest c e so_far is refused rows = so_far.refuses rows e (rw is (refuses_before rows (c ∷ []) rest e (refused rows)))
 

@@ -55,22 +55,27 @@ begins rest = ap is_eq (tied_itself bytes_total (codes "settings"))
 
 module _ (rows : RowTexts) (entry : Path × Found) where
   -- It begins with another name.
-  pub other_refuses : (e : Refusal) → is_prefix settings_key (meta_key entry) ≡ false → IsAt BadMetadata (codes "metadata" ∷ entry.0) e → Refuses rows (key_checks entry) e
-  other_refuses e other at = refuses_first rows (test (is_prefix settings_key (meta_key entry)) BadMetadata (codes "metadata" ∷ entry.0)) (test (is_key (meta_key entry)) BadKey (codes "metadata" ∷ entry.0) ∷ []) e (λ is. both_ways (is_prefix settings_key (meta_key entry)) other is) at
+  pub other_refuses : (e : Refusal) → is_prefix settings_key (meta_key entry) ≡ false → IsAt BadMetadata (codes "metadata" ∷ entry.0) e
+      → Refuses rows (key_checks entry) e
+  other_refuses e other at = refuses_first rows (test (is_prefix settings_key (meta_key entry)) BadMetadata (codes "metadata" ∷ entry.0))
+      (test (is_key (meta_key entry)) BadKey (codes "metadata" ∷ entry.0) ∷ []) e (λ is. both_ways (is_prefix settings_key (meta_key entry)) other is) at
 
   -- It is no key.
-  pub key_refuses : (e : Refusal) (rest : Path) → meta_key entry ≡ codes "settings" ∷ rest → is_key (codes "settings" ∷ rest) ≡ false → IsAt BadKey (codes "metadata" ∷ entry.0) e → Refuses rows (key_checks entry) e
+  pub key_refuses : (e : Refusal) (rest : Path) → meta_key entry ≡ codes "settings" ∷ rest → is_key (codes "settings" ∷ rest) ≡ false
+      → IsAt BadKey (codes "metadata" ∷ entry.0) e → Refuses rows (key_checks entry) e
   key_refuses e rest is no_key at =
       let none : is_key (meta_key entry) ≡ false = ap is_key is ∙ no_key in
-      refuses_after rows (test (is_prefix settings_key (meta_key entry)) BadMetadata (codes "metadata" ∷ entry.0) ∷ []) (test (is_key (meta_key entry)) BadKey (codes "metadata" ∷ entry.0) ∷ []) e
+      refuses_after rows (test (is_prefix settings_key (meta_key entry)) BadMetadata (codes "metadata" ∷ entry.0) ∷ [])
+      (test (is_key (meta_key entry)) BadKey (codes "metadata" ∷ entry.0) ∷ []) e
       (subst (λ (k : Path). IsTrue (is_prefix settings_key k)) (sym is) (begins rest), tt)
       (refuses_first rows (test (is_key (meta_key entry)) BadKey (codes "metadata" ∷ entry.0)) [] e (λ is. both_ways (is_key (meta_key entry)) none is) at)
 
-  -- ---- what stands there
+  -- ---- what is there
 
   -- What follows the checks of the key.
   abbrev value_tests : List Check
-  value_tests = test (is_fit entry.1) BadValue (codes "metadata" ∷ entry.0) ∷ test (has_table entry.1 || is_meta_name (last_name entry.0)) BadMetadata (codes "metadata" ∷ entry.0) ∷ []
+  value_tests = test (is_fit entry.1) BadValue (codes "metadata" ∷ entry.0) ∷ test (has_table entry.1 || is_meta_name (last_name entry.0)) BadMetadata
+      (codes "metadata" ∷ entry.0) ∷ []
 
   -- A refusal of the key.
   pub by_key : (e : Refusal) → Refuses rows (key_checks entry) e → Refuses rows (meta_checks entry) e
@@ -78,22 +83,32 @@ module _ (rows : RowTexts) (entry : Path × Found) where
 
   -- A table passes.
   pub table_passes : entry.1 ≡ found.Table → Passes rows (key_checks entry) → Passes rows (meta_checks entry)
-  table_passes is key = passes_both rows (key_checks entry) value_tests key (ap is_fit is, (ap (λ (f : Found). has_table f || is_meta_name (last_name entry.0)) is, tt))
+  table_passes is key = passes_both rows (key_checks entry) value_tests key
+      (ap is_fit is, (ap (λ (f : Found). has_table f || is_meta_name (last_name entry.0)) is, tt))
 
   -- So does a scalar under a metadata name.
-  pub value_passes : (value : Scalar) → entry.1 ≡ found.Value value → Passes rows (key_checks entry) → IsTrue (is_meta_name (last_name entry.0)) → Passes rows (meta_checks entry)
-  value_passes value is key named = passes_both rows (key_checks entry) value_tests key (ap is_fit is, (ap (λ (f : Found). has_table f || is_meta_name (last_name entry.0)) is ∙ named, tt))
+  pub value_passes : (value : Scalar) → entry.1 ≡ found.Value value → Passes rows (key_checks entry) → IsTrue (is_meta_name (last_name entry.0))
+      → Passes rows (meta_checks entry)
+  value_passes value is key named = passes_both rows (key_checks entry) value_tests key
+      (ap is_fit is, (ap (λ (f : Found). has_table f || is_meta_name (last_name entry.0)) is ∙ named, tt))
 
   -- A scalar under another name is refused.
-  pub name_refuses : (value : Scalar) (e : Refusal) → entry.1 ≡ found.Value value → Passes rows (key_checks entry) → (e ≢ Memory → is_meta_name (last_name entry.0) ≡ false) → IsAt BadMetadata (codes "metadata" ∷ entry.0) e → Refuses rows (meta_checks entry) e
+  pub name_refuses : (value : Scalar) (e : Refusal) → entry.1 ≡ found.Value value → Passes rows (key_checks entry)
+      → (e ≢ Memory → is_meta_name (last_name entry.0) ≡ false) → IsAt BadMetadata (codes "metadata" ∷ entry.0) e → Refuses rows (meta_checks entry) e
   name_refuses value e is key other at =
-      let no_table : (has_table entry.1 || is_meta_name (last_name entry.0)) ≡ is_meta_name (last_name entry.0) = ap (λ (f : Found). has_table f || is_meta_name (last_name entry.0)) is in
+      let no_table : (has_table entry.1 || is_meta_name (last_name entry.0)) ≡ is_meta_name (last_name entry.0) =
+      ap (λ (f : Found). has_table f || is_meta_name (last_name entry.0)) is in
       refuses_after rows (key_checks entry) value_tests e key
-      (refuses_after rows (test (is_fit entry.1) BadValue (codes "metadata" ∷ entry.0) ∷ []) (test (has_table entry.1 || is_meta_name (last_name entry.0)) BadMetadata (codes "metadata" ∷ entry.0) ∷ []) e (ap is_fit is, tt)
-      (refuses_unless rows (test (has_table entry.1 || is_meta_name (last_name entry.0)) BadMetadata (codes "metadata" ∷ entry.0)) [] e (λ some holds. both_ways (is_meta_name (last_name entry.0)) (other some) (sym no_table ∙ holds)) at))
+      (refuses_after rows (test (is_fit entry.1) BadValue (codes "metadata" ∷ entry.0) ∷ [])
+      (test (has_table entry.1 || is_meta_name (last_name entry.0)) BadMetadata (codes "metadata" ∷ entry.0) ∷ []) e (ap is_fit is, tt)
+      (refuses_unless rows (test (has_table entry.1 || is_meta_name (last_name entry.0)) BadMetadata (codes "metadata" ∷ entry.0)) [] e
+      (λ some holds. both_ways (is_meta_name (last_name entry.0)) (other some) (sym no_table ∙ holds)) at))
 
   -- Another value is refused.
-  pub other_value_refuses : (e : Refusal) → entry.1 ≡ found.Other → Passes rows (key_checks entry) → IsAt BadValue (codes "metadata" ∷ entry.0) e → Refuses rows (meta_checks entry) e
+  pub other_value_refuses : (e : Refusal) → entry.1 ≡ found.Other → Passes rows (key_checks entry) → IsAt BadValue (codes "metadata" ∷ entry.0) e
+      → Refuses rows (meta_checks entry) e
   other_value_refuses e is key at =
       refuses_after rows (key_checks entry) value_tests e key
-      (refuses_first rows (test (is_fit entry.1) BadValue (codes "metadata" ∷ entry.0)) (test (has_table entry.1 || is_meta_name (last_name entry.0)) BadMetadata (codes "metadata" ∷ entry.0) ∷ []) e (λ fit. both_ways (is_fit entry.1) (ap is_fit is) fit) at)
+      (refuses_first rows (test (is_fit entry.1) BadValue (codes "metadata" ∷ entry.0))
+      (test (has_table entry.1 || is_meta_name (last_name entry.0)) BadMetadata (codes "metadata" ∷ entry.0) ∷ []) e
+      (λ fit. both_ways (is_fit entry.1) (ap is_fit is) fit) at)

@@ -16,11 +16,14 @@ abbrev pub name_check : List ℕ → Check
 name_check name = test (list_any (eq_by_cmp bytes_cmp name) sections) UnknownSection (name ∷ [])
 
 -- A name that is that of a section.
-pub name_holds : (name bytes : List ℕ) → bytes ≡ name → true ≡ list_any (eq_by_cmp bytes_cmp bytes) sections → (rows : List (List ℕ × List ℕ)) → Passes rows (name_check name ∷ [])
+pub name_holds : (name bytes : List ℕ) → bytes ≡ name → true ≡ list_any (eq_by_cmp bytes_cmp bytes) sections → (rows : List (List ℕ × List ℕ))
+    → Passes rows (name_check name ∷ [])
 name_holds name bytes same found rows = (ap (λ (n : List ℕ). list_any (eq_by_cmp bytes_cmp n) sections) (sym same) ∙ sym found, tt)
 
 -- And one that is not.
-pub name_refused : (name bytes printed : List ℕ) (e : Refusal) → bytes ≡ name → printed ≡ name → false ≡ list_any (eq_by_cmp bytes_cmp bytes) sections → IsAt UnknownSection (printed ∷ []) e
+pub name_refused : (name bytes printed : List ℕ) (e : Refusal) → bytes ≡ name → printed ≡ name → false ≡ list_any (eq_by_cmp bytes_cmp bytes) sections
+    → IsAt UnknownSection (printed ∷ []) e
     → (rows : List (List ℕ × List ℕ)) → Refuses rows (name_check name ∷ []) e
 name_refused name bytes printed e same also none at rows =
-    refuses_first rows (name_check name) [] e (both_ways _ (ap (λ (n : List ℕ). list_any (eq_by_cmp bytes_cmp n) sections) (sym same) ∙ sym none)) (rw (← also) at)
+    refuses_first rows (name_check name) [] e (both_ways _ (ap (λ (n : List ℕ). list_any (eq_by_cmp bytes_cmp n) sections) (sym same) ∙ sym none))
+    (rw (← also) at)

@@ -1,4 +1,4 @@
--- Checks in four parts, one behind the other.
+-- Checks in four parts, one after the other.
 use Rattle.std.proofs.Common.{ℕ, List, ◌++◌}
 use Rattle.model_file.specs.Checks.{Check}
 use Rattle.model_file.specs.Refused.{Passes, Refuses}
@@ -24,4 +24,5 @@ module _ (rows : List (List ℕ × List ℕ)) (a b c d : List Check) where
 
   -- The fourth is, and all before hold.
   pub fourth_refuses : (e : Refusal) → Passes rows a → Passes rows b → Passes rows c → Refuses rows d e → Refuses rows (((a ++ b) ++ c) ++ d) e
-  fourth_refuses e first second third refused = refuses_after rows ((a ++ b) ++ c) d e (passes_both rows (a ++ b) c (passes_both rows a b first second) third) refused
+  fourth_refuses e first second third refused = refuses_after rows ((a ++ b) ++ c) d e (passes_both rows (a ++ b) c (passes_both rows a b first second) third)
+      refused

@@ -32,7 +32,8 @@ same_length (t ∷ ts) [] a = absurd a
 same_length (t ∷ ts) (x ∷ xs) a = omega (arith, same_length ts xs a.1)
 
 -- One row more is spelled.
-spelled_push : (texts : RowTexts) (given : List Row) (t : List ℕ × List ℕ) (x : Row) → AreSpelled texts given → SpellsRow t x → AreSpelled (texts ++ t ∷ []) (given ++ x ∷ [])
+spelled_push : (texts : RowTexts) (given : List Row) (t : List ℕ × List ℕ) (x : Row) → AreSpelled texts given → SpellsRow t x
+    → AreSpelled (texts ++ t ∷ []) (given ++ x ∷ [])
 spelled_push [] [] t x a more = (more, tt)
 spelled_push [] (y ∷ ys) t x a more = absurd a
 spelled_push (s ∷ ss) [] t x a more = absurd a
@@ -57,7 +58,8 @@ next_apart : (front : List Row) (x : Row) (rest : List Row) → AreApart (front 
 next_apart front x rest parted = subst AreApart (sym (append_assoc front (x ∷ []) rest)) parted
 
 -- Where no two rows meet, those checks hold too.
-apart_pass : (rows before texts : RowTexts) (front given : List Row) → AreSpelled before front → AreSpelled texts given → AreApart (front ++ given) → Passes rows (apart_checks before texts)
+apart_pass : (rows before texts : RowTexts) (front given : List Row) → AreSpelled before front → AreSpelled texts given → AreApart (front ++ given)
+    → Passes rows (apart_checks before texts)
 apart_pass rows before [] front given b a parted = tt
 apart_pass rows before (t ∷ ts) front [] b a parted = absurd a
 apart_pass rows before (t ∷ ts) front (x ∷ xs) b a parted =
@@ -66,7 +68,8 @@ apart_pass rows before (t ∷ ts) front (x ∷ xs) b a parted =
     ((front ++ x ∷ [], pushed, apart_first (front ++ x ∷ []) xs next), apart_pass rows (before ++ t ∷ []) ts (front ++ x ∷ []) xs pushed a.1 next)
 
 -- The first row that meets one before it is refused.
-meet_refuses : (rows before texts : RowTexts) (front given : List Row) (k : ℕ) (e : Refusal) → AreSpelled before front → AreSpelled texts given → k < length texts → AreApart (front ++ take k given) → (AreApart (front ++ take (suc k) given) → ⊥) → IsAt RowsMeet (row_path (get_or texts k ([], []))) e
+meet_refuses : (rows before texts : RowTexts) (front given : List Row) (k : ℕ) (e : Refusal) → AreSpelled before front → AreSpelled texts given
+    → k < length texts → AreApart (front ++ take k given) → (AreApart (front ++ take (suc k) given) → ⊥) → IsAt RowsMeet (row_path (get_or texts k ([], []))) e
     → Refuses rows (apart_checks before texts) e
 meet_refuses rows before [] front given k e b a within parted meets at = absurd (omega (arith, within))
 meet_refuses rows before (t ∷ ts) front [] k e b a within parted meets at = absurd a
@@ -89,14 +92,17 @@ pair_meets given i j pair parted =
     let first : get_or (take (suc j) given) i d ≡ get_or given i d = get_or-take (suc j) given i d (omega (arith, pair.ordered)) in
     let second : get_or (take (suc j) given) j d ≡ get_or given j d = get_or-take (suc j) given j d (omega arith) in
     parted i j d pair.ordered (omega (arith, length-take (suc j) given, pair.within))
-    (subst (λ (x : Row). Meet x.pattern (get_or (take (suc j) given) j d).pattern) (sym first) (subst (λ (y : Row). Meet (get_or given i d).pattern y.pattern) (sym second) (pair.meet d)))
+    (subst (λ (x : Row). Meet x.pattern (get_or (take (suc j) given) j d).pattern) (sym first)
+    (subst (λ (y : Row). Meet (get_or given i d).pattern y.pattern) (sym second) (pair.meet d)))
 
 -- All checks of the rows of a table hold.
 pub table_passes : (rows texts : RowTexts) (table : List Row) → IsTableOf texts table → Passes rows (row_checks texts)
-table_passes rows texts table is = passes_both rows (map row_check texts) (apart_checks [] texts) (rows_pass rows texts is.given is.spelled) (apart_pass rows [] texts [] is.given tt is.spelled is.apart)
+table_passes rows texts table is = passes_both rows (map row_check texts) (apart_checks [] texts) (rows_pass rows texts is.given is.spelled)
+    (apart_pass rows [] texts [] is.given tt is.spelled is.apart)
 
 -- The first row that is none is refused.
-pub bad_refuses : (rows texts : RowTexts) (index : ℕ) (e : Refusal) → IsFirstBad texts index → IsAt BadRow (row_path (get_or texts index ([], []))) e → Refuses rows (row_checks texts) e
+pub bad_refuses : (rows texts : RowTexts) (index : ℕ) (e : Refusal) → IsFirstBad texts index → IsAt BadRow (row_path (get_or texts index ([], []))) e
+    → Refuses rows (row_checks texts) e
 bad_refuses rows texts index e bad at =
     let here = get_or texts index ([], []) in
     let front : Passes rows (map row_check (take index texts)) = rows_pass rows (take index texts) bad.before bad.spelled in
@@ -104,18 +110,22 @@ bad_refuses rows texts index e bad at =
     let one : Refuses rows (single here) e = refuses_first rows (row_check here) [] e (λ holds. bad.bad holds.0 holds.1) at in
     refuses_before rows (map row_check texts) (apart_checks [] texts) e
     (subst (λ (l : List Check). Refuses rows l e) (flat_map_single row_check texts)
-    (refuses_at single rows texts index here e bad.within (get_or_default texts index ([], []) here bad.within) (subst (Passes rows) (sym (flat_map_single row_check (take index texts))) front) one))
+    (refuses_at single rows texts index here e bad.within (get_or_default texts index ([], []) here bad.within)
+    (subst (Passes rows) (sym (flat_map_single row_check (take index texts))) front) one))
 
--- The first row that meets another is refused, behind all of these.
-pub meeting_refuses : (rows texts : RowTexts) (i j : ℕ) (e : Refusal) → IsLeastMeeting texts i j → IsAt RowsMeet (row_path (get_or texts j ([], []))) e → Refuses rows (row_checks texts) e
+-- The first row that meets another is refused, after all of these.
+pub meeting_refuses : (rows texts : RowTexts) (i j : ℕ) (e : Refusal) → IsLeastMeeting texts i j → IsAt RowsMeet (row_path (get_or texts j ([], []))) e
+    → Refuses rows (row_checks texts) e
 meeting_refuses rows texts i j e meeting at =
     refuses_after rows (map row_check texts) (apart_checks [] texts) e (rows_pass rows texts meeting.given meeting.spelled)
-    (meet_refuses rows [] texts [] meeting.given j e tt meeting.spelled (omega (arith, same_length texts meeting.given meeting.spelled, meeting.least.within)) meeting.least.least_second (pair_meets meeting.given i j meeting.least) at)
+    (meet_refuses rows [] texts [] meeting.given j e tt meeting.spelled (omega (arith, same_length texts meeting.given meeting.spelled, meeting.least.within))
+    meeting.least.least_second (pair_meets meeting.given i j meeting.least) at)
 
 -- The second of a pair that meets is one of the texts.
 pub meeting_within : (texts : RowTexts) (i j : ℕ) → IsLeastMeeting texts i j → j < length texts
 meeting_within texts i j meeting = omega (arith, same_length texts meeting.given meeting.spelled, meeting.least.within)
 
--- Behind the check that the section is a table.
-pub types_refuses : (rows : RowTexts) (document : Members) (e : Refusal) → Passes rows (table_check (codes "types") document ∷ []) → Refuses rows (row_checks (row_texts document)) e → Refuses rows (types_checks document) e
+-- After the check that the section is a table.
+pub types_refuses : (rows : RowTexts) (document : Members) (e : Refusal) → Passes rows (table_check (codes "types") document ∷ [])
+    → Refuses rows (row_checks (row_texts document)) e → Refuses rows (types_checks document) e
 types_refuses rows document e table refused = refuses_after rows (table_check (codes "types") document ∷ []) (row_checks (row_texts document)) e table refused

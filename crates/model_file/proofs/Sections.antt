@@ -1,5 +1,6 @@
--- What stands under a section's name.
-use Rattle.std.proofs.Common.{◌≡◌, ℕ, List, [], ◌∷◌, Bool, true, Option, Some, None, option_map, unwrap_or, Bor, String, Global, string_bytes, nat_cmp, sym, ◌∙◌, ap}
+-- What is under a section's name.
+use Rattle.std.proofs.Common.{◌≡◌, ℕ, List, [], ◌∷◌, Bool, true, Option, Some, None}
+use Rattle.std.proofs.Common.{option_map, unwrap_or, Bor, String, Global, string_bytes, nat_cmp, sym, ◌∙◌, ap}
 use Rattle.std.specs.BTreeMap.{is_at}
 use Rattle.std.specs.Cmp.Lexicographic.{slice_cmp}
 use Rattle.std.specs.Map.{lookup}
@@ -19,7 +20,8 @@ abbrev pub is_named : List ℕ → String Global → Bool
 is_named name = is_at (λ x. slice_cmp nat_cmp name (string_bytes x))
 
 -- The value that the map finds is the section.
-pub section_is : (name : List ℕ) (found : Option (Bor Value)) (entries : List (String Global × Value)) → option_map (λ x. x.now) found ≡ lookup (is_named name) entries
+pub section_is : (name : List ℕ) (found : Option (Bor Value)) (entries : List (String Global × Value))
+    → option_map (λ x. x.now) found ≡ lookup (is_named name) entries
     → section name (members_view entries) ≡ unwrap_or (option_map (λ x. view x.now) found) (table no_members)
 section_is name found entries get = ap (λ (o : Option Data). unwrap_or o (table no_members)) (sym (table_get found name entries get))
 
@@ -42,12 +44,16 @@ none_from (array ds) none is = cc is
 none_from (table own) none is = cc none
 
 -- A section that is a table.
-pub passes_table : (rows : List (List ℕ × List ℕ)) (name : List ℕ) (document : Members) (d : Data) (ms : Members) → section name document ≡ d → Some ms ≡ as_table d → Passes rows (table_check name document ∷ [])
+pub passes_table : (rows : List (List ℕ × List ℕ)) (name : List ℕ) (document : Members) (d : Data) (ms : Members) → section name document ≡ d
+    → Some ms ≡ as_table d → Passes rows (table_check name document ∷ [])
 passes_table rows name document d ms is found = (ap is_table (is ∙ table_from d ms found), tt)
 
-pub members_table : (name : List ℕ) (document : Members) (d : Data) (ms : Members) → section name document ≡ d → Some ms ≡ as_table d → section_members name document ≡ ms
+pub members_table : (name : List ℕ) (document : Members) (d : Data) (ms : Members) → section name document ≡ d → Some ms ≡ as_table d
+    → section_members name document ≡ ms
 members_table name document d ms is found = ap members_of (is ∙ table_from d ms found)
 
 -- A section that is another value.
-pub refuses_table : (rows : List (List ℕ × List ℕ)) (name : List ℕ) (document : Members) (d : Data) (e : Refusal) → section name document ≡ d → None ≡ as_table d → IsAt NotTable (name ∷ []) e → Refuses rows (table_check name document ∷ []) e
-refuses_table rows name document d e is none at = refuses_first rows (table_check name document) [] e (λ holds. none_from d none (ap is_table (sym is) ∙ holds)) at
+pub refuses_table : (rows : List (List ℕ × List ℕ)) (name : List ℕ) (document : Members) (d : Data) (e : Refusal) → section name document ≡ d
+    → None ≡ as_table d → IsAt NotTable (name ∷ []) e → Refuses rows (table_check name document ∷ []) e
+refuses_table rows name document d e is none at = refuses_first rows (table_check name document) [] e (λ holds. none_from d none (ap is_table (sym is) ∙ holds))
+    at

@@ -19,7 +19,8 @@ use Rattle.model_file.specs.Entries.{Path, members_entries, scalar_found, is_fit
 use Rattle.model_file.specs.Rows.{RowTexts, row_texts}
 use Rattle.model_file.specs.declared.found.Found.{Found}
 use Rattle.model_file.specs.declared.model_error.ModelKind.{ModelKind}
-use Rattle.model_file.specs.declared.model_error.ModelKind.TheVariants.{UnknownSection, NotTable, BadOs, BadRow, RowsMeet, BadKey, BadValue, IllTyped, BadMetadata}
+use Rattle.model_file.specs.declared.model_error.ModelKind.TheVariants.{UnknownSection, NotTable, BadOs, BadRow}
+use Rattle.model_file.specs.declared.model_error.ModelKind.TheVariants.{RowsMeet, BadKey, BadValue, IllTyped, BadMetadata}
 
 -- A check, with the path of the entry that it is made of.
 pub data Check : Type 0 where
@@ -68,7 +69,7 @@ name_checks document = map (λ entry. test (list_any (eq_by_cmp bytes_cmp entry.
 abbrev pub table_check : List ℕ → Members → Check
 table_check name document = test (is_table (section name document)) NotTable (name ∷ [])
 
--- A name of the operating system has one or more bare characters, and stands for a text.
+-- A name of the operating system has one or more bare characters, and represents a text.
 abbrev pub os_check : List ℕ × Data → Check
 os_check entry = test ((nat_lt 0 (length entry.0) && list_all is_bare entry.0) && is_some (text_of entry.1)) BadOs (codes "os" ∷ entry.0 ∷ [])
 
@@ -97,7 +98,7 @@ types_checks document = table_check (codes "types") document ∷ row_checks (row
 abbrev pub section_entries : List ℕ → Members → List (Path × Found)
 section_entries name document = members_entries [] (section_members name document)
 
--- The names down to an entry are a key, what stands there is a table or a scalar, and the types take the scalar.
+-- The names down to an entry are a key, what is there is a table or a scalar, and the types take the scalar.
 abbrev pub value_checks : List ℕ → Path × Found → List Check
 value_checks name entry =
     test (is_key (name ∷ entry.0)) BadKey (name ∷ entry.0) ∷ test (is_fit entry.1) BadValue (name ∷ entry.0) ∷ typed (name ∷ entry.0) entry.1 ∷ []
@@ -128,7 +129,7 @@ key_checks entry =
     test (is_prefix settings_key (meta_key entry)) BadMetadata (codes "metadata" ∷ entry.0)
     ∷ test (is_key (meta_key entry)) BadKey (codes "metadata" ∷ entry.0) ∷ []
 
--- Then, what stands there is a table or a scalar, and a scalar stands under a metadata name.
+-- Then, what is there is a table or a scalar, and a scalar is under a metadata name.
 abbrev pub meta_checks : Path × Found → List Check
 meta_checks entry =
     key_checks entry

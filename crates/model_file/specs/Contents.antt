@@ -18,7 +18,7 @@ abbrev pub with_found : {K V : Type 0} → K → Option V → List (K × V)
 with_found key None = []
 with_found key (Some value) = (key, value) ∷ []
 
--- The entries that stand for texts, each name with its text.
+-- The entries that represent texts, each name with its text.
 abbrev pub os_texts : List (List ℕ × Data) → List (List ℕ × List ℕ)
 os_texts entries = flat_map (λ entry. with_found entry.0 (text_of entry.1)) entries
 

@@ -6,7 +6,7 @@ use Rattle.toml.specs.Data.{Data, string, integer, float, boolean, datetime, arr
 abbrev pub sections : List (List ℕ)
 sections = codes "os" ∷ codes "types" ∷ codes "settings" ∷ codes "services" ∷ codes "configuration-files" ∷ codes "metadata" ∷ []
 
--- What stands under a section's name; a section that is missing is an empty table.
+-- What is under a section's name; a section that is missing is an empty table.
 abbrev pub section : List ℕ → Members → Data
 section name document = unwrap_or (get_member name document) (table no_members)
 

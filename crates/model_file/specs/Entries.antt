@@ -25,7 +25,7 @@ found_of (datetime d) = value_found (scalar_of (datetime d))
 found_of (array ds) = value_found (scalar_of (array ds))
 found_of (table ms) = found.Table
 
--- What stands below a path, in the table's order: each entry directly before those below it.
+-- What is below a path, in the table's order: each entry directly before those below it.
 abbrev mutual
   pub entries : Path → Data → List (Path × Found)
   entries path (string s) = []

@@ -19,7 +19,7 @@ pub enum Found {
     Other,
 }
 
-/// What a value is. The only error is want of memory.
+/// What a value is. The only error is out of memory.
 pub fn found_of(alloc: Global, value: &Value) -> Result<Found, AllocError>
     ensures { IfOk result (λ found. found ≡ found_of (view value.now)) }
 {

@@ -31,7 +31,7 @@ fn longer(key: &Key, name: &str) -> Result<Option<Key>, AllocError>
     }
 }
 
-/// The key of a first segment and of these names, None exactly where that is no key. The only error is want of memory.
+/// The key of a first segment and of these names, None exactly where that is no key. The only error is out of memory.
 pub fn key_of(alloc: Global, first: &str, names: &[Text]) -> Result<Option<Key>, AllocError>
     ensures { IfOk result (λ key. key ≡ (if is_key (first.now ∷ names.now) then Some (first.now ∷ names.now) else None)) }
 {

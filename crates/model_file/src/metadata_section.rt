@@ -32,7 +32,10 @@ pub fn put_metadata(alloc: Global, document: &Table, content: &mut Content) -> R
     ensures passes { (rows : RowTexts)
         → OnOk result (Passes rows (metadata_checks (table_view document.now))) }
     ensures put { OnOk result
-        (content.new ≡ record content.old { metadata = with_metadata (scalars (section_entries (codes "metadata") (table_view document.now))) content.old.metadata }) }
+        (content.new ≡ record content.old {
+          metadata = with_metadata (scalars (section_entries (codes "metadata") (table_view document.now)))
+              content.old.metadata;
+        }) }
     ensures refused { (rows : RowTexts)
         → IfErr result (Refuses rows (metadata_checks (table_view document.now))) }
 {
@@ -135,7 +138,7 @@ fn key_at(alloc: Global, entry: &Entry) -> Result<Key, Refusal>
     }
 }
 
-// The names behind the first, None where that isn't `settings`.
+// The names after the first, None where that isn't `settings`.
 fn behind_settings(names: &[Text]) -> Option<&[Text]>
     ensures names { IfSome result (λ rest. names.now ≡ codes "settings" ∷ rest.now) }
     ensures none { IfNone result (is_prefix settings_key names.now ≡ false) }

@@ -42,9 +42,9 @@ impl Model {
     /// The first fault is answered: `NotToml` at `-` where `toml` doesn't read the text; `UnknownSection` at the least
     /// top-level name that is none; and then the faults of the sections `os`, `types`, `settings`, `services`,
     /// `configuration-files` and `metadata`, in this order. `NotTable` comes first in each. The entries of a section go in
-    /// the order of TOML's table, which is that of the names' bytes, depth first, a table directly before what stands in
-    /// it. In `os`, a name that isn't of bare characters or stands for no text is `BadOs`. In `types`, a name and text that
-    /// are no row are `BadRow`; behind all of these comes `RowsMeet`, at the second row. In the next three, names that
+    /// the order of TOML's table, which is that of the names' bytes, depth first, a table directly before what is in
+    /// it. In `os`, a name that isn't of bare characters or represents no text is `BadOs`. In `types`, a name and text that
+    /// are no row are `BadRow`; after all of these comes `RowsMeet`, at the second row. In the next three, names that
     /// are together no key are `BadKey`, a value that is no scalar is `BadValue`, and one that the types refuse is
     /// `IllTyped`, in this order for each entry. In `metadata`, a key that doesn't begin with `settings` is `BadMetadata`;
     /// then come `BadKey`, `BadValue`, and `BadMetadata` for a name that is no metadata name. `Memory` may come at any

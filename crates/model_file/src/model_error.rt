@@ -2,7 +2,7 @@
 
 use key_names::Text;
 
-/// What is wrong with a model file, or that memory was wanting.
+/// What is wrong with a model file, or that memory ran out.
 #[derive(Clone, Copy, Debug, Drop, PartialEq, Eq)]
 pub enum ModelKind {
     /// The text is no TOML. It is at `-`.
@@ -11,9 +11,9 @@ pub enum ModelKind {
     UnknownSection,
     /// A section is no table.
     NotTable,
-    /// An entry of `os` has no bare name, or stands for no text.
+    /// An entry of `os` has no bare name, or represents no text.
     BadOs,
-    /// An entry of `types` is no row: its name spells no pattern, or it stands for no text that spells a word.
+    /// An entry of `types` is no row: its name spells no pattern, or it represents no text that spells a word.
     BadRow,
     /// The row meets an earlier one.
     RowsMeet,
@@ -26,7 +26,7 @@ pub enum ModelKind {
     IllTyped,
     /// Metadata of no key that begins with `settings`, or under no metadata name.
     BadMetadata,
-    /// Memory was wanting. It is at the empty text.
+    /// Out of memory. It is at the empty text.
     Memory,
 }
 

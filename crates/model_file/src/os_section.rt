@@ -72,7 +72,7 @@ fn name_of(alloc: Global, name: &str, value: &Value) -> Result<OsName, Refusal>
     })
 }
 
-// The text that stands under a name of the operating system, None where either is none.
+// The text that is under a name of the operating system, None where either is none.
 fn os_text<'a>(name: &str, value: &'a Value) -> Option<&'a str>
     ensures { option_copied result ≡ (if nat_lt 0 (length name.now) && list_all is_bare name.now then text_of (view value.now) else None) }
 {

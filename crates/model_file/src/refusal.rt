@@ -8,12 +8,12 @@ use crate::ModelKind;
 use key_names::Text;
 use std::alloc::{AllocError, AllocFailed, Global};
 
-/// A fault and where it is, or want of memory.
+/// A fault and where it is, or out of memory.
 #[derive(Debug, Drop)]
 pub enum Refusal {
     /// The fault of this kind, at this path.
     Fault(ModelKind, Text),
-    /// Memory was wanting.
+    /// Out of memory.
     Memory,
 }
 

@@ -74,7 +74,7 @@ fn rows_in(alloc: Global, table: &Table) -> Result<Vec<(Text, Text)>, AllocError
     Ok(texts)
 }
 
-// The text of a row's word. No word is the empty text, which stands for a value that is no text.
+// The text of a row's word. No word is the empty text, which represents a value that is no text.
 fn word_of(alloc: Global, value: &Value) -> Result<Text, AllocError>
     ensures { IfOk result (λ text. text ≡ unwrap_or (text_of (view value.now)) []) }
 {

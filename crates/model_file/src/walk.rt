@@ -29,7 +29,7 @@ fn copied(alloc: Global, path: &[Text]) -> Result<Vec<Text>, AllocError>
 }
 
 /// The entries of a table, depth first in the table's order, each with its path below the table. It takes time linear in
-/// these paths and the values. The only error is want of memory.
+/// these paths and the values. The only error is out of memory.
 pub fn entries_of(alloc: Global, members: &Table) -> Result<Vec<Entry>, AllocError>
     ensures { IfOk result (λ all. all.items ≡ members_entries [] (table_view members.now)) }
 {

@@ -25,11 +25,13 @@ apart-nil : (es : List Entry) → are_apart es [] ≡ true
 apart-nil [] = refl
 apart-nil (e ∷ es) = apart-nil es
 
-pub apart-flat1 : {X : Type 0} (f : X → List Entry) (gs : List Entry) (xs : List X) → ((x : X) → are_apart (f x) gs ≡ true) → are_apart (flat_map f xs) gs ≡ true
+pub apart-flat1 : {X : Type 0} (f : X → List Entry) (gs : List Entry) (xs : List X) → ((x : X) → are_apart (f x) gs ≡ true)
+    → are_apart (flat_map f xs) gs ≡ true
 apart-flat1 f gs [] each = refl
 apart-flat1 f gs (x ∷ xs) each = apart-append1 (f x) (flat_map f xs) gs (each x) (apart-flat1 f gs xs each)
 
-pub apart-flat2 : {X : Type 0} (es : List Entry) (f : X → List Entry) (xs : List X) → ((x : X) → are_apart es (f x) ≡ true) → are_apart es (flat_map f xs) ≡ true
+pub apart-flat2 : {X : Type 0} (es : List Entry) (f : X → List Entry) (xs : List X) → ((x : X) → are_apart es (f x) ≡ true)
+    → are_apart es (flat_map f xs) ≡ true
 apart-flat2 es f [] each = apart-nil es
 apart-flat2 es f (x ∷ xs) each = apart-append2 es (f x) (flat_map f xs) (each x) (apart-flat2 es f xs each)
 
@@ -47,7 +49,7 @@ module _ {K X : Type 0} (R : K → K → Ordering) (f : K × X → List Entry) (
   flat_once (e ∷ es) rises = let both = and_parts (below_all R e.0 es) (is_sorted R es) rises in
       once-append (f e) (flat_map f es) (each_once e) (flat_once es both.1) (flat_apart e es both.0)
 
--- What is known of each key of the entries and what stands there.
+-- What is known of each key of the entries and what is there.
 module _ {K X : Type 0} (R : K → K → Ordering) (own : (k : K) → eq_by_cmp R k k ≡ true) (alike : (a b : K) → eq_by_cmp R a b ≡ true → a ≡ b)
     (f : K × X → List Entry) (gs : List Entry) (P : K → X → Type 0)
     (each : (e : K × X) → P e.0 e.1 → are_apart (f e) gs ≡ true) where

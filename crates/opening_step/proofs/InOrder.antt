@@ -12,7 +12,7 @@ less Less lt = refl
 less Equal lt = absurd (cc lt)
 less Greater lt = absurd (cc lt)
 
--- what stands behind a key in order is another key
+-- what is after a key in order is another key
 pub behind : {K X : Type 0} (R : K → K → Ordering) (k : K) (es : List (K × X)) → below_all R k es ≡ true → find R k es ≡ None
 behind R k [] below = refl
 behind R k (e ∷ es) below = let both = and_parts (is_lt (R k e.0)) (below_all R k es) below in

@@ -38,7 +38,7 @@ Pairs = List (List ℕ × Scalar)
 with_metadata : Held → Metadata → Held
 with_metadata h m = record h { live = record h.live { metadata = m } }
 
--- the metadata at a place: the wanted one, or the one that stood there
+-- the metadata at a place: the wanted one, or the one that was there
 put_or : Bool → Scalar → Option Scalar → Option Scalar
 put_or true v other = Some v
 put_or false v other = other
@@ -69,7 +69,8 @@ module _ (live : Metadata) (key : Key) where
       → value_at (cond b (with_value m key n v) m) q r ≡ cond (b && (eq_by_cmp key_cmp q key && eq_by_cmp bytes_cmp r n)) (Some v) (value_at m q r)
   with_at false m n v q r = refl
   with_at true m n v q r = value_at-with key_total bytes_total m key q n r v ∙ by (eq_by_cmp key_cmp q key) where
-    by : (c : Bool) → cond c (cond (eq_by_cmp bytes_cmp r n) (Some v) (value_at m q r)) (value_at m q r) ≡ cond (c && eq_by_cmp bytes_cmp r n) (Some v) (value_at m q r)
+    by : (c : Bool) → cond c (cond (eq_by_cmp bytes_cmp r n) (Some v) (value_at m q r)) (value_at m q r) ≡ cond (c && eq_by_cmp bytes_cmp r n) (Some v)
+        (value_at m q r)
     by true = refl
     by false = refl
 
@@ -107,11 +108,13 @@ module _ (live : Metadata) (key : Key) where
       stays false = refl
 
       by : (c : Bool) → eq_by_cmp bytes_cmp r e.0 ≡ c → below_all bytes_cmp e.0 es ≡ true
-          → wanted_at (value_at live key r) (find bytes_cmp r es) (value_at (cond (differs e.1 (value_at live key e.0)) (with_value m key e.0 e.1) m) key r) ≡ wanted_at
+          → wanted_at (value_at live key r) (find bytes_cmp r es) (value_at (cond (differs e.1 (value_at live key e.0)) (with_value m key e.0 e.1) m) key r) ≡
+          wanted_at
           (value_at live key r) (cond c (Some e.1) (find bytes_cmp r es)) (value_at m key r)
       by true is below =
           let one : r ≡ e.0 = name_tied r e.0 is in
-          ap (λ (o : Option Scalar). wanted_at (value_at live key r) o (value_at (cond (differs e.1 (value_at live key e.0)) (with_value m key e.0 e.1) m) key r))
+          ap (λ (o : Option Scalar). wanted_at (value_at live key r) o
+          (value_at (cond (differs e.1 (value_at live key e.0)) (with_value m key e.0 e.1) m) key r))
           (ap (λ (k : List ℕ). find bytes_cmp k es) one ∙ behind bytes_cmp e.0 es below)
           ∙ now (differs e.1 (value_at live key e.0)) true is ∙ here (differs e.1 (value_at live key e.0))
           ∙ ap (λ (k : List ℕ). put_or (differs e.1 (value_at live key k)) e.1 (value_at m key r)) (sym one)
@@ -121,17 +124,18 @@ module _ (live : Metadata) (key : Key) where
   put_names_full : (es : Pairs) (m : Metadata) → IsFull m → IsFull (put_names es m)
   unfolding put_names
   put_names_full [] m full = full
-  put_names_full (e ∷ es) m full = put_names_full es (cond (differs e.1 (value_at live key e.0)) (with_value m key e.0 e.1) m) (by (differs e.1 (value_at live key e.0))) where
-    by : (b : Bool) → IsFull (cond b (with_value m key e.0 e.1) m)
-    by true = full_with key_total bytes_total m key e.0 e.1 full
-    by false = full
+  put_names_full (e ∷ es) m full = put_names_full es (cond (differs e.1 (value_at live key e.0)) (with_value m key e.0 e.1) m)
+      (by (differs e.1 (value_at live key e.0))) where
+        by : (b : Bool) → IsFull (cond b (with_value m key e.0 e.1) m)
+        by true = full_with key_total bytes_total m key e.0 e.1 full
+        by false = full
 
 -- ---- all keys
 
 abbrev Keyed : Type 0
 Keyed = List (Key × Names)
 
--- what stands under a name of a map, if there is one
+-- what is under a name of a map, if there is one
 name_in : Option Names → List ℕ → Option Scalar
 name_in None r = None
 name_in (Some i) r = get i r
@@ -187,7 +191,8 @@ module _ (image : Metadata) where
   taken_keys [] m = m
   taken_keys (e ∷ es) m = taken_keys es (taken_names e.0 (entries e.1) m)
 
-  laid_gone_names : (key : Key) (es : Pairs) (h : Held) → laid h (flat_map (λ n. gone_name_entries image key n.0) es) ≡ with_metadata h (taken_names key es h.live.metadata)
+  laid_gone_names : (key : Key) (es : Pairs) (h : Held) → laid h (flat_map (λ n. gone_name_entries image key n.0) es) ≡ with_metadata h
+      (taken_names key es h.live.metadata)
   unfolding taken_names with_metadata is_gone
   laid_gone_names key [] h = refl
   laid_gone_names key (e ∷ es) h = laid-append h (gone_name_entries image key e.0) (flat_map (λ n. gone_name_entries image key n.0) es)
@@ -261,7 +266,8 @@ module _ (image : Metadata) where
   keys_none [] m q r none = none
   keys_none (e ∷ es) m q r none = keys_none es (taken_names e.0 (entries e.1) m) q r (names_none e.0 (entries e.1) m q r none)
 
-  keys_here : (es : Keyed) (m : Metadata) (q : Key) (r : List ℕ) → is_gone q r ≡ true → IsSome (name_in (find key_cmp q es) r) → value_at (taken_keys es m) q r ≡ None
+  keys_here : (es : Keyed) (m : Metadata) (q : Key) (r : List ℕ) → is_gone q r ≡ true → IsSome (name_in (find key_cmp q es) r)
+      → value_at (taken_keys es m) q r ≡ None
   unfolding taken_keys name_in
   keys_here [] m q r gone some = absurd (cc some)
   keys_here (e ∷ es) m q r gone some = by (eq_by_cmp key_cmp q e.0) refl some (keys_here es (taken_names e.0 (entries e.1) m) q r gone) where
@@ -321,12 +327,14 @@ module _ (image live : Metadata) (image_full : IsFull image) (live_full : IsFull
   unfolding is_gone wanted_at
   at q r (Some v) here l is = keys_other image (entries live) put q r (ap is_absent here) ∙ put_at q r
       ∙ ap (λ (o : Option Scalar). wanted_at o (value_at image q r) o) is ∙ ap (λ (o : Option Scalar). wanted_at l o l) here ∙ wanted_now v l
-  at q r None here None is = keys_none image (entries live) put q r (put_at q r ∙ ap (λ (o : Option Scalar). wanted_at (value_at live q r) o (value_at live q r)) here ∙ is)
+  at q r None here None is = keys_none image (entries live) put q r (put_at q r
+      ∙ ap (λ (o : Option Scalar). wanted_at (value_at live q r) o (value_at live q r)) here ∙ is)
   at q r None here (Some w) is = keys_here image (entries live) put q r (ap is_absent here) (subst IsSome (name_of live q r) (ap is_some is))
 
   metadata_same : all ≡ image
   metadata_same = same_nested key_total key_cmp-IsAntisymmetric bytes_total bytes_cmp-IsAntisymmetric all image
-      (keys_full image (entries live) put (put_keys_full live (entries image) live live_full)) image_full (λ q r. at q r (value_at image q r) refl (value_at live q r) refl)
+      (keys_full image (entries live) put (put_keys_full live (entries image) live live_full)) image_full
+      (λ q r. at q r (value_at image q r) refl (value_at live q r) refl)
 
 -- Laid over what is held, the entries for metadata give the image's metadata.
 pub metadata_laid : (image : Metadata) (h : Held) → IsFull image → IsFull h.live.metadata

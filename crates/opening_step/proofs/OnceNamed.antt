@@ -19,7 +19,8 @@ use Rattle.settings_tree.specs.declared.entry.Entry.TheVariants.{LiveSet, LiveGo
 use Rattle.settings_tree.specs.declared.entry.Owed.{Owed}
 use Rattle.settings_tree.specs.declared.entry.Owed.TheVariants as owed
 use Rattle.settings_tree.specs.declared.held.Held.{Held}
-use Rattle.opening_step.specs.Entries.{is_wanted, is_absent, differs, value_entries, gone_entries, name_entries, key_entries, gone_name_entries, gone_key_entries, added_key}
+use Rattle.opening_step.specs.Entries.{is_wanted, is_absent, differs, value_entries, gone_entries}
+use Rattle.opening_step.specs.Entries.{name_entries, key_entries, gone_name_entries, gone_key_entries, added_key}
 use Rattle.opening_step.specs.Entries.{owed_entries, image_entries, weak_entries, opening_entries}
 use Rattle.settings_machine.specs.Opening.{is_of_store}
 use Rattle.settings_tree.proofs.Rising.{entries_rise}
@@ -64,13 +65,15 @@ module _ (image live : FinMap key_cmp Scalar) where
   not_absent false (Some v) some = refl
 
   value_gone : (d : Key × Scalar) → IsSome (get image d.0) → (e : Key × Scalar) → are_apart (value_entries live d) (gone_entries image e.0) ≡ true
-  value_gone d there e = by (is_wanted (is_of_store d.0) d.1 (get live d.0)) (not (is_of_store e.0) && is_absent (get image e.0)) refl (eq_by_cmp key_cmp d.0 e.0) refl where
-    by : (a b : Bool) → (not (is_of_store e.0) && is_absent (get image e.0)) ≡ b → (c : Bool) → eq_by_cmp key_cmp d.0 e.0 ≡ c
-        → are_apart (cond a (LiveSet d.0 d.1 ∷ []) []) (cond b (LiveGone e.0 ∷ []) []) ≡ true
-    by false b gone c is = refl
-    by true false gone c is = refl
-    by true true gone false is = ap (λ (c : Bool). (not c && true) && true) is
-    by true true gone true is = absurd (cc (sym gone ∙ not_absent (is_of_store e.0) (get image e.0) (subst (λ (k : Key). IsSome (get image k)) (key_tied d.0 e.0 is) there)))
+  value_gone d there e = by (is_wanted (is_of_store d.0) d.1 (get live d.0)) (not (is_of_store e.0) && is_absent (get image e.0)) refl
+      (eq_by_cmp key_cmp d.0 e.0) refl where
+        by : (a b : Bool) → (not (is_of_store e.0) && is_absent (get image e.0)) ≡ b → (c : Bool) → eq_by_cmp key_cmp d.0 e.0 ≡ c
+            → are_apart (cond a (LiveSet d.0 d.1 ∷ []) []) (cond b (LiveGone e.0 ∷ []) []) ≡ true
+        by false b gone c is = refl
+        by true false gone c is = refl
+        by true true gone false is = ap (λ (c : Bool). (not c && true) && true) is
+        by true true gone true is = absurd (cc (sym gone ∙ not_absent (is_of_store e.0) (get image e.0)
+            (subst (λ (k : Key). IsSome (get image k)) (key_tied d.0 e.0 is) there)))
 
   values_once : is_once (flat_map (value_entries live) (entries image) ++ flat_map (λ e. gone_entries image e.0) (entries live)) ≡ true
   values_once = once-append (flat_map (value_entries live) (entries image)) (flat_map (λ e. gone_entries image e.0) (entries live))
@@ -162,7 +165,8 @@ module _ (image live : FinMap key_cmp Names) where
         by true true gone true is false at = ap (λ (c : Bool). (not (c && eq_by_cmp bytes_cmp n.0 m.0) && true) && true) is
             ∙ ap (λ (d : Bool). (not (true && d) && true) && true) at
         by true true gone true is true at = absurd (cc (sym gone ∙ there_not_absent (value_at image q m.0)
-            (subst (λ (k : Key). IsSome (value_at image k m.0)) (key_tied key q is) (subst (λ (r : List ℕ). IsSome (value_at image key r)) (name_tied n.0 m.0 at) there))))
+            (subst (λ (k : Key). IsSome (value_at image k m.0)) (key_tied key q is)
+            (subst (λ (r : List ℕ). IsSome (value_at image key r)) (name_tied n.0 m.0 at) there))))
 
   abbrev gones : List Entry
   gones = flat_map (gone_key_entries image) (entries live)
@@ -175,7 +179,8 @@ module _ (image live : FinMap key_cmp Names) where
   inner_value key names n is there = subst IsSome (sym (ap (λ (o : Option Names). get (unwrap_or o empty) n) is)) there
 
   key_gones : (e : Key × Names) → get image e.0 ≡ Some e.1 → are_apart (key_entries live e) gones ≡ true
-  key_gones e is = known_apart bytes_cmp name_itself name_tied (name_entries live e.0) gones (λ n v. IsSome (value_at image e.0 n)) (λ n there. name_gones e.0 n there)
+  key_gones e is = known_apart bytes_cmp name_itself name_tied (name_entries live e.0) gones (λ n v. IsSome (value_at image e.0 n))
+      (λ n there. name_gones e.0 n there)
       (entries e.1) (entries_rise e.1)
       (λ n v at. inner_value e.0 e.1 n is (ap is_some (get-entries e.1 n ∙ at)))
 
@@ -351,12 +356,14 @@ module _ (boot : Bool) (image : Contents) (text : List ℕ) (h : Held) where
       (λ n. meta_single all added h.owed h.image text h.live.weak (differs n.1 (value_at h.live.metadata e.0 n.0)) e.0 n.0 n.1))
 
   ds_single : are_apart ds ss ≡ true
-  ds_single = apart-flat1 (gone_key_entries image.metadata) ss (entries h.live.metadata) (λ e. apart-flat1 (λ n. gone_name_entries image.metadata e.0 n.0) ss (entries e.1)
+  ds_single = apart-flat1 (gone_key_entries image.metadata) ss (entries h.live.metadata)
+      (λ e. apart-flat1 (λ n. gone_name_entries image.metadata e.0 n.0) ss (entries e.1)
       (λ n. taken_single all added h.owed h.image text h.live.weak (is_absent (value_at image.metadata e.0 n.0)) e.0 n.0))
 
   parts_once : is_once (((vs ++ gs) ++ ms) ++ ds) ≡ true
   parts_once = subst (λ (es : List Entry). is_once es ≡ true) (sym (append_assoc (vs ++ gs) ms ds))
-      (once-append (vs ++ gs) (ms ++ ds) (values_once image.values h.live.values) (metadata_once image.metadata h.live.metadata) (apart-append1 vs gs (ms ++ ds) vs_rest gs_rest))
+      (once-append (vs ++ gs) (ms ++ ds) (values_once image.values h.live.values) (metadata_once image.metadata h.live.metadata)
+      (apart-append1 vs gs (ms ++ ds) vs_rest gs_rest))
 
   -- No place is named twice.
   pub opening_once : is_once (opening_entries boot image text h) ≡ true

@@ -19,7 +19,8 @@ use Rattle.settings_tree.specs.declared.held.Held.{Held}
 use Rattle.settings_tree.proofs.LaidAt.{laid-append}
 use Rattle.settings_maps.specs.KeyList.{has_key, joined}
 use Rattle.settings_maps.proofs.KeySets.{joined_same}
-use Rattle.opening_step.specs.Entries.{value_entries, gone_entries, key_entries, gone_key_entries, added_key, OwesRising, owed_entries, image_entries, weak_entries}
+use Rattle.opening_step.specs.Entries.{value_entries, gone_entries, key_entries, gone_key_entries}
+use Rattle.opening_step.specs.Entries.{added_key, OwesRising, owed_entries, image_entries, weak_entries}
 use Rattle.opening_step.specs.Entries.{opening_entries}
 use Rattle.pending_tx.specs.Transactions.{owing}
 use Rattle.settings_machine.specs.Opening.{opened_values, added_keys}
@@ -64,7 +65,8 @@ image_laid h before text is = by (bytes_eq before text) refl where
 
 weak_laid : (h : Held) (weak added : Keys) → h.live.weak ≡ weak → IsRising weak
     → laid h (weak_entries weak added) ≡ record h { live = record h.live { weak = joined weak added } }
-weak_laid h weak [] is rises = ap (λ (w : Keys). record h { live = record h.live { weak = w } }) (is ∙ sym (joined_same weak [] rises (none_rises [] refl) refl))
+weak_laid h weak [] is rises = ap (λ (w : Keys). record h { live = record h.live { weak = w } })
+    (is ∙ sym (joined_same weak [] rises (none_rises [] refl) refl))
 weak_laid h weak (k ∷ ks) is rises = refl
 
 module _ (boot : Bool) (image : Contents) (text : List ℕ) (h : Held) where
@@ -115,7 +117,8 @@ module _ (boot : Bool) (image : Contents) (text : List ℕ) (h : Held) where
       → first ≡ none ++ vs → second ≡ first ++ gs → third ≡ second ++ ms → fourth ≡ third ++ ds
       → fifth ≡ fourth ++ owed_entries whole keys h.owed → sixth ≡ fifth ++ ts → last ≡ sixth ++ weak_entries h.live.weak keys
       → last ≡ opening_entries boot image text h
-  entries_made keys whole none first second third fourth fifth sixth last is_keys is_whole is_none is_first is_second is_third is_fourth is_fifth is_sixth is_last =
+  entries_made keys whole none first second third fourth fifth sixth last is_keys is_whole is_none is_first is_second is_third is_fourth is_fifth is_sixth
+      is_last =
       is_last ∙ ap (λ (l : List Entry). l ++ weak_entries h.live.weak keys) (is_sixth
       ∙ ap (λ (l : List Entry). l ++ ts) (is_fifth ∙ ap (λ (l : List Entry). l ++ owed_entries whole keys h.owed)
       (is_fourth ∙ ap (λ (l : List Entry). l ++ ds) (is_third ∙ ap (λ (l : List Entry). l ++ ms) (is_second
@@ -130,7 +133,8 @@ module _ (boot : Bool) (image : Contents) (text : List ℕ) (h : Held) where
       ∙ ap (λ (g : Held). laid g ds) (laid-append h (vs ++ gs) ms ∙ ap (λ (g : Held). laid g ms) (values_laid image.values h))
       ∙ sym (laid-append one ms ds) ∙ metadata_laid image.metadata one is_image.full is_live.full
 
-  singles_laid : IsRising h.live.weak → OwesRising h.owed → laid two (os ++ (ts ++ ws)) ≡ record four { live = record four.live { weak = joined h.live.weak added } }
+  singles_laid : IsRising h.live.weak → OwesRising h.owed → laid two (os ++ (ts ++ ws)) ≡
+      record four { live = record four.live { weak = joined h.live.weak added } }
   singles_laid weak_rises owes =
       laid-append two os (ts ++ ws)
       ∙ ap (λ (g : Held). laid g (ts ++ ws)) (owed_laid two all added h.owed refl (added_rise added image.values h.live.values refl) owes)
@@ -153,7 +157,8 @@ module _ (boot : Bool) (image : Contents) (text : List ℕ) (h : Held) where
       (added_flat h.live.values (entries image.values))
 
 -- All entries together make the opening step.
-pub entries_laid : (boot : Bool) (defaults : Contents) (text : List ℕ) (h : Held) → IsContent defaults → IsContent h.live → IsRising h.live.weak → OwesRising h.owed
+pub entries_laid : (boot : Bool) (defaults : Contents) (text : List ℕ) (h : Held) → IsContent defaults → IsContent h.live → IsRising h.live.weak
+    → OwesRising h.owed
     → MakesStep boot defaults text h (opening_entries boot defaults text h)
 entries_laid boot defaults text h is_defaults is_live weak_rises owes = record {
   laid_is = λ I defaults_are text_is. ap (λ (d : Contents). laid h (opening_entries boot d text h)) (sym defaults_are)

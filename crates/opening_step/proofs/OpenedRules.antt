@@ -31,7 +31,8 @@ use Rattle.settings_tree.specs.declared.held.Held.{Held}
 use Rattle.settings_tree.proofs.LaidAt.{weak_set}
 use Rattle.typed_settings.specs.Row as row
 use Rattle.typed_settings.specs.declared.row.Row.{Row}
-use Rattle.opening_step.specs.Entries.{is_wanted, is_absent, differs, value_entries, gone_entries, name_entries, key_entries, gone_name_entries, gone_key_entries, added_key}
+use Rattle.opening_step.specs.Entries.{is_wanted, is_absent, differs, value_entries, gone_entries}
+use Rattle.opening_step.specs.Entries.{name_entries, key_entries, gone_name_entries, gone_key_entries, added_key}
 use Rattle.opening_step.specs.Entries.{owed_entries, image_entries, weak_entries, opening_entries}
 use Rattle.settings_machine.specs.Opening.{is_of_store, opened_values, added_keys}
 use Rattle.settings_machine.specs.Typed.{IsTaken, IsTypedHeld}
@@ -144,14 +145,16 @@ module _ (boot : Bool) (image : Contents) (text : List ℕ) (h : Held) where
 
   ms_bare : IsContent image → Bare ms
   ms_bare is_image = known_all key_cmp key_itself key_tied (key_entries h.live.metadata) Bare refl bare-append (λ k x. get image.metadata k ≡ Some x)
-      (λ e is. known_all bytes_cmp name_itself name_tied (name_entries h.live.metadata e.0) Bare refl bare-append (λ n v. IsSome (value_at image.metadata e.0 n))
+      (λ e is. known_all bytes_cmp name_itself name_tied (name_entries h.live.metadata e.0) Bare refl bare-append
+      (λ n v. IsSome (value_at image.metadata e.0 n))
       (λ n there. bare_meta (differs n.1 (value_at h.live.metadata e.0 n.0)) e.0 n.0 n.1 (is_image.named.bare e.0 n.0 there)) (entries e.1) (entries_rise e.1)
       (λ n v at. inner_value image.metadata e.0 e.1 n v is at))
       (entries image.metadata) (entries_rise image.metadata) (λ k x is. get-entries image.metadata k ∙ is)
 
   ds_bare : IsContent h.live → Bare ds
   ds_bare is_live = known_all key_cmp key_itself key_tied (gone_key_entries image.metadata) Bare refl bare-append (λ k x. get h.live.metadata k ≡ Some x)
-      (λ e is. known_all bytes_cmp name_itself name_tied (λ n. gone_name_entries image.metadata e.0 n.0) Bare refl bare-append (λ n v. IsSome (value_at h.live.metadata e.0 n))
+      (λ e is. known_all bytes_cmp name_itself name_tied (λ n. gone_name_entries image.metadata e.0 n.0) Bare refl bare-append
+      (λ n v. IsSome (value_at h.live.metadata e.0 n))
       (λ n there. bare_taken (is_absent (value_at image.metadata e.0 n.0)) e.0 n.0 (is_live.named.bare e.0 n.0 there)) (entries e.1) (entries_rise e.1)
       (λ n v at. inner_value h.live.metadata e.0 e.1 n v is at))
       (entries h.live.metadata) (entries_rise h.live.metadata) (λ k x is. get-entries h.live.metadata k ∙ is)
@@ -180,7 +183,8 @@ module _ (P : Key → Type 0) where
 
   all_joined : (xs ys : List Key) → All P xs → All P ys → All P (joined xs ys)
   all_joined [] ys first second = second
-  all_joined (x ∷ xs) ys first second = step_all x xs (All-head P x xs first) (λ zs more. all_joined xs zs (All-tail P x xs first) more) (All-tail P x xs first) ys second
+  all_joined (x ∷ xs) ys first second = step_all x xs (All-head P x xs first) (λ zs more. all_joined xs zs (All-tail P x xs first) more) (All-tail P x xs first)
+      ys second
 
 module _ (image : Contents) (h : Held) where
   opened_at : (q : Key) → get (opened_values image.values h.live.values) q ≡ or_else (cond (is_of_store q) (get h.live.values q) None) (get image.values q)
@@ -209,7 +213,8 @@ module _ (image : Contents) (h : Held) where
     by None i some = some
     by (Some v) i some = refl
 
-  all_added : AreSettings image.values → All (MayBeWeak (opened_values image.values h.live.values)) (flat_map (λ e. added_key h.live.values e.0) (entries image.values))
+  all_added : AreSettings image.values → All (MayBeWeak (opened_values image.values h.live.values))
+      (flat_map (λ e. added_key h.live.values e.0) (entries image.values))
   all_added settings = known_all key_cmp key_itself key_tied (λ e. added_key h.live.values e.0) (All (MayBeWeak (opened_values image.values h.live.values)))
       (All-nil (MayBeWeak (opened_values image.values h.live.values)))
       (All-append (MayBeWeak (opened_values image.values h.live.values))) (λ k x. IsSome (get image.values k))
@@ -236,17 +241,20 @@ module _ (image : Contents) (h : Held) where
 
 -- A change that makes the step and names no place twice names weak keys that may be weak.
 pub opening_weak : (defaults : Contents) (h : Held) (es : List Entry) → AreSettings defaults.values
-    → (laid h es).live.values ≡ opened_values defaults.values h.live.values → (laid h es).live.weak ≡ joined h.live.weak (added_keys defaults.values h.live.values)
+    → (laid h es).live.values ≡ opened_values defaults.values h.live.values
+    → (laid h es).live.weak ≡ joined h.live.weak (added_keys defaults.values h.live.values)
     → is_once es ≡ true → IsContent h.live → NamesWeak h es
 opening_weak defaults h es settings values weak once is_live = record {
   may = λ named has. subst (All (MayBeWeak (laid h es).live.values)) (weak_set h es named once has)
       (subst (All (MayBeWeak (laid h es).live.values)) (sym weak)
-      (subst (λ (m : FinMap key_cmp Scalar). All (MayBeWeak m) (joined h.live.weak (added_keys defaults.values h.live.values))) (sym values) (may_all defaults h settings is_live)));
+      (subst (λ (m : FinMap key_cmp Scalar). All (MayBeWeak m) (joined h.live.weak (added_keys defaults.values h.live.values))) (sym values)
+      (may_all defaults h settings is_live)));
 }
 
 -- ---- the prefix rule
 
-module _ (types : List Row) (image : Contents) (h : Held) (free : row.IsPrefixFree types) (known : (key : Key) → IsSome (get image.values key) → row.IsKnown types key) (fit : IsTypedHeld types h) where
+module _ (types : List Row) (image : Contents) (h : Held) (free : row.IsPrefixFree types)
+    (known : (key : Key) → IsSome (get image.values key) → row.IsKnown types key) (fit : IsTypedHeld types h) where
   known_opened : (q : Key) → IsSome (get (opened_values image.values h.live.values) q) → row.IsKnown types q
   unfolding or_else
   known_opened q some = by (is_of_store q) refl (get h.live.values q) refl (get image.values q) refl (subst IsSome (opened_at image h q) some) where
@@ -267,7 +275,8 @@ module _ (types : List Row) (image : Contents) (h : Held) (free : row.IsPrefixFr
     by (Some v) is some = of v (fit.pending tx q v is).taken
 
 -- The rule holds after the step.
-pub opened_rule : (defaults : Contents) (h now : Held) → HasTypes defaults h → now.live.values ≡ opened_values defaults.values h.live.values → now.pending ≡ h.pending
+pub opened_rule : (defaults : Contents) (h now : Held) → HasTypes defaults h → now.live.values ≡ opened_values defaults.values h.live.values
+    → now.pending ≡ h.pending
     → KeepsPrefixRule now
 opened_rule defaults h now has values pending = record {
   live = record { alone = λ k q has_k has_q begins. one_known has.types k q has.free (in_live k has_k) (in_live q has_q) begins };

@@ -18,7 +18,8 @@ use Rattle.settings_tree.specs.declared.entry.Entry.TheVariants.{LiveSet, LiveGo
 use Rattle.settings_tree.specs.declared.entry.Owed.{Owed}
 use Rattle.settings_tree.specs.declared.entry.Owed.TheVariants as owed
 use Rattle.settings_tree.specs.declared.held.Held.{Held}
-use Rattle.opening_step.specs.Entries.{is_wanted, is_absent, differs, value_entries, gone_entries, name_entries, key_entries, gone_name_entries, gone_key_entries, added_key}
+use Rattle.opening_step.specs.Entries.{is_wanted, is_absent, differs, value_entries, gone_entries}
+use Rattle.opening_step.specs.Entries.{name_entries, key_entries, gone_name_entries, gone_key_entries, added_key}
 use Rattle.opening_step.specs.Entries.{owed_entries, image_entries, weak_entries, opening_entries}
 use Rattle.settings_machine.specs.Opening.{is_of_store}
 use Rattle.opening_step.proofs.OfStore.{setting_of_store}
@@ -62,7 +63,8 @@ un_name k live key e = by (differs e.1 (value_at live key e.0)) where
   by true = refl
   by false = refl
 
-un_gone_name : (k : Key) (image : FinMap key_cmp (FinMap bytes_cmp Scalar)) (key : Key) (name : List ℕ) → is_unnamed (Live k) (gone_name_entries image key name) ≡ true
+un_gone_name : (k : Key) (image : FinMap key_cmp (FinMap bytes_cmp Scalar)) (key : Key) (name : List ℕ)
+    → is_unnamed (Live k) (gone_name_entries image key name) ≡ true
 un_gone_name k image key name = by (is_absent (value_at image key name)) where
   by : (b : Bool) → is_unnamed (Live k) (cond b (MetaGone key name ∷ []) []) ≡ true
   by true = refl

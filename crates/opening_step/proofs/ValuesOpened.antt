@@ -54,7 +54,7 @@ laid_values live (e ∷ es) h = laid-append h (value_entries live e) (flat_map (
       by true rest = rest (laid_one h (LiveSet e.0 e.1))
       by false rest = rest h
 
--- the value at a key: the wanted one, or the one that stood there
+-- the value at a key: the wanted one, or the one that was there
 put_or : Bool → Scalar → Option Scalar → Option Scalar
 put_or true v other = Some v
 put_or false v other = other
@@ -87,7 +87,8 @@ get-put_wanted live (e ∷ es) m q rises =
     stays false = refl
 
     by : (b : Bool) → eq_by_cmp key_cmp q e.0 ≡ b → below_all key_cmp e.0 es ≡ true
-        → wanted_at live q (find key_cmp q es) (get (cond (wanted_in live e) (insert m e.0 e.1) m) q) ≡ wanted_at live q (cond b (Some e.1) (find key_cmp q es)) (get m q)
+        → wanted_at live q (find key_cmp q es) (get (cond (wanted_in live e) (insert m e.0 e.1) m) q) ≡ wanted_at live q (cond b (Some e.1) (find key_cmp q es))
+        (get m q)
     by true is below =
         let one : q ≡ e.0 = key_tied q e.0 is in
         ap (λ (o : Option Scalar). wanted_at live q o (get (cond (wanted_in live e) (insert m e.0 e.1) m) q)) (ap (λ (k : Key). find key_cmp k es) one
@@ -141,12 +142,13 @@ taken image (e ∷ es) m = taken image es (cond (is_gone image e.0) (remove m e.
 laid_taken : (image : Values) (es : Pairs) (h : Held) → laid h (flat_map (λ e. gone_entries image e.0) es) ≡ with_values h (taken image es h.live.values)
 unfolding taken with_values is_gone
 laid_taken image [] h = refl
-laid_taken image (e ∷ es) h = laid-append h (gone_entries image e.0) (flat_map (λ e. gone_entries image e.0) es) ∙ by (is_gone image e.0) (λ g. laid_taken image es g) where
-  by : (b : Bool) → ((g : Held) → laid g (flat_map (λ e. gone_entries image e.0) es) ≡ with_values g (taken image es g.live.values))
-      → laid (laid h (cond b (LiveGone e.0 ∷ []) [])) (flat_map (λ e. gone_entries image e.0) es) ≡ with_values h
-      (taken image es (cond b (remove h.live.values e.0) h.live.values))
-  by true rest = rest (laid_one h (LiveGone e.0))
-  by false rest = rest h
+laid_taken image (e ∷ es) h = laid-append h (gone_entries image e.0) (flat_map (λ e. gone_entries image e.0) es)
+    ∙ by (is_gone image e.0) (λ g. laid_taken image es g) where
+      by : (b : Bool) → ((g : Held) → laid g (flat_map (λ e. gone_entries image e.0) es) ≡ with_values g (taken image es g.live.values))
+          → laid (laid h (cond b (LiveGone e.0 ∷ []) [])) (flat_map (λ e. gone_entries image e.0) es) ≡ with_values h
+          (taken image es (cond b (remove h.live.values e.0) h.live.values))
+      by true rest = rest (laid_one h (LiveGone e.0))
+      by false rest = rest h
 
 -- after a step
 step_at : (b : Bool) (m : Values) (k q : Key) → get (cond b (remove m k) m) q ≡ cond (b && eq_by_cmp key_cmp q k) None (get m q)
@@ -156,7 +158,8 @@ step_at false m k q = refl
 get-taken_other : (image : Values) (es : Pairs) (m : Values) (q : Key) → is_gone image q ≡ false → get (taken image es m) q ≡ get m q
 unfolding taken
 get-taken_other image [] m q not_gone = refl
-get-taken_other image (e ∷ es) m q not_gone = get-taken_other image es (cond (is_gone image e.0) (remove m e.0) m) q not_gone ∙ step_at (is_gone image e.0) m e.0 q
+get-taken_other image (e ∷ es) m q not_gone = get-taken_other image es (cond (is_gone image e.0) (remove m e.0) m) q not_gone
+    ∙ step_at (is_gone image e.0) m e.0 q
     ∙ by (is_gone image e.0) refl (eq_by_cmp key_cmp q e.0) refl where
       by : (b : Bool) → is_gone image e.0 ≡ b → (c : Bool) → eq_by_cmp key_cmp q e.0 ≡ c → cond (b && c) None (get m q) ≡ get m q
       by false gone c is = refl
@@ -175,14 +178,15 @@ get-taken_none image (e ∷ es) m q none = get-taken_none image es (cond (is_gon
 get-taken_gone : (image : Values) (es : Pairs) (m : Values) (q : Key) → is_gone image q ≡ true → IsSome (find key_cmp q es) → get (taken image es m) q ≡ None
 unfolding taken
 get-taken_gone image [] m q gone some = absurd (cc some)
-get-taken_gone image (e ∷ es) m q gone some = by (eq_by_cmp key_cmp q e.0) refl some (get-taken_gone image es (cond (is_gone image e.0) (remove m e.0) m) q gone) where
-  by : (c : Bool) → eq_by_cmp key_cmp q e.0 ≡ c → IsSome (cond c (Some e.1) (find key_cmp q es))
-      → (IsSome (find key_cmp q es) → get (taken image es (cond (is_gone image e.0) (remove m e.0) m)) q ≡ None)
-      → get (taken image es (cond (is_gone image e.0) (remove m e.0) m)) q ≡ None
-  by false is some rest = rest some
-  by true is some rest = get-taken_none image es (cond (is_gone image e.0) (remove m e.0) m) q
-      (step_at (is_gone image e.0) m e.0 q ∙ ap (λ (b : Bool). cond b None (get m q))
-      (ap (λ (b : Bool). b && eq_by_cmp key_cmp q e.0) (ap (is_gone image) (sym (key_tied q e.0 is)) ∙ gone) ∙ is))
+get-taken_gone image (e ∷ es) m q gone some = by (eq_by_cmp key_cmp q e.0) refl some
+    (get-taken_gone image es (cond (is_gone image e.0) (remove m e.0) m) q gone) where
+      by : (c : Bool) → eq_by_cmp key_cmp q e.0 ≡ c → IsSome (cond c (Some e.1) (find key_cmp q es))
+          → (IsSome (find key_cmp q es) → get (taken image es (cond (is_gone image e.0) (remove m e.0) m)) q ≡ None)
+          → get (taken image es (cond (is_gone image e.0) (remove m e.0) m)) q ≡ None
+      by false is some rest = rest some
+      by true is some rest = get-taken_none image es (cond (is_gone image e.0) (remove m e.0) m) q
+          (step_at (is_gone image e.0) m e.0 q ∙ ap (λ (b : Bool). cond b None (get m q))
+          (ap (λ (b : Bool). b && eq_by_cmp key_cmp q e.0) (ap (is_gone image) (sym (key_tied q e.0 is)) ∙ gone) ∙ is))
 
 -- ---- together they are the values after the opening step
 
@@ -194,7 +198,8 @@ module _ (image live : Values) where
   all = taken image (entries live) put
 
   put_at : (q : Key) → get put q ≡ wanted_at live q (get image q) (get live q)
-  put_at q = get-put_wanted live (entries image) live q (entries_rise image) ∙ ap (λ (o : Option Scalar). wanted_at live q o (get live q)) (sym (get-entries image q))
+  put_at q = get-put_wanted live (entries image) live q (entries_rise image) ∙ ap (λ (o : Option Scalar). wanted_at live q o (get live q))
+      (sym (get-entries image q))
 
   kept_at : (q : Key) → get (retain_keys live is_of_store) q ≡ cond (is_of_store q) (get live q) None
   kept_at q = get-retain_keys live is_of_store q (λ x tie. ap is_of_store (sym (key_cmp-IsAntisymmetric q x tie)))
@@ -237,8 +242,10 @@ module _ (image live : Values) where
   at q false other (Some v) here l is =
       get-taken_other image (entries live) put q (ap (λ (b : Bool). not b && is_absent (get image q)) other ∙ ap is_absent here) ∙ put_at q
       ∙ ap (λ (o : Option Scalar). wanted_at live q o (get live q)) here ∙ ap (wanted_at live q (Some v)) is ∙ at_other q other v l is
-  at q false other None here None is = get-taken_none image (entries live) put q (put_at q ∙ ap (λ (o : Option Scalar). wanted_at live q o (get live q)) here ∙ is)
-  at q false other None here (Some w) is = get-taken_gone image (entries live) put q (ap (λ (b : Bool). not b && is_absent (get image q)) other ∙ ap is_absent here)
+  at q false other None here None is = get-taken_none image (entries live) put q
+      (put_at q ∙ ap (λ (o : Option Scalar). wanted_at live q o (get live q)) here ∙ is)
+  at q false other None here (Some w) is = get-taken_gone image (entries live) put q
+      (ap (λ (b : Bool). not b && is_absent (get image q)) other ∙ ap is_absent here)
       (there q w is)
 
   values_same : all ≡ filled (retain_keys live is_of_store) (entries image)

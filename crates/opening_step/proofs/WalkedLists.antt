@@ -10,7 +10,8 @@ use Rattle.settings_tree.specs.Walks.{entries_past}
 use Rattle.settings_tree.proofs.Walks.{walk_start, walk_next, walk_end}
 
 -- The list with what is still to come is the whole list.
-pub record Making {K X A : Type 0} {R : K → K → Ordering} (f : K × X → List A) (m : FinMap R X) (start : List A) (after : Option K) (now : List A) : Type 0 where
+pub record Making {K X A : Type 0} {R : K → K → Ordering} (f : K × X → List A) (m : FinMap R X) (start : List A) (after : Option K) (now : List A) : Type
+    0 where
   pub whole : now ++ flat_map f (entries_past m after) ≡ start ++ flat_map f (entries m)
 
 module _ {K X A : Type 0} {R : K → K → Ordering} (o : IsTotalOrder R) (same : IsAntisymmetric R) (f : K × X → List A) (m : FinMap R X) (start : List A) where
@@ -29,7 +30,8 @@ module _ {K X A : Type 0} {R : K → K → Ordering} (o : IsTotalOrder R) (same 
   making_all after now end making = sym (append-nil now) ∙ ap (λ (es : List (K × X)). now ++ flat_map f es) (sym (walk_end o same m after end)) ∙ making.whole
 
 -- The least key with its map of names.
-pub least_inner : {K N X : Type 0} {R : K → K → Ordering} {S : N → N → Ordering} (m : FinMap R (FinMap S X)) (after : Option K) (k : K) → IsLeastKeyAfter m after k
+pub least_inner : {K N X : Type 0} {R : K → K → Ordering} {S : N → N → Ordering} (m : FinMap R (FinMap S X)) (after : Option K) (k : K)
+    → IsLeastKeyAfter m after k
     → IsLeastAfter m after k (inner m k)
 least_inner {X = X} {S = S} m after k least = record { stands = by (get m k) least.stands; past = least.past; least = least.least } where
   by : (o : Option (FinMap S X)) → IsSome o → o ≡ Some (unwrap_or o empty)

@@ -222,7 +222,7 @@ fn added_list(alloc: Global, image: &Content, live: &Content) -> Result<Vec<Key>
     Ok(keys)
 }
 
-/// The keys of the default settings that have no live value, rising. The only error is want of memory. It takes a
+/// The keys of the default settings that have no live value, rising. The only error is out of memory. It takes a
 /// logarithmic step for each default.
 pub fn added_keys(alloc: Global, defaults: &Content, live: &Content) -> Result<KeyList, AllocError>
     ensures { IfOk result (λ keys. keys ≡ added_keys defaults.now.values live.now.values) }
@@ -335,7 +335,7 @@ fn make_entries(
 
 /// The change that makes the opening step with the defaults and the text of an image. It names nothing that stays as it is,
 /// and has a `WeakIs` exactly where it adds a default. It takes a logarithmic step for each value and each metadata of the
-/// defaults and of what is held. The only error is want of memory.
+/// defaults and of what is held. The only error is out of memory.
 pub fn opening_change(
     alloc: Global,
     boot: bool,

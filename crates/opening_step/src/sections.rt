@@ -20,7 +20,7 @@ pub fn is_of_image(key: &Key) -> bool
     begins(key, b"services") || begins(key, b"configuration-files")
 }
 
-/// Whether it is another key: the store says what stands there.
+/// Whether it is another key: the store says what is there.
 pub fn is_of_store(key: &Key) -> bool
     ensures { result ≡ is_of_store key.now }
 {

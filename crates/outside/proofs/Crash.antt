@@ -30,17 +30,21 @@ pub settled_synced : (h : History) → IsSettled (next synced h)
 settled_synced h path found is = is
 
 -- one path is changed over a tree that is on the disk: the tree with the change, or without
-pub EachImage-replaced : (h : History) (at : Names) (now : Option Node) → IsSettled h → EachImage (λ image. (image ≡ tree_of h) ⊎ (image ≡ set_node (tree_of h) at now)) (next (replaced at now) h)
+pub EachImage-replaced : (h : History) (at : Names) (now : Option Node) → IsSettled h
+    → EachImage (λ image. (image ≡ tree_of h) ⊎ (image ≡ set_node (tree_of h) at now)) (next (replaced at now) h)
 EachImage-replaced h at now settled image is = elim (is at) [
   | inl was ↦ inl (same_tree image (tree_of h) (λ q. old q (settled at (node_at image at) was) (is q)))
   | inr here ↦ inr (same_tree image (set_node (tree_of h) at now) (λ q. new q here.1 (is q) (path_cases q at)))
 ]
   where
-    old : (q : Names) → node_at image at ≡ node_at (tree_of h) at → MayLeave (next (replaced at now) h) q (node_at image q) → node_at image q ≡ node_at (tree_of h) q
+    old : (q : Names) → node_at image at ≡ node_at (tree_of h) at → MayLeave (next (replaced at now) h) q (node_at image q)
+        → node_at image q ≡ node_at (tree_of h) q
     old q at_old (inl was) = settled q (node_at image q) was
     old q at_old (inr (same, is_now)) = ap (λ p. node_at image p) same ∙ at_old ∙ ap (λ p. node_at (tree_of h) p) (sym same)
 
-    new : (q : Names) → node_at image at ≡ now → MayLeave (next (replaced at now) h) q (node_at image q) → (q ≡ at) ⊎ (eq_by_cmp path_cmp q at ≡ false) → node_at image q ≡ node_at (set_node (tree_of h) at now) q
-    new q at_now may (inl same) = ap (λ p. node_at image p) same ∙ at_now ∙ sym (node_at-set_same (tree_of h) at now) ∙ ap (λ p. node_at (set_node (tree_of h) at now) p) (sym same)
+    new : (q : Names) → node_at image at ≡ now → MayLeave (next (replaced at now) h) q (node_at image q) → (q ≡ at) ⊎ (eq_by_cmp path_cmp q at ≡ false)
+        → node_at image q ≡ node_at (set_node (tree_of h) at now) q
+    new q at_now may (inl same) = ap (λ p. node_at image p) same ∙ at_now ∙ sym (node_at-set_same (tree_of h) at now)
+        ∙ ap (λ p. node_at (set_node (tree_of h) at now) p) (sym same)
     new q at_now (inl was) (inr other) = settled q (node_at image q) was ∙ sym (node_at-set_other (tree_of h) at now q other)
     new q at_now (inr (same, is_now)) (inr other) = absurd (false≢true (sym other ∙ ap (λ p. eq_by_cmp path_cmp q p) (sym same) ∙ path_itself q))

@@ -26,13 +26,15 @@ goes_map C D old (next change h) f (inl is) = inl is
 goes_map C D old (next change h) f (inr (here, more)) = inr (f change here, goes_map C D old h f more)
 
 -- what each history on the way has
-pub since_goes : (P : Tree → Type 0) (C : Change → Type 0) (old new : History) → ((h : History) → GoesOn C old h → EachImage P h) → GoesOn C old new → EachSince P old new
+pub since_goes : (P : Tree → Type 0) (C : Change → Type 0) (old new : History) → ((h : History) → GoesOn C old h → EachImage P h) → GoesOn C old new
+    → EachSince P old new
 since_goes P C old (begun tree) each is = (is, each (begun tree) is)
 since_goes P C old (next change h) each (inl is) = (inl is, each (next change h) (inl is))
 since_goes P C old (next change h) each (inr (here, more)) = (inr (since_goes P C old h each more), each (next change h) (inr (here, more)))
 
 -- what a crash may leave, without a sync: what it might have left before, or something at one of the paths
-pub may_leave_at : (Q : Names → Type 0) (old new : History) → GoesOn (IsAt Q) old new → (p : Names) (node : Option Node) → MayLeave new p node → MayLeave old p node ⊎ Q p
+pub may_leave_at : (Q : Names → Type 0) (old new : History) → GoesOn (IsAt Q) old new → (p : Names) (node : Option Node) → MayLeave new p node
+    → MayLeave old p node ⊎ Q p
 may_leave_at Q old (begun tree) is p n may = inl (subst (λ h. MayLeave h p n) is may)
 may_leave_at Q old (next change h) (inl is) p n may = inl (subst (λ k. MayLeave k p n) is may)
 may_leave_at Q old (next (replaced at now) h) (inr (here, more)) p n (inl was) = may_leave_at Q old h more p n was
@@ -51,21 +53,27 @@ other_path Q p at not here = elim (path_cases p at) [
 pub tree_untouched : (Q : Names → Type 0) (old new : History) → Touches Q old new → (p : Names) → (Q p → ⊥) → node_at (tree_of new) p ≡ node_at (tree_of old) p
 tree_untouched Q old (begun tree) is p not = ap (λ h. node_at (tree_of h) p) is
 tree_untouched Q old (next change h) (inl is) p not = ap (λ k. node_at (tree_of k) p) is
-tree_untouched Q old (next (replaced at now) h) (inr (here, more)) p not = node_at-set_other (tree_of h) at now p (other_path Q p at not here) ∙ tree_untouched Q old h more p not
-tree_untouched Q old (next (scribbled at now) h) (inr (here, more)) p not = node_at-set_other (tree_of h) at now p (other_path Q p at not here) ∙ tree_untouched Q old h more p not
+tree_untouched Q old (next (replaced at now) h) (inr (here, more)) p not = node_at-set_other (tree_of h) at now p (other_path Q p at not here)
+    ∙ tree_untouched Q old h more p not
+tree_untouched Q old (next (scribbled at now) h) (inr (here, more)) p not = node_at-set_other (tree_of h) at now p (other_path Q p at not here)
+    ∙ tree_untouched Q old h more p not
 tree_untouched Q old (next synced h) (inr (here, more)) p not = tree_untouched Q old h more p not
 
 -- and a crash leaves there what it might have left before
-pub may_leave_untouched : (Q : Names → Type 0) (old new : History) → Touches Q old new → (p : Names) → (Q p → ⊥) → (node : Option Node) → MayLeave new p node → MayLeave old p node
+pub may_leave_untouched : (Q : Names → Type 0) (old new : History) → Touches Q old new → (p : Names) → (Q p → ⊥) → (node : Option Node) → MayLeave new p node
+    → MayLeave old p node
 may_leave_untouched Q old (begun tree) is p not n may = subst (λ h. MayLeave h p n) is may
 may_leave_untouched Q old (next change h) (inl is) p not n may = subst (λ k. MayLeave k p n) is may
 may_leave_untouched Q old (next (replaced at now) h) (inr (here, more)) p not n (inl was) = may_leave_untouched Q old h more p not n was
 may_leave_untouched Q old (next (replaced at now) h) (inr (here, more)) p not n (inr (same, is)) = absurd (not (subst Q (sym same) here))
 may_leave_untouched Q old (next (scribbled at now) h) (inr (here, more)) p not n (inl was) = may_leave_untouched Q old h more p not n was
 may_leave_untouched Q old (next (scribbled at now) h) (inr (here, more)) p not n (inr (same, is)) = absurd (not (subst Q (sym same) here))
-may_leave_untouched Q old (next synced h) (inr (here, more)) p not n may = may_leave_untouched Q old h more p not n (subst (λ m. MayLeave h p m) (sym may) (may_leave_now h p))
+may_leave_untouched Q old (next synced h) (inr (here, more)) p not n may =
+    may_leave_untouched Q old h more p not n (subst (λ m. MayLeave h p m) (sym may) (may_leave_now h p))
 
 -- at a path that is not touched a crash in between leaves what it might have left before
-pub since_untouched_at : (Q : Names → Type 0) (p : Names) → (Q p → ⊥) → (old new : History) → Touches Q old new → EachSince (λ image. MayLeave old p (node_at image p)) old new
+pub since_untouched_at : (Q : Names → Type 0) (p : Names) → (Q p → ⊥) → (old new : History) → Touches Q old new
+    → EachSince (λ image. MayLeave old p (node_at image p)) old new
 since_untouched_at Q p apart old new touches =
-    since_goes (λ image. MayLeave old p (node_at image p)) (IsAtOrSync Q) old new (λ h goes image is. may_leave_untouched Q old h goes p apart (node_at image p) (is p)) touches
+    since_goes (λ image. MayLeave old p (node_at image p)) (IsAtOrSync Q) old new
+    (λ h goes image is. may_leave_untouched Q old h goes p apart (node_at image p) (is p)) touches

@@ -26,18 +26,22 @@ module _ (part : Names → Bool) where
   same_elsewhere tree at now outside = record { same = λ p inside. node_at-set_other tree at now p (apart p at inside outside) }
 
   -- one path of the part is changed: each image has the part as before, or with the change
-  pub image_replaced_on : (h : History) (at : Names) (now : Option Node) → part at ≡ true → IsSettledOn part h → EachImage (λ image. AgreeOn part image (tree_of h) ⊎ AgreeOn part image (set_node (tree_of h) at now)) (next (replaced at now) h)
+  pub image_replaced_on : (h : History) (at : Names) (now : Option Node) → part at ≡ true → IsSettledOn part h
+      → EachImage (λ image. AgreeOn part image (tree_of h) ⊎ AgreeOn part image (set_node (tree_of h) at now)) (next (replaced at now) h)
   image_replaced_on h at now here settled image is = elim (is at) [
     | inl was ↦ inl (record { same = λ p inside. old p inside (settled.at at here (node_at image at) was) (is p) })
     | inr put ↦ inr (record { same = λ p inside. new p inside put.1 (is p) (path_cases p at) })
   ]
     where
-      old : (p : Names) → part p ≡ true → node_at image at ≡ node_at (tree_of h) at → MayLeave (next (replaced at now) h) p (node_at image p) → node_at image p ≡ node_at (tree_of h) p
+      old : (p : Names) → part p ≡ true → node_at image at ≡ node_at (tree_of h) at → MayLeave (next (replaced at now) h) p (node_at image p)
+          → node_at image p ≡ node_at (tree_of h) p
       old p inside at_old (inl was) = settled.at p inside (node_at image p) was
       old p inside at_old (inr (same, is_now)) = ap (λ q. node_at image q) same ∙ at_old ∙ ap (λ q. node_at (tree_of h) q) (sym same)
 
-      new : (p : Names) → part p ≡ true → node_at image at ≡ now → MayLeave (next (replaced at now) h) p (node_at image p) → (p ≡ at) ⊎ (eq_by_cmp path_cmp p at ≡ false) → node_at image p ≡ node_at (set_node (tree_of h) at now) p
-      new p inside at_now may (inl same) = ap (λ q. node_at image q) same ∙ at_now ∙ sym (node_at-set_same (tree_of h) at now) ∙ ap (λ q. node_at (set_node (tree_of h) at now) q) (sym same)
+      new : (p : Names) → part p ≡ true → node_at image at ≡ now → MayLeave (next (replaced at now) h) p (node_at image p)
+          → (p ≡ at) ⊎ (eq_by_cmp path_cmp p at ≡ false) → node_at image p ≡ node_at (set_node (tree_of h) at now) p
+      new p inside at_now may (inl same) = ap (λ q. node_at image q) same ∙ at_now ∙ sym (node_at-set_same (tree_of h) at now)
+          ∙ ap (λ q. node_at (set_node (tree_of h) at now) q) (sym same)
       new p inside at_now (inl was) (inr other) = settled.at p inside (node_at image p) was ∙ sym (node_at-set_other (tree_of h) at now p other)
       new p inside at_now (inr (same, is_now)) (inr other) = absurd (false≢true (sym other ∙ ap (λ q. eq_by_cmp path_cmp p q) (sym same) ∙ path_itself p))
 

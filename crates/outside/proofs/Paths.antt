@@ -8,9 +8,11 @@ use Rattle.outside.specs.History.{replaced, scribbled, History, next, tree_of, I
 use Rattle.outside.proofs.Trees.{path_itself, node_at-set_other}
 
 -- a change at another path
-pub settled_scribbled : (h : History) (at : Names) (now : Option Node) (p : Names) → eq_by_cmp path_cmp p at ≡ false → IsSettledAt h p → IsSettledAt (next (scribbled at now) h) p
+pub settled_scribbled : (h : History) (at : Names) (now : Option Node) (p : Names) → eq_by_cmp path_cmp p at ≡ false → IsSettledAt h p
+    → IsSettledAt (next (scribbled at now) h) p
 settled_scribbled h at now p other settled found (inl was) = settled found was ∙ sym (node_at-set_other (tree_of h) at now p other)
-settled_scribbled h at now p other settled found (inr (here, is)) = absurd (false≢true (sym other ∙ ap (λ q. eq_by_cmp path_cmp p q) (sym here) ∙ path_itself p))
+settled_scribbled h at now p other settled found (inr (here, is)) = absurd
+    (false≢true (sym other ∙ ap (λ q. eq_by_cmp path_cmp p q) (sym here) ∙ path_itself p))
 
 -- these nodes are put at these paths, the first of them first, with no sync between
 abbrev pub puts : List (Names × Option Node) → History → History

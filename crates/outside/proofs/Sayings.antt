@@ -9,11 +9,13 @@ use Rattle.outside.specs.Said.{IsSaid, IsSaidBefore, IsSaidInPart}
 pub said_none : (bytes : List ℕ) (a : Option (List ℕ)) → Moves a a (IsSaidBefore bytes bytes)
 said_none bytes a = moves_stay (λ s. record { front = []; split = refl; is = sym (append-nil s) })
 
-pub said_more : (E : Type 0) (bytes rest : List ℕ) (count : ℕ) (a b c : Option (List ℕ)) → Moves a b (IsSaidBefore rest bytes) → Moves b c (Takes {E = E} rest (Ok count)) → Moves a c (IsSaidBefore (drop count rest) bytes)
+pub said_more : (E : Type 0) (bytes rest : List ℕ) (count : ℕ) (a b c : Option (List ℕ)) → Moves a b (IsSaidBefore rest bytes)
+    → Moves b c (Takes {E = E} rest (Ok count)) → Moves a c (IsSaidBefore (drop count rest) bytes)
 said_more E bytes rest count a b c m n = moves_then (λ old mid new before takes.
     record {
       front = before.front ++ take count rest;
-      split = before.split ∙ ap (λ (l : List ℕ). before.front ++ l) (sym (take-append-drop count rest)) ∙ sym (append_assoc before.front (take count rest) (drop count rest));
+      split = before.split ∙ ap (λ (l : List ℕ). before.front ++ l) (sym (take-append-drop count rest))
+          ∙ sym (append_assoc before.front (take count rest) (drop count rest));
       is = takes ∙ ap (λ (l : List ℕ). l ++ take count rest) before.is ∙ append_assoc old before.front (take count rest);
     }) m n
 
@@ -39,7 +41,8 @@ said_first_part bytes more a b m = moves_map (λ old new part.
       };
     }) m
 
-pub said_second_part : (bytes more : List ℕ) (a b c : Option (List ℕ)) → Moves a b (IsSaid bytes) → Moves b c (IsSaidInPart more) → Moves a c (IsSaidInPart (bytes ++ more))
+pub said_second_part : (bytes more : List ℕ) (a b c : Option (List ℕ)) → Moves a b (IsSaid bytes) → Moves b c (IsSaidInPart more)
+    → Moves a c (IsSaidInPart (bytes ++ more))
 said_second_part bytes more a b c m n = moves_then (λ old mid new first part.
     record {
       rest = part.rest;

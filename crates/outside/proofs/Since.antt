@@ -38,7 +38,10 @@ since_both P Q old (next change h) (inr more, one) (inr less, two) = (inr (since
 -- ---- the calls: from one moment to the next
 
 -- a sync leaves what was possible before
-pub since_syncs : (P : Tree → Type 0) (old mid new : History) {E : Type 0} (result : Result Unit E) → EachSince P old mid → Syncs result mid new → EachSince P old new
+pub since_syncs : (P : Tree → Type 0) (old mid new : History) {E : Type 0} (result : Result Unit E) → EachSince P old mid → Syncs result mid new
+    → EachSince P old new
 since_syncs P old mid new (Ok done) so_far is =
-    subst (λ h. EachSince P old h) (sym is) (since_next P old mid synced so_far (λ image im. subst P (sym (settled_image (next synced mid) (settled_synced mid) image im)) (since_now P old mid so_far (tree_of mid) (tree_is_image mid))))
+    subst (λ h. EachSince P old h) (sym is) (since_next P old mid synced so_far
+    (λ image im. subst P (sym (settled_image (next synced mid) (settled_synced mid) image im))
+    (since_now P old mid so_far (tree_of mid) (tree_is_image mid))))
 since_syncs P old mid new (Err e) so_far is = subst (λ h. EachSince P old h) (sym is) so_far

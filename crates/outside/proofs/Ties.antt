@@ -11,7 +11,8 @@ use Rattle.outside.specs.Order.{name_total, path_total}
 use Rattle.outside.proofs.Trees.{path_same}
 
 -- in a total order where what ties is equal, the test for a tie is the test for equality
-exact : {K : Type 0} (R : K → K → Ordering) → IsTotalOrder R → IsAntisymmetric R → (a b : K) (order : Ordering) (test : Bool) → order ≡ R a b → test ≡ is_eq order → IsTrue test ↔ (a ≡ b)
+exact : {K : Type 0} (R : K → K → Ordering) → IsTotalOrder R → IsAntisymmetric R → (a b : K) (order : Ordering) (test : Bool) → order ≡ R a b
+    → test ≡ is_eq order → IsTrue test ↔ (a ≡ b)
 exact R total same a b order test ordered is = (
   λ yes. same a b (sym ordered ∙ (Equal-is order).0 (sym is ∙ yes)),
   λ e. is ∙ ap is_eq (ordered ∙ ap (λ x. R a x) (sym e) ∙ tied_itself total a),

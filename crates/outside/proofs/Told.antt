@@ -68,7 +68,7 @@ module _ {S : Type 0} where
   facts_both P Q None p q = tt
   facts_both P Q (Some s) p q = (p, q)
 
-  -- two facts of what is told
+  -- two facts of the record
   pub where_both : {P Q : S → Type 0} {a : Option S} → WhereTold a P → WhereTold a Q → WhereTold a (λ s. P s × Q s)
   where_both {P = P} {Q = Q} {a = a} p q = record { is = facts_both P Q a p.is q.is }
 

@@ -1,4 +1,4 @@
--- Trees by what stands at each path.
+-- Trees by what is at each path.
 use Rattle.std.proofs.Common.{◌≡◌, inl, inr, ◌⊎◌, true, false, cond, Option, Some, None, refl, ◌∙◌, ap}
 use Rattle.std.specs.declared.cmp.Ordering.TheVariants.{Less, Equal, Greater}
 use Rattle.std.specs.Ordering.{eq_by_cmp, is_eq}
@@ -23,14 +23,16 @@ path_cases p q =
 pub path_itself : (p : Names) → eq_by_cmp path_cmp p p ≡ true
 path_itself p = (eq_by_cmp_equiv path_total).refl p
 
-pub node_at-set_node : (tree : Tree) (p : Names) (node : Option Node) (q : Names) → node_at (set_node tree p node) q ≡ cond (eq_by_cmp path_cmp q p) node (node_at tree q)
+pub node_at-set_node : (tree : Tree) (p : Names) (node : Option Node) (q : Names) → node_at (set_node tree p node) q ≡ cond (eq_by_cmp path_cmp q p) node
+    (node_at tree q)
 node_at-set_node tree p None q = get-remove path_total tree p q
 node_at-set_node tree p (Some n) q = get-insert path_total tree p n q
 
 pub node_at-set_same : (tree : Tree) (p : Names) (node : Option Node) → node_at (set_node tree p node) p ≡ node
 node_at-set_same tree p node = node_at-set_node tree p node p ∙ ap (λ b. cond b node (node_at tree p)) (path_itself p)
 
-pub node_at-set_other : (tree : Tree) (p : Names) (node : Option Node) (q : Names) → eq_by_cmp path_cmp q p ≡ false → node_at (set_node tree p node) q ≡ node_at tree q
+pub node_at-set_other : (tree : Tree) (p : Names) (node : Option Node) (q : Names) → eq_by_cmp path_cmp q p ≡ false
+    → node_at (set_node tree p node) q ≡ node_at tree q
 node_at-set_other tree p node q other = node_at-set_node tree p node q ∙ ap (λ b. cond b node (node_at tree q)) other
 
 -- trees with the same nodes are one

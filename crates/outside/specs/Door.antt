@@ -19,7 +19,7 @@ Accepts (Err e) old new = new ≡ record { accepted = old.accepted; ended = old.
 abbrev pub finished : DoorState → DoorState
 finished old = record { accepted = old.accepted; ended = old.ended; broken = old.broken; busy = false }
 
--- What is told of the connections, the last one first: an accepted one begins with all of its input to come.
+-- The record of the connections, the last one first: an accepted one begins with all of its input to come.
 abbrev pub Opens : {E : Type 0} → Result Bool E → List Exchange → List Exchange → Type 0
 Opens (Ok true) old new = (input : List ℕ) × (new ≡ fresh input ∷ old)
 Opens (Ok false) old new = new ≡ old

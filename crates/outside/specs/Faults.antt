@@ -3,7 +3,7 @@ use Rattle.std.specs.Prelude.{◌≡◌, ℕ, ◌+◌, ◌-◌, ◌^◌, ◌≤�
 use Rattle.outside.specs.declared.disk_error.DiskErr.{DiskErr}
 use Rattle.outside.specs.declared.disk_error.DiskErr.TheVariants as device
 
--- The count rose, or it stands at its last value.
+-- The count rose, or it is at its last value.
 abbrev pub Rose : ℕ → ℕ → Type 0
 Rose before now = min (before + 1) (2 ^ 64 - 1) ≤ now
 
@@ -20,7 +20,7 @@ pub record HasCauseOf {T E : Type 0} (failure : E) (before now : ℕ) (result : 
   pub kept : OnOk result (now ≡ before)
   pub other : IsErr result → (IsErrOf result failure → ⊥) → now ≡ before
 
--- A disk's error is told under these two names: the first where it failed, the second where memory was wanting.
+-- A disk's error is reported under these two names: the first where it failed, the second where it ran out of memory.
 abbrev pub HandsOn : {E : Type 0} → E → E → DiskErr → E → Type 0
 HandsOn failed memory device.Failed e = e ≡ failed
 HandsOn failed memory device.Memory e = e ≡ memory

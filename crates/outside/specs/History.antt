@@ -28,7 +28,7 @@ abbrev pub tree_of : History → Tree
 tree_of (begun tree) = tree
 tree_of (next change history) = changed change (tree_of history)
 
--- Some file stands there, or nothing.
+-- Some file is there, or nothing.
 abbrev pub IsFileOrNone : Option Node → Type 0
 IsFileOrNone None = Unit {0}
 IsFileOrNone (Some (file bytes)) = Unit {0}

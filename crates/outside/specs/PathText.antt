@@ -42,7 +42,7 @@ with_parts path (name ∷ names) = and_then (added path name) (λ longer. with_p
 abbrev pub path_of : List ℕ → Result Names PathError
 path_of text = with_parts [] (parts_in (without_slash text))
 
--- The result is this answer, unless memory was wanting.
+-- The result is this answer, unless it ran out of memory.
 pub record Answers (result answer : Result Names PathError) : Type 0 where
   pub ok : IfOk result (λ path. answer ≡ Ok path)
   pub err : IfErr result (λ e. e ≢ Memory → answer ≡ Err e)

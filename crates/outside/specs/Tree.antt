@@ -1,4 +1,4 @@
--- What stands on a disk, by paths.
+-- What is on a disk, by paths.
 use Rattle.std.specs.Prelude.{◌≡◌, ℕ, List, Bool, true, Option, Some, None, filter}
 use Rattle.std.specs.FinMap.{FinMap, get, insert, remove, keys}
 use Rattle.outside.specs.Names.{Names, path_cmp, is_below}
@@ -12,7 +12,7 @@ pub data Node : Type 0 where
 abbrev pub Tree : Type 0
 Tree = FinMap path_cmp Node
 
--- What stands at a path.
+-- What is at a path.
 abbrev pub node_at : Tree → Names → Option Node
 node_at tree path = get tree path
 

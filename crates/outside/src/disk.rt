@@ -25,7 +25,7 @@ pub trait Disk {
 
     /// The bytes of the file at the path, or None where no file is there.
     ///
-    /// `Failed` where the disk fails, `Memory` where memory is wanting.
+    /// `Failed` where the disk fails, `Memory` where it runs out of memory.
     fn read(&mut self, alloc: Global, path: &Path) -> Result<Option<Vec<u8>>, DiskErr>
         ensures same { told self.new ≡ told self.old }
         ensures bytes { IfOk result (λ found. WhereTold (told self.old)
@@ -34,7 +34,7 @@ pub trait Disk {
 
     /// The text of the link at the path, or None where no link is there.
     ///
-    /// `Failed` where the disk fails, `Memory` where memory is wanting.
+    /// `Failed` where the disk fails, `Memory` where it runs out of memory.
     fn read_link(&mut self, alloc: Global, path: &Path) -> Result<Option<Vec<u8>>, DiskErr>
         ensures same { told self.new ≡ told self.old }
         ensures text { IfOk result (λ found. WhereTold (told self.old)
@@ -43,7 +43,7 @@ pub trait Disk {
 
     /// The paths of all nodes strictly below the path, rising. Folders are no nodes.
     ///
-    /// `Failed` where the disk fails, `Memory` where memory is wanting.
+    /// `Failed` where the disk fails, `Memory` where it runs out of memory.
     fn list(&mut self, alloc: Global, path: &Path) -> Result<Vec<Path>, DiskErr>
         ensures same { told self.new ≡ told self.old }
         ensures paths { IfOk result (λ found. WhereTold (told self.old)

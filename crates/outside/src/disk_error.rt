@@ -13,7 +13,7 @@ pub struct Failed;
 pub enum DiskErr {
     /// The disk failed: its count of faults rose.
     Failed,
-    /// Want of memory.
+    /// Out of memory.
     Memory,
 }
 

@@ -74,7 +74,7 @@ impl Name {
         &self.bytes
     }
 
-    /// The same name once more, or want of memory.
+    /// The same name once more, or out of memory.
     pub fn copy(&self) -> Result<Name, AllocError>
         ensures { IfOk result (λ name. name ≡ self.now) }
     {

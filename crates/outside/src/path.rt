@@ -76,14 +76,14 @@ impl Path {
         }
     }
 
-    /// The names joined by slashes, or want of memory.
+    /// The names joined by slashes, or out of memory.
     pub fn print(&self) -> Result<Vec<u8>, AllocError>
         ensures { IfOk result (λ text. text.items ≡ joined self.now) }
     {
         print_names(*self.names.allocator(), &self.names)
     }
 
-    /// The same path once more, or want of memory.
+    /// The same path once more, or out of memory.
     pub fn copy(&self) -> Result<Path, AllocError>
         ensures { IfOk result (λ path. path ≡ self.now) }
     {
@@ -105,7 +105,7 @@ impl Path {
         is_above(&self.names, &other.names)
     }
 
-    /// The path with one name more, or want of memory.
+    /// The path with one name more, or out of memory.
     pub fn join(&self, name: &Name) -> Result<Path, AllocError>
         requires { length self.now < 40 }
         ensures { IfOk result (λ path. path ≡ self.now ++ name.now ∷ []) }
@@ -115,7 +115,7 @@ impl Path {
         Ok(path)
     }
 
-    /// Adds one name at the end. Want of memory leaves the path as it is.
+    /// Adds one name at the end. Where it runs out of memory, the path stays as it is.
     pub fn push_name(&mut self, name: Name) -> Result<(), AllocError>
         requires { length self.old < 40 }
         ensures ok { OnOk result (self.new ≡ self.old ++ name ∷ []) }
@@ -127,8 +127,8 @@ impl Path {
 
     /// The path with this text as one name more.
     ///
-    /// `BadName` exactly where the text is no name, else `TooDeep` exactly where the path has 40 names: both are told
-    /// before any memory is asked for. `Memory` where memory is wanting.
+    /// `BadName` exactly where the text is no name, else `TooDeep` exactly where the path has 40 names: both are reported
+    /// before any memory is asked for. `Memory` where it ran out of memory.
     pub fn child(&self, name: &[u8]) -> Result<Path, PathError>
         ensures answer { Answers result (added self.now name.now) }
         ensures bad { is_name name.now ≡ false → result ≡ Err PathError.BadName }

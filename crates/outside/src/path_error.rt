@@ -11,7 +11,7 @@ pub enum PathError {
     /// The path would have more than 40 names.
     #[error("the path has more than 40 names")]
     TooDeep,
-    /// Want of memory.
+    /// Out of memory.
     #[error("out of memory")]
     Memory,
 }

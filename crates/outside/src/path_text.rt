@@ -24,7 +24,7 @@ fn slash_in(text: &[u8]) -> Option<usize>
     text.iter().position(|b| *b == b'/')
 }
 
-// The part before the first slash, and what stands behind it.
+// The part before the first slash, and what is after it.
 fn cut(text: &[u8]) -> Option<(&[u8], &[u8])>
     ensures parts { MatchOption result (slice_split (λ c. c == 47) text.now ≡ text.now ∷ [])
         (λ p. slice_split (λ c. c == 47) text.now ≡ p.0.now ∷ slice_split (λ c. c == 47) p.1.now) }

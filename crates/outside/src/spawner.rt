@@ -21,7 +21,7 @@ pub struct Answer {
 pub enum AskErr {
     /// The program could not be run: the count of faults rose.
     Failed,
-    /// Want of memory.
+    /// Out of memory.
     Memory,
 }
 
@@ -53,7 +53,7 @@ pub trait Asker: Spawner {
     /// Runs the program of the first word with the other words as its arguments and this input, and answers its
     /// exit status, 0 to 255 or 256 where it was killed, and its output, cut after `most + 1` bytes.
     ///
-    /// `Failed` where the program could not be run, `Memory` where memory is wanting; nothing was then asked.
+    /// `Failed` where the program could not be run, `Memory` where it ran out of memory; nothing was then asked.
     fn ask(
         &mut self,
         alloc: Global,

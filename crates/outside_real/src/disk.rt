@@ -18,15 +18,15 @@ use std::rt::Files;
 /// each call is a fault and nothing is read or changed; `wait_for_lock` lets the first one wait for it. On a file system that is
 /// read-only the lock is taken without being made.
 ///
-/// `sync` puts down each file that was written in place and each folder whose entries changed since the last sync that
-/// answered Ok, each once. The first one also puts down all files and folders of `store`, `etc` and `.links`, as an
+/// `sync` flushes each file that was written in place and each folder whose entries changed since the last sync that
+/// answered Ok, each once. The first one also flushes all files and folders of `store`, `etc` and `.links`, as an
 /// earlier program may have left them. The bytes of a file that was written in place are kept until it is on the disk:
 /// where its sync fails, reads answer them and the next sync writes them anew. Where the sync of a folder fails, or of a
 /// file whose bytes aren't kept, each later call is a fault.
 ///
 /// No symbolic link is followed below the folder. At a path that is named it is a fault, and so is all that is neither a
-/// file nor a folder, and a path below `.work`, `.links` or `api.sock`. Each error is a fault, and so is want of memory
-/// in a writing call.
+/// file nor a folder, and a path below `.work`, `.links` or `api.sock`. Each error is a fault, and so is running out of
+/// memory in a writing call.
 #[derive(Drop)]
 pub struct RealDisk<R: Files + AllocGlobal + Clone + Drop> {
     folder: Folder<R>,
@@ -37,7 +37,7 @@ impl<R: Files + AllocGlobal + Clone + Drop> RealDisk<R>
 where
     R::File: Lock,
 {
-    /// A disk over the files below this folder, which is there; `.` is the working folder. Or want of memory.
+    /// A disk over the files below this folder, which is there; `.` is the working folder. Or out of memory.
     pub fn new(rt: R, root: &str) -> Result<RealDisk<R>, AllocError> {
         let faults = Faults::new(rt.alloc());
         let folder = Folder::new(rt, root)?;

@@ -96,7 +96,7 @@ where
 {
     ghost use Rattle.outside_real.specs.Door.{state_of, unused};
 
-    /// A door at the socket in this folder; `.` is the working folder. Or want of memory.
+    /// A door at the socket in this folder; `.` is the working folder. Or out of memory.
     pub fn new(rt: R, root: &str, framing: F) -> Result<RealDoor<R, F>, AllocError>
         ensures { IfOk result (λ door. state_of door.clients ≡ unused) }
     {

@@ -1,4 +1,4 @@
-//! What stands in the way of a call, for a person.
+//! What is in the way of a call, for a person.
 use crate::failure::Failure;
 use std::alloc::AllocError;
 use std::fs;
@@ -6,7 +6,7 @@ use std::io::{self, ErrorKind};
 use std::os::unix::fs::MetadataExt;
 use std::rt::Files;
 
-// What the place is, where it is neither a file nor a folder; the place is told as it is named below the root.
+// What the place is, where it is neither a file nor a folder; the place is reported by its name below the root.
 fn odd_at(
     files: &(impl Files + AllocGlobal),
     root: &str,
@@ -26,7 +26,7 @@ fn odd_at(
     Ok(Some(format!(in alloc; "{below} is neither a file nor a folder")?))
 }
 
-// The first of the names of a path below the root at which neither a file nor a folder stands, in words. Or out of memory.
+// The first of the names of a path below the root at which there is something other than a file or a folder, in words. Or out of memory.
 fn first_odd(
     files: &(impl Files + AllocGlobal),
     root: &str,
@@ -46,7 +46,7 @@ fn first_odd(
     Ok(None)
 }
 
-// The first of the folders of a path below the root where a file stands, in words. Or out of memory.
+// The first of the folders of a path below the root where there is a file, in words. Or out of memory.
 fn first_file(
     files: &(impl Files + AllocGlobal),
     root: &str,
@@ -68,7 +68,7 @@ fn first_file(
     Ok(None)
 }
 
-// Whether a folder stands at the place, its mode, and its owner.
+// Whether there is a folder at the place, its mode, and its owner.
 fn facts_of(files: &impl Files, place: &str) -> Option<(bool, u32, u32)> {
     let data = fs::symlink_metadata(files, place).ok()?;
     Some((data.is_dir(), data.mode() & 0o777, data.uid()))
@@ -109,7 +109,7 @@ fn below<'a>(root: &str, place: &'a str) -> &'a str {
     }
 }
 
-// What stands in the way of a call at this path below the root, in words, where it can be seen.
+// What is in the way of a call at this path below the root, in words, where it can be seen.
 fn obstacle(
     files: &(impl Files + AllocGlobal),
     root: &str,
@@ -145,7 +145,7 @@ fn is_of_name(error: &io::Error) -> bool {
     error.raw_os_error().is_none() && error.kind() == ErrorKind::InvalidFilename
 }
 
-/// Why a call failed below the root, in words: what stands in the way, where that can be seen, and else the words of the error. Or out of memory.
+/// Why a call failed below the root, in words: what is in the way, where that can be seen, and else the words of the error. Or out of memory.
 pub fn explain(
     files: &(impl Files + AllocGlobal),
     root: &str,

@@ -35,7 +35,7 @@ impl<R: Files + AllocGlobal + Clone + Drop> Folder<R>
 where
     R::File: Lock,
 {
-    /// The files below this folder, which is there. Or want of memory.
+    /// The files below this folder, which is there. Or out of memory.
     pub fn new(rt: R, root: &str) -> Result<Folder<R>, AllocError> {
         let alloc = rt.alloc();
         Ok(Folder {
@@ -49,7 +49,7 @@ where
         })
     }
 
-    /// Why a call failed, in words: what stands in the way, where the error is of these adapters, and else the system's words. Or out of memory.
+    /// Why a call failed, in words: what is in the way, where the error is of these adapters, and else the system's words. Or out of memory.
     pub fn explain(&self, failure: &Failure) -> Result<String, AllocError> {
         if self.hold.is_locked_out() {
             return self.hold.explain(self.rt.alloc());
@@ -176,8 +176,8 @@ where
         Ok(())
     }
 
-    // Makes the path one at which a file may be made, and answers whether one stands there. Folders are no nodes: one
-    // that stands there is taken away with those below it, unless there is more in them.
+    // Makes the path one at which a file may be made, and answers whether one is there. Folders are no nodes: one
+    // that is there is taken away with those below it, unless there is more in them.
     fn make_way(&mut self, kind: Kind, path: &Path) -> io::Result<bool> {
         let place = self.place(kind, path)?;
         self.make_folders(kind, path)?;
@@ -322,14 +322,14 @@ where
         answer
     }
 
-    /// Puts each place down that changed since the last sync that answered Ok, each once; at first also what earlier
+    /// Flushes each place that changed since the last sync that answered Ok, each once; at first also what earlier
     /// programs left.
     pub fn sync(&mut self) -> io::Result<()> {
         self.begin()?;
         self.put_down()
     }
 
-    // Whether a folder stands where a node of this kind at the path would be. A symbolic link there is an error.
+    // Whether there is a folder where a node of this kind at the path would be. A symbolic link there is an error.
     fn is_folder(&mut self, kind: Kind, path: &Path) -> io::Result<bool> {
         let place = self.place(kind, path)?;
         if !self.has_folders(kind, path)? {

@@ -1,11 +1,11 @@
-//! Which real folders stand, as far as is known.
+//! Which real folders are there, as far as is known.
 use crate::places::{Standing, remove_empty, what_stands};
 use std::alloc::{AllocError, Global};
 use std::collections::BTreeMap;
 use std::io;
 use std::rt::Files;
 
-/// The places that were looked at, each with whether a folder stands there. As nobody else makes or removes any, each is
+/// The places that were looked at, each with whether a folder is there. As nobody else makes or removes any, each is
 /// looked at once.
 #[derive(Drop)]
 pub struct Folders {
@@ -20,23 +20,23 @@ impl Folders {
         }
     }
 
-    /// Whether a folder is known to stand at the place.
+    /// Whether a folder is known to be at the place.
     pub fn is_known(&self, place: &String) -> bool {
         matches!(self.seen.get(place), Some(true))
     }
 
-    /// A folder stands at the place.
+    /// There is a folder at the place.
     pub fn set(&mut self, place: String) -> Result<(), AllocError> {
         self.seen.insert(place, true)?;
         Ok(())
     }
 
-    /// What stands at the place changes now.
+    /// What is at the place changes now.
     pub fn forget(&mut self, place: &String) {
         self.seen.remove(place);
     }
 
-    /// Whether a folder stands at the place. A symbolic link there is an error.
+    /// Whether there is a folder at the place. A symbolic link there is an error.
     pub fn stands(&mut self, files: &impl Files, place: String) -> io::Result<bool> {
         if let Some(stands) = self.seen.get(&place) {
             return Ok(*stands);

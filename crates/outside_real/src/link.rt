@@ -39,7 +39,7 @@ fn is_late(error: &io::Error) -> bool {
 }
 
 impl<R: Net + Clock + AllocGlobal + Drop> RealLink<R> {
-    /// A link to the socket in this folder; `.` is the working folder. Or want of memory.
+    /// A link to the socket in this folder; `.` is the working folder. Or out of memory.
     pub fn new(rt: R, root: &str) -> Result<RealLink<R>, AllocError> {
         let alloc = rt.alloc();
         let place = format!(in alloc; "{root}{SOCKET}")?;

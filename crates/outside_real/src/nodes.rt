@@ -47,7 +47,7 @@ impl Nodes {
         self.folders.pop()
     }
 
-    // Adds the path, at which this stands.
+    // Adds the path, at which this is.
     fn add(&mut self, path: Path, standing: Standing) -> Result<(), AllocError> {
         if standing == Standing::Folder {
             return self.add_folder(path);
@@ -56,7 +56,7 @@ impl Nodes {
         Ok(())
     }
 
-    // Adds what has this name in the folder, and stands at the place. A name that is none of a path is an error.
+    // Adds what has this name in the folder, and is at the place. A name that is none of a path is an error.
     fn add_named(
         &mut self,
         files: &impl Files,

@@ -52,7 +52,7 @@ pub fn is_own(name: &[u8]) -> bool {
     matches!(name, b".work" | b".links" | b"api.sock")
 }
 
-// Adds the name behind a slash.
+// Adds the name after a slash.
 fn push_name(place: &mut String, name: &[u8]) -> Result<(), AllocError> {
     place.push('/')?;
     for byte in name {
@@ -77,7 +77,7 @@ pub fn place_of(
     Ok(place)
 }
 
-/// What stands at a place.
+/// What is at a place.
 #[derive(Clone, Copy, Debug, PartialEq, Eq)]
 pub enum Standing {
     /// Nothing.
@@ -90,7 +90,7 @@ pub enum Standing {
     Other,
 }
 
-/// What stands at the place, with no symbolic link followed at its end.
+/// What is at the place, with no symbolic link followed at its end.
 pub fn look(files: &impl Files, place: &str) -> io::Result<Standing> {
     match fs::symlink_metadata(files, place) {
         Ok(data) if data.is_file() => Ok(Standing::File),

@@ -46,7 +46,7 @@ impl<W: Write + Drop> RealSink<W> {
         }
     }
 
-    /// The first bytes that were written, 4,096 at least or all; fewer where memory was wanting.
+    /// The first bytes that were written, 4,096 at least or all; fewer where it ran out of memory.
     pub fn first_bytes(&self) -> &[u8] {
         &self.kept
     }

@@ -70,7 +70,7 @@ fn read_some(reader: &mut impl Read, kept: &mut Vec<u8>, wanted: usize) -> io::R
 
 impl<R: Files + Processes + AllocGlobal + Drop> RealSpawner<R> {
     /// A spawner that puts what a program is given to read below `.work` in this folder; `.` is the working folder.
-    /// Or want of memory.
+    /// Or out of memory.
     pub fn new(rt: R, root: &str) -> Result<RealSpawner<R>, AllocError> {
         let root = String::from_str(rt.alloc(), root)?;
         let faults = Faults::new(rt.alloc());

@@ -14,7 +14,7 @@ enum Entry {
     Place,
     // A file that was written in place with these bytes.
     Written(Vec<u8>),
-    // The same, where a sync has failed: the system may have let go what it couldn't put down, and tells so once.
+    // The same, where a sync has failed: the system may have let go what it couldn't flush, and tells so once.
     Lost(Vec<u8>),
 }
 
@@ -23,11 +23,11 @@ enum Entry {
 pub struct Unsynced {
     entries: BTreeMap<String, Entry>,
     broken: bool,
-    /// The place that the last failing sync couldn't put down.
+    /// The place that the last failing sync couldn't flush.
     pub failed: Option<String>,
 }
 
-// Puts down what stands at the place, and answers what the system said. An error where it couldn't be opened, and nothing
+// Flushes what is at the place, and answers what the system said. An error where it couldn't be opened, and nothing
 // was asked of it then.
 fn put_down(files: &impl Files, place: &str, entry: &Entry) -> io::Result<io::Result<()>> {
     if let Entry::Lost(bytes) = entry {
@@ -104,7 +104,7 @@ impl Unsynced {
         }
     }
 
-    // The system may have let go what stands at the place. A file whose bytes are kept is written anew at the next sync.
+    // The system may have let go what is at the place. A file whose bytes are kept is written anew at the next sync.
     fn lose(&mut self, place: String, entry: Entry) {
         match entry {
             Entry::Place => self.broken = true,
@@ -112,7 +112,7 @@ impl Unsynced {
         }
     }
 
-    // Puts the place down. At an error it is still to be synced, or it is broken.
+    // Flushes the place. At an error it is still to be synced, or it is broken.
     fn sync_place(&mut self, files: &impl Files, place: String, entry: Entry) -> io::Result<()> {
         match put_down(files, place.as_str(), &entry) {
             Ok(Ok(())) => Ok(()),
@@ -129,7 +129,7 @@ impl Unsynced {
         }
     }
 
-    /// Puts each place down. An error is the first one of the system; what isn't on the disk then is still to be synced,
+    /// Flushes each place. An error is the first one of the system; what isn't on the disk then is still to be synced,
     /// or it is broken.
     pub fn sync(&mut self, files: &impl Files) -> io::Result<()> {
         for _ in 0..u64::MAX {

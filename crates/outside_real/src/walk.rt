@@ -8,7 +8,7 @@ use std::rt::Files;
 /// The places below some folders.
 #[derive(Drop)]
 pub struct Walk {
-    /// The folders themselves and those below them, each behind the one that it lies in.
+    /// The folders themselves and those below them, each after the one that it lies in.
     pub folders: Vec<String>,
     /// The files in them.
     pub files: Vec<String>,
@@ -29,7 +29,7 @@ impl Walk {
         }
     }
 
-    /// Adds what stands at the place.
+    /// Adds what is at the place.
     pub fn add(&mut self, files: &impl Files, place: String) -> io::Result<()> {
         match look(files, place.as_str())? {
             Standing::Nothing => {}
@@ -75,7 +75,7 @@ impl Walk {
         Ok(())
     }
 
-    // Adds what stands at this place below the root.
+    // Adds what is at this place below the root.
     fn add_below<R: Files + AllocGlobal>(
         &mut self,
         rt: &R,

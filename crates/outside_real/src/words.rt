@@ -3,8 +3,8 @@ use std::env;
 use std::io::{self, ErrorKind};
 use std::rt::Env;
 
-/// The words behind the program's name. Where one isn't UTF-8 there are none: such words spell no command and no
-/// question, and so do no words. The only error is want of memory.
+/// The words after the program's name. Where one isn't UTF-8 there are none: such words spell no command and no
+/// question, and so do no words. The only error is out of memory.
 pub fn words_of(rt: &(impl Env + AllocGlobal)) -> io::Result<Vec<String>> {
     match env::args(rt) {
         Ok(words) => Ok(words.skip(1).collect(rt.alloc())?),

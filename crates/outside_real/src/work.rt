@@ -106,7 +106,7 @@ fn open_lock<R: Files + AllocGlobal>(rt: &R, root: &str, name: &str) -> io::Resu
 }
 
 /// The lock of this name in `.work`, which is held until the file is closed. `WouldBlock` where another program holds
-/// it; `PermissionDenied`, with nothing made, where `.work` is not this user's alone or no file stands there; each other error is the system's.
+/// it; `PermissionDenied`, with nothing made, where `.work` is not this user's alone or no file is there; each other error is the system's.
 pub fn take_lock<R: Files + AllocGlobal>(rt: &R, root: &str, name: &str) -> io::Result<R::File>
 where
     R::File: Lock,
@@ -116,7 +116,7 @@ where
     Ok(file)
 }
 
-// The file of the lock as it is; where it is missing, nobody holds it, and the root stands for it.
+// The file of the lock as it is; where it is missing, nobody holds it, and the root takes its place.
 fn open_unwritten<R: Files + AllocGlobal>(rt: &R, root: &str, name: &str) -> io::Result<R::File> {
     let place = place_in_work(rt.alloc(), root, name)?;
     match look(rt, place.as_str())? {

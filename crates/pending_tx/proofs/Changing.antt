@@ -1,5 +1,6 @@
 -- Each entry changes what is held.
-use Rattle.std.proofs.Common.{◌≡◌, ◌≢◌, ℕ, List, [], ◌∷◌, slice_index_or, Option, Some, None, is_some, Bool, true, false, not, cond, map, filter, refl, sym, ◌∙◌, ap}
+use Rattle.std.proofs.Common.{◌≡◌, ◌≢◌, ℕ, List, [], ◌∷◌, slice_index_or, Option, Some, None, is_some}
+use Rattle.std.proofs.Common.{Bool, true, false, not, cond, map, filter, refl, sym, ◌∙◌, ap}
 use Rattle.std.specs.Prelude.{All}
 use Rattle.std.specs.Cmp.{eq_by_cmp_equiv}
 use Rattle.std.specs.Ordering.{eq_by_cmp}
@@ -41,31 +42,38 @@ live_changes h k Gone changed same =
     both_ways (is_some (get h.live.values k)) (ap is_some none) changed
 
 -- Entries for values that differ.
-pub all_live_change : (h : Held) (es : List (List (List ℕ) × Pending)) → All (λ e. laid_one h e ≢ h) (map (λ e. live_entry e.0 e.1) (filter (λ e. differs e.1 (get h.live.values e.0)) es))
+pub all_live_change : (h : Held) (es : List (List (List ℕ) × Pending))
+    → All (λ e. laid_one h e ≢ h) (map (λ e. live_entry e.0 e.1) (filter (λ e. differs e.1 (get h.live.values e.0)) es))
 all_live_change h [] = All-nil (Changes h)
 all_live_change h (e ∷ es) = by (differs e.1 (get h.live.values e.0)) refl (all_live_change h es) where
-  by : (b : Bool) → differs e.1 (get h.live.values e.0) ≡ b → All (Changes h) (map (λ e. live_entry e.0 e.1) (filter (λ e. differs e.1 (get h.live.values e.0)) es))
-      → All (Changes h) (map (λ e. live_entry e.0 e.1) (cond b (e ∷ filter (λ e. differs e.1 (get h.live.values e.0)) es) (filter (λ e. differs e.1 (get h.live.values e.0)) es)))
+  by : (b : Bool) → differs e.1 (get h.live.values e.0) ≡ b → All (Changes h)
+      (map (λ e. live_entry e.0 e.1) (filter (λ e. differs e.1 (get h.live.values e.0)) es))
+      → All (Changes h) (map (λ e. live_entry e.0 e.1) (cond b (e ∷ filter (λ e. differs e.1 (get h.live.values e.0)) es)
+      (filter (λ e. differs e.1 (get h.live.values e.0)) es)))
   by true is rest = All-cons (Changes h) (live_entry e.0 e.1) _ (live_changes h e.0 e.1 is) rest
   by false is rest = rest
 
 gone_changes : (h : Held) (tx : List ℕ) (k : List (List ℕ)) → has_key (keys_of h tx) k ≡ true → laid_one h (PendGone tx k) ≢ h
 gone_changes h tx k has same =
-    let none : value_at h.pending tx k ≡ None = sym (ap (λ (g : Held). value_at g.pending tx k) same) ∙ value_at-without_same bytes_total key_total h.pending tx k in
+    let none : value_at h.pending tx k ≡ None = sym (ap (λ (g : Held). value_at g.pending tx k) same)
+    ∙ value_at-without_same bytes_total key_total h.pending tx k in
     both_ways (is_some (value_at h.pending tx k)) (ap is_some none) (contains_key-keys (inner h.pending tx) k ∙ has)
 
 -- Entries that take a transaction's keys.
 pub all_gone_change : (h : Held) (tx : List ℕ) → All (λ e. laid_one h e ≢ h) (map (λ k. PendGone tx k) (keys_of h tx))
 all_gone_change h tx = All-map (Changes h) (λ k. PendGone tx k) (keys_of h tx) (λ i d low. gone_changes h tx (slice_index_or (keys_of h tx) i d)
-    (list_any_at (eq_by_cmp key_cmp (slice_index_or (keys_of h tx) i d)) (keys_of h tx) i d low ((eq_by_cmp_equiv key_total).refl (slice_index_or (keys_of h tx) i d))))
+    (list_any_at (eq_by_cmp key_cmp (slice_index_or (keys_of h tx) i d)) (keys_of h tx) i d low
+    ((eq_by_cmp_equiv key_total).refl (slice_index_or (keys_of h tx) i d))))
 
 set_changes : (h : Held) (tx : List ℕ) (k : List (List ℕ)) (p : Pending) → is_new h tx k p ≡ true → laid_one h (PendSet tx k p) ≢ h
 set_changes h tx k p new same =
-    let stands : value_at h.pending tx k ≡ Some p = sym (ap (λ (g : Held). value_at g.pending tx k) same) ∙ value_at-with_same bytes_total key_total h.pending tx k p in
+    let stands : value_at h.pending tx k ≡ Some p = sym (ap (λ (g : Held). value_at g.pending tx k) same)
+    ∙ value_at-with_same bytes_total key_total h.pending tx k p in
     unlike (pending_eq p p) ((pending_eq-Decides p p).1 refl) (sym (ap (λ (o : Option Pending). not (is_pending o p)) stands) ∙ new)
 
 -- Entries that set what is not so.
-pub all_set_change : (h : Held) (tx : List ℕ) (es : List (List (List ℕ) × Pending)) → All (λ e. laid_one h e ≢ h) (map (λ e. PendSet tx e.0 e.1) (filter (λ e. is_new h tx e.0 e.1) es))
+pub all_set_change : (h : Held) (tx : List ℕ) (es : List (List (List ℕ) × Pending))
+    → All (λ e. laid_one h e ≢ h) (map (λ e. PendSet tx e.0 e.1) (filter (λ e. is_new h tx e.0 e.1) es))
 all_set_change h tx [] = All-nil (Changes h)
 all_set_change h tx (e ∷ es) = by (is_new h tx e.0 e.1) refl (all_set_change h tx es) where
   by : (b : Bool) → is_new h tx e.0 e.1 ≡ b → All (Changes h) (map (λ e. PendSet tx e.0 e.1) (filter (λ e. is_new h tx e.0 e.1) es))
@@ -76,8 +84,11 @@ all_set_change h tx (e ∷ es) = by (is_new h tx e.0 e.1) refl (all_set_change h
 -- The entry for what is owed, and the one for the weak keys.
 pub owed_changes : (h : Held) (e : Option Entry) (next : Owed) → Tells e OwedSet h.owed next → All (λ e. laid_one h e ≢ h) (option_to_list e)
 owed_changes h None next same = All-nil (Changes h)
-owed_changes h (Some e) next tells = All-cons (Changes h) e [] (λ same. tells.1 (ap (λ (g : Held). g.owed) (sym (ap (laid_one h) tells.0) ∙ same))) (All-nil (Changes h))
+owed_changes h (Some e) next tells = All-cons (Changes h) e [] (λ same. tells.1 (ap (λ (g : Held). g.owed) (sym (ap (laid_one h) tells.0) ∙ same)))
+    (All-nil (Changes h))
 
-pub weak_changes : (h : Held) (e : Option Entry) (next : List (List (List ℕ))) → Tells e WeakIs h.live.weak next → All (λ e. laid_one h e ≢ h) (option_to_list e)
+pub weak_changes : (h : Held) (e : Option Entry) (next : List (List (List ℕ))) → Tells e WeakIs h.live.weak next
+    → All (λ e. laid_one h e ≢ h) (option_to_list e)
 weak_changes h None next same = All-nil (Changes h)
-weak_changes h (Some e) next tells = All-cons (Changes h) e [] (λ same. tells.1 (ap (λ (g : Held). g.live.weak) (sym (ap (laid_one h) tells.0) ∙ same))) (All-nil (Changes h))
+weak_changes h (Some e) next tells = All-cons (Changes h) e [] (λ same. tells.1 (ap (λ (g : Held). g.live.weak) (sym (ap (laid_one h) tells.0) ∙ same)))
+    (All-nil (Changes h))

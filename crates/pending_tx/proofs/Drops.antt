@@ -25,7 +25,10 @@ use Rattle.settings_tree.proofs.Rising.{keys_rise}
 
 -- A change that names no weak keys need not say which may be.
 pub names_none : (h : Held) (es : List Entry) → is_unnamed TheWeak es ≡ true → NamesWeak h es
-names_none h es none = record { may = λ weak has. absurd (named weak (All-contains (λ e. not (is_same TheWeak (place e)) ≡ true) es (WeakIs weak) (AllPass-from_list_all (λ e. not (is_same TheWeak (place e))) es none) has)) } where
+names_none h es none = record {
+  may = λ weak has. absurd (named weak (All-contains (λ e. not (is_same TheWeak (place e)) ≡ true) es (WeakIs weak)
+      (AllPass-from_list_all (λ e. not (is_same TheWeak (place e))) es none) has));
+} where
   named : (weak : List (List (List ℕ))) → not (is_same TheWeak (place (WeakIs weak))) ≡ true → ⊥
   named weak e = cc e
 
@@ -41,7 +44,8 @@ module _ (h : Held) (tx : List ℕ) (es : List Entry) (made : es ≡ map (λ k. 
   drop_bare = ap (list_all has_bare_name) made ∙ gone_bare tx (keys_of h tx)
 
   pub drop_laid : IsPending h.pending → laid h es ≡ dropped h tx
-  drop_laid valid = ap (laid h) made ∙ gone_laid h tx (keys_of h tx) ∙ ap (λ (m : FinMap bytes_cmp (FinMap key_cmp Pending)). record h { pending = m }) (all_taken h.pending tx valid.full)
+  drop_laid valid = ap (laid h) made ∙ gone_laid h tx (keys_of h tx) ∙ ap (λ (m : FinMap bytes_cmp (FinMap key_cmp Pending)). record h { pending = m })
+      (all_taken h.pending tx valid.full)
 
   pub drop_rule : IsPending h.pending → KeepsPrefixRule h → KeepsPrefixRule (laid h es)
   drop_rule valid rule = subst KeepsPrefixRule (sym (drop_laid valid)) (record { live = rule.live; pending = removed_free h.pending tx rule.pending })

@@ -40,17 +40,21 @@ live_laid_one h k (Put v) = refl
 live_laid_one h k Gone = refl
 
 -- Entries for the live values.
-pub live_laid : (h : Held) (es : List (List (List ℕ) × Pending)) → laid h (map (λ e. live_entry e.0 e.1) es) ≡ record h { live = record h.live { values = fold (λ m e. with_pending m e.0 e.1) h.live.values es } }
+pub live_laid : (h : Held) (es : List (List (List ℕ) × Pending)) → laid h (map (λ e. live_entry e.0 e.1) es) ≡
+    record h { live = record h.live { values = fold (λ m e. with_pending m e.0 e.1) h.live.values es } }
 live_laid h [] = refl
-live_laid h (e ∷ es) = ap (λ (g : Held). laid g (map (λ e. live_entry e.0 e.1) es)) (live_laid_one h e.0 e.1) ∙ live_laid (record h { live = record h.live { values = with_pending h.live.values e.0 e.1 } }) es
+live_laid h (e ∷ es) = ap (λ (g : Held). laid g (map (λ e. live_entry e.0 e.1) es)) (live_laid_one h e.0 e.1)
+    ∙ live_laid (record h { live = record h.live { values = with_pending h.live.values e.0 e.1 } }) es
 
 -- Entries that take keys from a transaction.
-pub gone_laid : (h : Held) (tx : List ℕ) (ks : List (List (List ℕ))) → laid h (map (λ k. PendGone tx k) ks) ≡ record h { pending = fold (λ m k. without_value m tx k) h.pending ks }
+pub gone_laid : (h : Held) (tx : List ℕ) (ks : List (List (List ℕ))) → laid h (map (λ k. PendGone tx k) ks) ≡
+    record h { pending = fold (λ m k. without_value m tx k) h.pending ks }
 gone_laid h tx [] = refl
 gone_laid h tx (k ∷ ks) = gone_laid (laid_one h (PendGone tx k)) tx ks
 
 -- Entries that set keys in a transaction.
-pub set_laid : (h : Held) (tx : List ℕ) (es : List (List (List ℕ) × Pending)) → laid h (map (λ e. PendSet tx e.0 e.1) es) ≡ record h { pending = fold (λ m e. with_value m tx e.0 e.1) h.pending es }
+pub set_laid : (h : Held) (tx : List ℕ) (es : List (List (List ℕ) × Pending))
+    → laid h (map (λ e. PendSet tx e.0 e.1) es) ≡ record h { pending = fold (λ m e. with_value m tx e.0 e.1) h.pending es }
 set_laid h tx [] = refl
 set_laid h tx (e ∷ es) = set_laid (laid_one h (PendSet tx e.0 e.1)) tx es
 
@@ -60,7 +64,8 @@ owed_laid h None next same = ap (λ (o : Owed). record h { owed = o }) (sym same
 owed_laid h (Some e) next tells = ap (λ (x : Entry). laid_one h x) tells.0
 
 -- The entry for the weak keys.
-pub weak_laid : (h : Held) (e : Option Entry) (next : List (List (List ℕ))) → Tells e WeakIs h.live.weak next → laid h (option_to_list e) ≡ record h { live = record h.live { weak = next } }
+pub weak_laid : (h : Held) (e : Option Entry) (next : List (List (List ℕ))) → Tells e WeakIs h.live.weak next
+    → laid h (option_to_list e) ≡ record h { live = record h.live { weak = next } }
 weak_laid h None next same = ap (λ (w : List Key). record h { live = record h.live { weak = w } }) (sym same)
 weak_laid h (Some e) next tells = ap (λ (x : Entry). laid_one h x) tells.0
 
@@ -91,7 +96,8 @@ module _ {M A : Type 0} (see : M → List (List ℕ) → A) (write : M → List 
       let both = and_parts (is_lt (key_cmp k e.0)) (below_all key_cmp k es) below in
       (other m k p e.0 (less k e.0 both.0) ∙ agrees.0, agrees_after m k p es both.1 agrees.1)
 
-  skipped : (m : M) (es : List (Key × Pending)) → is_sorted key_cmp es ≡ true → Agrees m es → fold (λ n e. write n e.0 e.1) m (filter test es) ≡ fold (λ n e. write n e.0 e.1) m es
+  skipped : (m : M) (es : List (Key × Pending)) → is_sorted key_cmp es ≡ true → Agrees m es
+      → fold (λ n e. write n e.0 e.1) m (filter test es) ≡ fold (λ n e. write n e.0 e.1) m es
   skipped m [] rises agrees = refl
   skipped m (e ∷ es) rises agrees =
       let both = and_parts (below_all key_cmp e.0 es) (is_sorted key_cmp es) rises in
@@ -103,7 +109,8 @@ module _ {M A : Type 0} (see : M → List (List ℕ) → A) (write : M → List 
       by true is kept left = kept
       by false is kept left = left ∙ ap (λ (n : M). fold (λ n e. write n e.0 e.1) n es) (sym (idle m e is agrees.0))
 
-  pub all_written : (es : List (List (List ℕ) × Pending)) → is_sorted key_cmp es ≡ true → fold (λ n e. write n e.0 e.1) first (filter test es) ≡ fold (λ n e. write n e.0 e.1) first es
+  pub all_written : (es : List (List (List ℕ) × Pending)) → is_sorted key_cmp es ≡ true → fold (λ n e. write n e.0 e.1) first (filter test es) ≡ fold
+      (λ n e. write n e.0 e.1) first es
   all_written es rises = skipped first es rises (agrees_itself es)
 
 pending_other : (m : Values) (k : Key) (p : Pending) (q : Key) → eq_by_cmp key_cmp q k ≡ false → get (with_pending m k p) q ≡ get m q
@@ -133,7 +140,8 @@ kept_at true true x y differ = absurd (cc differ)
 kept_at true false x y differ = refl
 kept_at false b x y differ = refl
 
-set_other : (m : Pendings) (tx : List ℕ) (k : Key) (p : Pending) (q : Key) → eq_by_cmp key_cmp q k ≡ false → value_at (with_value m tx k p) tx q ≡ value_at m tx q
+set_other : (m : Pendings) (tx : List ℕ) (k : Key) (p : Pending) (q : Key) → eq_by_cmp key_cmp q k ≡ false
+    → value_at (with_value m tx k p) tx q ≡ value_at m tx q
 set_other m tx k p q differ = value_at-with bytes_total key_total m tx tx k q p ∙ kept_at (eq_by_cmp bytes_cmp tx tx) (eq_by_cmp key_cmp q k) _ _ differ
 
 pending_is : (o : Option Pending) (p : Pending) → not (is_pending o p) ≡ false → o ≡ Some p
@@ -146,7 +154,8 @@ pending_is (Some w) p same = ap Some ((pending_eq-Decides w p).0 (by (pending_eq
 -- To set a key as it is changes nothing.
 with_same : (m : Pendings) (tx : List ℕ) (k : Key) (p : Pending) → value_at m tx k ≡ Some p → with_value m tx k p ≡ m
 with_same m tx k p has =
-    ap (insert m tx) (insert-present key_total key_cmp-IsAntisymmetric (inner m tx) k p has) ∙ insert-present bytes_total bytes_cmp-IsAntisymmetric m tx (inner m tx) (by (get m tx) refl)
+    ap (insert m tx) (insert-present key_total key_cmp-IsAntisymmetric (inner m tx) k p has)
+    ∙ insert-present bytes_total bytes_cmp-IsAntisymmetric m tx (inner m tx) (by (get m tx) refl)
   where
     by : (o : Option (FinMap key_cmp Pending)) → get m tx ≡ o → o ≡ Some (unwrap_or o empty)
     by None is = absurd (cc (sym has ∙ ap (λ (o : Option (FinMap key_cmp Pending)). get (unwrap_or o empty) k) is ∙ get-empty {X = Pending} key_cmp k))

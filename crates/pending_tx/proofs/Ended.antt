@@ -28,8 +28,9 @@ none_taken : (a : Bool) (x : Option Pending) → x ≡ cond a x x
 none_taken true x = refl
 none_taken false x = refl
 
--- What stands where after some keys are taken.
-value_at-taken : (m : Pendings) (tx : List ℕ) (ks : List (List (List ℕ))) (t : List ℕ) (q : List (List ℕ)) → value_at (taken m tx ks) t q ≡ cond (eq_by_cmp bytes_cmp t tx) (cond (has_key ks q) None (value_at m t q)) (value_at m t q)
+-- What is where after some keys are taken.
+value_at-taken : (m : Pendings) (tx : List ℕ) (ks : List (List (List ℕ))) (t : List ℕ) (q : List (List ℕ))
+    → value_at (taken m tx ks) t q ≡ cond (eq_by_cmp bytes_cmp t tx) (cond (has_key ks q) None (value_at m t q)) (value_at m t q)
 value_at-taken m tx [] t q = none_taken (eq_by_cmp bytes_cmp t tx) (value_at m t q)
 value_at-taken m tx (k ∷ ks) t q = value_at-taken (without_value m tx k) tx ks t q
     ∙ ap (λ x. cond (eq_by_cmp bytes_cmp t tx) (cond (has_key ks q) None x) x) (value_at-without bytes_total key_total m tx t k q)
@@ -51,27 +52,34 @@ inner_cond false o = refl
 
 -- What a transaction has after one is removed.
 pub inner-remove : (m : FinMap bytes_cmp (FinMap key_cmp Pending)) (tx t : List ℕ) → inner (remove m tx) t ≡ cond (eq_by_cmp bytes_cmp t tx) empty (inner m t)
-inner-remove m tx t = ap (λ (o : Option (FinMap key_cmp Pending)). unwrap_or o empty) (get-remove bytes_total m tx t) ∙ inner_cond (eq_by_cmp bytes_cmp t tx) (get m t)
+inner-remove m tx t = ap (λ (o : Option (FinMap key_cmp Pending)). unwrap_or o empty) (get-remove bytes_total m tx t)
+    ∙ inner_cond (eq_by_cmp bytes_cmp t tx) (get m t)
 
 -- With all its keys taken it is gone.
-pub all_taken : (m : FinMap bytes_cmp (FinMap key_cmp Pending)) (tx : List ℕ) → IsFull m → fold (λ n k. without_value n tx k) m (keys (inner m tx)) ≡ remove m tx
-all_taken m tx full = same_nested bytes_total bytes_cmp-IsAntisymmetric key_total key_cmp-IsAntisymmetric (taken m tx (keys (inner m tx))) (remove m tx) (full_taken m tx (keys (inner m tx)) full) (full_removed m tx full)
-    (λ t q. value_at-taken m tx (keys (inner m tx)) t q ∙ by t q (eq_by_cmp bytes_cmp t tx) refl ∙ sym (ap (λ (i : FinMap key_cmp Pending). get i q) (inner-remove m tx t)))
+pub all_taken : (m : FinMap bytes_cmp (FinMap key_cmp Pending)) (tx : List ℕ) → IsFull m → fold (λ n k. without_value n tx k) m (keys (inner m tx)) ≡ remove m
+    tx
+all_taken m tx full = same_nested bytes_total bytes_cmp-IsAntisymmetric key_total key_cmp-IsAntisymmetric (taken m tx (keys (inner m tx))) (remove m tx)
+    (full_taken m tx (keys (inner m tx)) full) (full_removed m tx full)
+    (λ t q. value_at-taken m tx (keys (inner m tx)) t q ∙ by t q (eq_by_cmp bytes_cmp t tx) refl
+    ∙ sym (ap (λ (i : FinMap key_cmp Pending). get i q) (inner-remove m tx t)))
   where
     gone : (o : Option Pending) → cond (is_some o) None o ≡ None
     gone None = refl
     gone (Some x) = refl
 
     at_tx : (q : List (List ℕ)) → cond (has_key (keys (inner m tx)) q) None (value_at m tx q) ≡ get (empty {R = key_cmp}) q
-    at_tx q = ap (λ (b : Bool). cond b None (value_at m tx q)) (sym (contains_key-keys (inner m tx) q)) ∙ gone (value_at m tx q) ∙ sym (get-empty {X = Pending} key_cmp q)
+    at_tx q = ap (λ (b : Bool). cond b None (value_at m tx q)) (sym (contains_key-keys (inner m tx) q)) ∙ gone (value_at m tx q)
+        ∙ sym (get-empty {X = Pending} key_cmp q)
 
     by : (t : List ℕ) (q : List (List ℕ)) (b : Bool) → eq_by_cmp bytes_cmp t tx ≡ b
         → cond b (cond (has_key (keys (inner m tx)) q) None (value_at m t q)) (value_at m t q) ≡ get (cond b empty (inner m t)) q
-    by t q true is = ap (λ (u : List ℕ). cond (has_key (keys (inner m tx)) q) None (value_at m u q)) (bytes_cmp-IsAntisymmetric t tx (tied_by (bytes_cmp t tx) is)) ∙ at_tx q
+    by t q true is = ap (λ (u : List ℕ). cond (has_key (keys (inner m tx)) q) None (value_at m u q))
+        (bytes_cmp-IsAntisymmetric t tx (tied_by (bytes_cmp t tx) is)) ∙ at_tx q
     by t q false is = refl
 
 -- The other transactions keep the prefix rule.
-pub removed_free : (m : FinMap bytes_cmp (FinMap key_cmp Pending)) (tx : List ℕ) → ((t : List ℕ) → IsPrefixFree (inner m t)) → (t : List ℕ) → IsPrefixFree (inner (remove m tx) t)
+pub removed_free : (m : FinMap bytes_cmp (FinMap key_cmp Pending)) (tx : List ℕ) → ((t : List ℕ) → IsPrefixFree (inner m t)) → (t : List ℕ)
+    → IsPrefixFree (inner (remove m tx) t)
 removed_free m tx free t = subst IsPrefixFree (sym (inner-remove m tx t)) (by (eq_by_cmp bytes_cmp t tx)) where
   by : (b : Bool) → IsPrefixFree (cond b empty (inner m t))
   by true = empty_free empty refl

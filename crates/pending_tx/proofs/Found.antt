@@ -13,7 +13,7 @@ use Rattle.settings_maps.proofs.NestedMaps.{tied_by}
 abbrev Key : Type 0
 Key = List (List ℕ)
 
--- What rises from behind a key has no entry at it.
+-- What rises from after a key has no entry at it.
 pub not_found : (q k : Key) (es : List (Key × Pending)) → eq_by_cmp key_cmp q k ≡ true → below_all key_cmp k es ≡ true → find key_cmp q es ≡ None
 not_found q k [] same below = refl
 not_found q k (e ∷ es) same below =

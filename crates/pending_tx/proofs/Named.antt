@@ -57,7 +57,8 @@ not_both true b e = e
 not_both false b e = refl
 
 -- Entries for the live values at rising keys.
-live_unnamed : (k : List (List ℕ)) (es : List (List (List ℕ) × Pending)) → below_all key_cmp k es ≡ true → is_unnamed (Live k) (map (λ e. live_entry e.0 e.1) es) ≡ true
+live_unnamed : (k : List (List ℕ)) (es : List (List (List ℕ) × Pending)) → below_all key_cmp k es ≡ true
+    → is_unnamed (Live k) (map (λ e. live_entry e.0 e.1) es) ≡ true
 live_unnamed k [] below = refl
 live_unnamed k (e ∷ es) below =
     let both = and_parts (is_lt (key_cmp k e.0)) (below_all key_cmp k es) below in
@@ -77,18 +78,22 @@ live_bare (e ∷ es) = and_from _ _ (by e.1) (live_bare es) where
   by Gone = refl
 
 -- A key that is none of theirs.
-pub live_other : (k : List (List ℕ)) (es : List (List (List ℕ) × Pending)) → has_key (map (λ e. e.0) es) k ≡ false → is_unnamed (Live k) (map (λ e. live_entry e.0 e.1) es) ≡ true
+pub live_other : (k : List (List ℕ)) (es : List (List (List ℕ) × Pending)) → has_key (map (λ e. e.0) es) k ≡ false
+    → is_unnamed (Live k) (map (λ e. live_entry e.0 e.1) es) ≡ true
 live_other k [] none = refl
 live_other k (e ∷ es) none = by (eq_by_cmp key_cmp k e.0) refl none (live_other k es) where
-  by : (b : Bool) → eq_by_cmp key_cmp k e.0 ≡ b → (b || has_key (map (λ e. e.0) es) k) ≡ false → (has_key (map (λ e. e.0) es) k ≡ false → is_unnamed (Live k) (map (λ e. live_entry e.0 e.1) es) ≡ true)
+  by : (b : Bool) → eq_by_cmp key_cmp k e.0 ≡ b → (b || has_key (map (λ e. e.0) es) k) ≡ false
+      → (has_key (map (λ e. e.0) es) k ≡ false → is_unnamed (Live k) (map (λ e. live_entry e.0 e.1) es) ≡ true)
       → is_unnamed (Live k) (map (λ e. live_entry e.0 e.1) (e ∷ es)) ≡ true
   by true is none rest = absurd (cc none)
   by false is none rest = and_from _ _ (ap (λ (p : Place). not (is_same (Live k) p)) (live_place e.0 e.1) ∙ ap not is) (rest none)
 
 -- Entries that take rising keys from a transaction.
-gone_unnamed : (tx : List ℕ) (k : List (List ℕ)) (ks : List (List (List ℕ))) → AllByRecursion (λ q. key_cmp k q ≡ Less) ks → is_unnamed (Pend tx k) (map (λ k. PendGone tx k) ks) ≡ true
+gone_unnamed : (tx : List ℕ) (k : List (List ℕ)) (ks : List (List (List ℕ))) → AllByRecursion (λ q. key_cmp k q ≡ Less) ks
+    → is_unnamed (Pend tx k) (map (λ k. PendGone tx k) ks) ≡ true
 gone_unnamed tx k [] below = refl
-gone_unnamed tx k (q ∷ ks) below = and_from _ _ (not_both (eq_by_cmp bytes_cmp tx tx) (eq_by_cmp key_cmp k q) (ap (λ (r : Ordering). not (is_eq r)) below.0)) (gone_unnamed tx k ks below.1)
+gone_unnamed tx k (q ∷ ks) below = and_from _ _ (not_both (eq_by_cmp bytes_cmp tx tx) (eq_by_cmp key_cmp k q) (ap (λ (r : Ordering). not (is_eq r)) below.0))
+    (gone_unnamed tx k ks below.1)
 
 pub gone_once : (tx : List ℕ) (ks : List (List (List ℕ))) → IsRising ks → is_once (map (λ k. PendGone tx k) ks) ≡ true
 gone_once tx [] rises = refl
@@ -108,7 +113,8 @@ gone_no_weak tx [] = refl
 gone_no_weak tx (q ∷ ks) = gone_no_weak tx ks
 
 -- Entries that set rising keys in a transaction.
-set_unnamed : (tx : List ℕ) (k : List (List ℕ)) (es : List (List (List ℕ) × Pending)) → below_all key_cmp k es ≡ true → is_unnamed (Pend tx k) (map (λ e. PendSet tx e.0 e.1) es) ≡ true
+set_unnamed : (tx : List ℕ) (k : List (List ℕ)) (es : List (List (List ℕ) × Pending)) → below_all key_cmp k es ≡ true
+    → is_unnamed (Pend tx k) (map (λ e. PendSet tx e.0 e.1) es) ≡ true
 set_unnamed tx k [] below = refl
 set_unnamed tx k (e ∷ es) below =
     let both = and_parts (is_lt (key_cmp k e.0)) (below_all key_cmp k es) below in
@@ -133,11 +139,13 @@ set_no_weak tx [] = refl
 set_no_weak tx (e ∷ es) = set_no_weak tx es
 
 -- Entries whose places are not in a list.
-pub live_apart : (es : List (List (List ℕ) × Pending)) (fs : List Entry) → ((k : List (List ℕ)) → is_unnamed (Live k) fs ≡ true) → are_apart (map (λ e. live_entry e.0 e.1) es) fs ≡ true
+pub live_apart : (es : List (List (List ℕ) × Pending)) (fs : List Entry) → ((k : List (List ℕ)) → is_unnamed (Live k) fs ≡ true)
+    → are_apart (map (λ e. live_entry e.0 e.1) es) fs ≡ true
 live_apart [] fs none = refl
 live_apart (e ∷ es) fs none = and_from _ _ (ap (λ (p : Place). is_unnamed p fs) (live_place e.0 e.1) ∙ none e.0) (live_apart es fs none)
 
-pub gone_apart : (tx : List ℕ) (ks : List (List (List ℕ))) (fs : List Entry) → ((k : List (List ℕ)) → is_unnamed (Pend tx k) fs ≡ true) → are_apart (map (λ k. PendGone tx k) ks) fs ≡ true
+pub gone_apart : (tx : List ℕ) (ks : List (List (List ℕ))) (fs : List Entry) → ((k : List (List ℕ)) → is_unnamed (Pend tx k) fs ≡ true)
+    → are_apart (map (λ k. PendGone tx k) ks) fs ≡ true
 gone_apart tx [] fs none = refl
 gone_apart tx (k ∷ ks) fs none = and_from _ _ (none k) (gone_apart tx ks fs none)
 

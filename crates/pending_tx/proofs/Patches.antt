@@ -1,5 +1,6 @@
 -- The change that lays pairs over a transaction.
-use Rattle.std.proofs.Common.{arith, ◌≡◌, ◌<◌, ◌⊎◌, inl, inr, ℕ, suc, List, [], ◌∷◌, length, slice_index_or, Option, Some, None, IsSome, is_some, Bool, true, false, cond, filter, refl, sym, ◌∙◌, ap, subst}
+use Rattle.std.proofs.Common.{arith, ◌≡◌, ◌<◌, ◌⊎◌, inl, inr, ℕ, suc, List, [], ◌∷◌, length, slice_index_or, Option}
+use Rattle.std.proofs.Common.{Some, None, IsSome, is_some, Bool, true, false, cond, filter, refl, sym, ◌∙◌, ap, subst}
 use Rattle.std.specs.Prelude.{IsTrue, fold}
 use Rattle.std.specs.Ordering.{eq_by_cmp}
 use Rattle.std.specs.Cmp.{eq_by_cmp_equiv}
@@ -51,37 +52,44 @@ abbrev first_of_both : Option Pending → Option Pending → Option Pending
 first_of_both None y = y
 first_of_both (Some x) y = Some x
 
--- The last of the pairs counts, over what stood before.
-last_over : (es : Pairs) (m n i : Keyed) (q : Key) → get m q ≡ first_of_both (get n q) (get i q) → get (put_all m es) q ≡ first_of_both (get (put_all n es) q) (get i q)
+-- The last of the pairs counts, over what was there before.
+last_over : (es : Pairs) (m n i : Keyed) (q : Key) → get m q ≡ first_of_both (get n q) (get i q)
+    → get (put_all m es) q ≡ first_of_both (get (put_all n es) q) (get i q)
 last_over [] m n i q is = is
-last_over (e ∷ es) m n i q is = last_over es (insert m e.0 e.1) (insert n e.0 e.1) i q (get-insert key_total m e.0 e.1 q ∙ ap (cond (eq_by_cmp key_cmp q e.0) (Some e.1)) is ∙ by (eq_by_cmp key_cmp q e.0)
+last_over (e ∷ es) m n i q is = last_over es (insert m e.0 e.1) (insert n e.0 e.1) i q
+    (get-insert key_total m e.0 e.1 q ∙ ap (cond (eq_by_cmp key_cmp q e.0) (Some e.1)) is ∙ by (eq_by_cmp key_cmp q e.0)
     ∙ ap (λ (o : Option Pending). first_of_both o (get i q)) (sym (get-insert key_total n e.0 e.1 q)))
   where
     by : (b : Bool) → cond b (Some e.1) (first_of_both (get n q) (get i q)) ≡ first_of_both (cond b (Some e.1) (get n q)) (get i q)
     by true = refl
     by false = refl
 
--- What stands after rising entries are put over a map.
+-- What is there after rising entries are put over a map.
 found_over : (i : Keyed) (es : Pairs) (q : Key) → is_sorted key_cmp es ≡ true → get (put_all i es) q ≡ first_of_both (find key_cmp q es) (get i q)
 found_over i [] q rises = refl
 found_over i (e ∷ es) q rises =
     let both = and_parts (below_all key_cmp e.0 es) (is_sorted key_cmp es) rises in
-    found_over (insert i e.0 e.1) es q both.1 ∙ ap (first_of_both (find key_cmp q es)) (get-insert key_total i e.0 e.1 q) ∙ by (eq_by_cmp key_cmp q e.0) refl both.0
+    found_over (insert i e.0 e.1) es q both.1 ∙ ap (first_of_both (find key_cmp q es)) (get-insert key_total i e.0 e.1 q)
+    ∙ by (eq_by_cmp key_cmp q e.0) refl both.0
   where
-    by : (b : Bool) → eq_by_cmp key_cmp q e.0 ≡ b → below_all key_cmp e.0 es ≡ true → first_of_both (find key_cmp q es) (cond b (Some e.1) (get i q)) ≡ first_of_both (cond b (Some e.1) (find key_cmp q es)) (get i q)
+    by : (b : Bool) → eq_by_cmp key_cmp q e.0 ≡ b → below_all key_cmp e.0 es ≡ true → first_of_both (find key_cmp q es) (cond b (Some e.1) (get i q)) ≡
+        first_of_both (cond b (Some e.1) (find key_cmp q es)) (get i q)
     by true is below = ap (λ (o : Option Pending). first_of_both o (Some e.1)) (not_found q e.0 es is below)
     by false is below = refl
 
 -- To put the last pair of each key is to put all pairs.
 same_put : (i : Keyed) (pairs : Pairs) → put_all i (entries (last_of pairs)) ≡ put_all i pairs
 same_put i pairs = same_map key_total key_cmp-IsAntisymmetric _ _ (λ q.
-    found_over i (entries (last_of pairs)) q (entries_rise (last_of pairs)) ∙ ap (λ (o : Option Pending). first_of_both o (get i q)) (sym (get-entries (last_of pairs) q))
+    found_over i (entries (last_of pairs)) q (entries_rise (last_of pairs)) ∙ ap (λ (o : Option Pending). first_of_both o (get i q))
+    (sym (get-entries (last_of pairs) q))
     ∙ sym (last_over pairs i empty i q (ap (λ (o : Option Pending). first_of_both o (get i q)) (sym (get-empty {X = Pending} key_cmp q)))))
 
-some_set : (m : Pendings) (tx : List ℕ) (e : Key × Pending) (es : Pairs) → fold (λ n e. with_value n tx e.0 e.1) m (e ∷ es) ≡ insert m tx (put_all (inner m tx) (e ∷ es))
+some_set : (m : Pendings) (tx : List ℕ) (e : Key × Pending) (es : Pairs) → fold (λ n e. with_value n tx e.0 e.1) m (e ∷ es) ≡ insert m tx
+    (put_all (inner m tx) (e ∷ es))
 some_set m tx e [] = refl
 some_set m tx e (f ∷ es) = some_set (with_value m tx e.0 e.1) tx f es
-    ∙ ap (λ (i : Keyed). insert (with_value m tx e.0 e.1) tx (put_all i (f ∷ es))) (inner-insert bytes_total bytes_cmp-IsAntisymmetric m tx (insert (inner m tx) e.0 e.1))
+    ∙ ap (λ (i : Keyed). insert (with_value m tx e.0 e.1) tx (put_all i (f ∷ es)))
+    (inner-insert bytes_total bytes_cmp-IsAntisymmetric m tx (insert (inner m tx) e.0 e.1))
     ∙ insert-insert bytes_total bytes_cmp-IsAntisymmetric m tx _ _
 
 stays : (es : Pairs) (m : Keyed) (q : Key) → IsSome (get m q) → IsSome (get (put_all m es) q)
@@ -94,27 +102,35 @@ stays (e ∷ es) m q has = stays es (insert m e.0 e.1) q (subst IsSome (sym (get
 itself : (k : Key) → eq_by_cmp key_cmp k k ≡ true
 itself k = (eq_by_cmp_equiv key_total).refl k
 
-same_set : (m : Pendings) (tx : List ℕ) (pairs es : Pairs) → es ≡ entries (last_of pairs) → fold (λ n e. with_value n tx e.0 e.1) m es ≡ fold (λ n e. with_value n tx e.0 e.1) m pairs
+same_set : (m : Pendings) (tx : List ℕ) (pairs es : Pairs) → es ≡ entries (last_of pairs) → fold (λ n e. with_value n tx e.0 e.1) m es ≡ fold
+    (λ n e. with_value n tx e.0 e.1) m pairs
 same_set m tx [] [] is = refl
-same_set m tx [] (e ∷ es) is = absurd (nothing (find key_cmp e.0 (e ∷ es)) (ap (find key_cmp e.0) is ∙ sym (get-entries (last_of []) e.0) ∙ get-empty {X = Pending} key_cmp e.0) (ap (λ b. is_some (cond b (Some e.1) (find key_cmp e.0 es))) (itself e.0))) where
-  nothing : (o : Option Pending) → o ≡ None → IsSome o → ⊥
-  nothing o none has = absurd (cc (none, has))
-same_set m tx (p ∷ pairs) [] is = absurd (nothing (get (last_of (p ∷ pairs)) p.0) (get-entries (last_of (p ∷ pairs)) p.0 ∙ ap (find key_cmp p.0) (sym is)) (stays pairs (insert empty p.0 p.1) p.0 (ap is_some (get-insert_same key_total empty p.0 p.1)))) where
-  nothing : (o : Option Pending) → o ≡ None → IsSome o → ⊥
-  nothing o none has = absurd (cc (none, has))
-same_set m tx (p ∷ pairs) (e ∷ es) is = some_set m tx e es ∙ ap (insert m tx) (ap (put_all (inner m tx)) is ∙ same_put (inner m tx) (p ∷ pairs)) ∙ sym (some_set m tx p pairs)
+same_set m tx [] (e ∷ es) is = absurd (nothing (find key_cmp e.0 (e ∷ es))
+    (ap (find key_cmp e.0) is ∙ sym (get-entries (last_of []) e.0) ∙ get-empty {X = Pending} key_cmp e.0)
+    (ap (λ b. is_some (cond b (Some e.1) (find key_cmp e.0 es))) (itself e.0))) where
+      nothing : (o : Option Pending) → o ≡ None → IsSome o → ⊥
+      nothing o none has = absurd (cc (none, has))
+same_set m tx (p ∷ pairs) [] is = absurd (nothing (get (last_of (p ∷ pairs)) p.0) (get-entries (last_of (p ∷ pairs)) p.0 ∙ ap (find key_cmp p.0) (sym is))
+    (stays pairs (insert empty p.0 p.1) p.0 (ap is_some (get-insert_same key_total empty p.0 p.1)))) where
+      nothing : (o : Option Pending) → o ≡ None → IsSome o → ⊥
+      nothing o none has = absurd (cc (none, has))
+same_set m tx (p ∷ pairs) (e ∷ es) is = some_set m tx e es ∙ ap (insert m tx) (ap (put_all (inner m tx)) is ∙ same_put (inner m tx) (p ∷ pairs))
+    ∙ sym (some_set m tx p pairs)
 
 -- What a transaction has after pairs are laid over one.
-inner-set : (m : Pendings) (tx t : List ℕ) (es : Pairs) → inner (fold (λ n e. with_value n tx e.0 e.1) m es) t ≡ cond (eq_by_cmp bytes_cmp t tx) (put_all (inner m tx) es) (inner m t)
+inner-set : (m : Pendings) (tx t : List ℕ) (es : Pairs) → inner (fold (λ n e. with_value n tx e.0 e.1) m es) t ≡ cond (eq_by_cmp bytes_cmp t tx)
+    (put_all (inner m tx) es) (inner m t)
 inner-set m tx t [] = by (eq_by_cmp bytes_cmp t tx) refl where
   by : (b : Bool) → eq_by_cmp bytes_cmp t tx ≡ b → inner m t ≡ cond b (inner m tx) (inner m t)
   by true is = ap (inner m) (bytes_cmp-IsAntisymmetric t tx (tied_by (bytes_cmp t tx) is))
   by false is = refl
 inner-set m tx t (e ∷ es) = inner-set (with_value m tx e.0 e.1) tx t es
-    ∙ ap (λ (i : Keyed). cond (eq_by_cmp bytes_cmp t tx) (put_all i es) (inner (with_value m tx e.0 e.1) t)) (inner-insert bytes_total bytes_cmp-IsAntisymmetric m tx (insert (inner m tx) e.0 e.1))
+    ∙ ap (λ (i : Keyed). cond (eq_by_cmp bytes_cmp t tx) (put_all i es) (inner (with_value m tx e.0 e.1) t))
+    (inner-insert bytes_total bytes_cmp-IsAntisymmetric m tx (insert (inner m tx) e.0 e.1))
     ∙ ap (cond (eq_by_cmp bytes_cmp t tx) (put_all (inner m tx) (e ∷ es))) (inner-with bytes_total m tx t e.0 e.1) ∙ by (eq_by_cmp bytes_cmp t tx)
   where
-    by : (b : Bool) → cond b (put_all (inner m tx) (e ∷ es)) (cond b (insert (inner m tx) e.0 e.1) (inner m t)) ≡ cond b (put_all (inner m tx) (e ∷ es)) (inner m t)
+    by : (b : Bool) → cond b (put_all (inner m tx) (e ∷ es)) (cond b (insert (inner m tx) e.0 e.1) (inner m t)) ≡ cond b (put_all (inner m tx) (e ∷ es))
+        (inner m t)
     by true = refl
     by false = refl
 
@@ -155,11 +171,14 @@ put_free m es free fit = record { alone = λ k q has other begins. by k q begins
   by k q begins (inr a) (inr b) =
       let at : (slice_index_or es a.0 (k, gone)).0 ≡ k = a.1.1 (k, gone) in
       let too : (slice_index_or es b.0 (q, gone)).0 ≡ q = b.1.1 (q, gone) in
-      sym at ∙ fit.apart a.0 (k, gone) a.1.0 b.0 (q, gone) b.1.0 (subst (λ (z : Key). IsTrue (is_prefix z (slice_index_or es b.0 (q, gone)).0)) (sym at) (subst (λ (z : Key). IsTrue (is_prefix k z)) (sym too) begins)) ∙ too
+      sym at ∙ fit.apart a.0 (k, gone) a.1.0 b.0 (q, gone) b.1.0 (subst (λ (z : Key). IsTrue (is_prefix z (slice_index_or es b.0 (q, gone)).0)) (sym at)
+      (subst (λ (z : Key). IsTrue (is_prefix k z)) (sym too) begins)) ∙ too
 
 -- Each step of a walk through what counts gives the next.
-pub next_last : (pairs : List (List (List ℕ) × Pending)) (last : FinMap key_cmp Pending) (after : Option (List (List ℕ))) (k : List (List ℕ)) (x : Pending) → last ≡ last_of pairs → IsLeastAfter last after k x → entries_past (last_of pairs) after ≡ (k, x) ∷ entries_past (last_of pairs) (Some k)
-next_last pairs last after k x is next = walk_next key_total key_cmp-IsAntisymmetric (last_of pairs) after k x (subst (λ (m : Keyed). IsLeastAfter m after k x) is next)
+pub next_last : (pairs : List (List (List ℕ) × Pending)) (last : FinMap key_cmp Pending) (after : Option (List (List ℕ))) (k : List (List ℕ)) (x : Pending)
+    → last ≡ last_of pairs → IsLeastAfter last after k x → entries_past (last_of pairs) after ≡ (k, x) ∷ entries_past (last_of pairs) (Some k)
+next_last pairs last after k x is next = walk_next key_total key_cmp-IsAntisymmetric (last_of pairs) after k x
+    (subst (λ (m : Keyed). IsLeastAfter m after k x) is next)
 
 module _ (h : Held) (tx : List ℕ) (pairs : List (List (List ℕ) × Pending)) where
   abbrev news : Pairs
@@ -169,10 +188,14 @@ module _ (h : Held) (tx : List ℕ) (pairs : List (List (List ℕ) × Pending)) 
   news_rise = sorted_some key_cmp (λ e. is_new h tx e.0 e.1) (entries (last_of pairs)) (entries_rise (last_of pairs))
 
   patch_laid : laid h (patch_entries h tx pairs) ≡ patched h tx pairs
-  patch_laid = set_laid h tx news ∙ ap (λ (m : Pendings). record h { pending = m }) (news_suffice h tx (entries (last_of pairs)) (entries_rise (last_of pairs)) ∙ same_set h.pending tx pairs (entries (last_of pairs)) refl)
+  patch_laid = set_laid h tx news ∙ ap (λ (m : Pendings). record h { pending = m })
+      (news_suffice h tx (entries (last_of pairs)) (entries_rise (last_of pairs)) ∙ same_set h.pending tx pairs (entries (last_of pairs)) refl)
 
   patched_rule : KeepsPrefixRule h → FitPairs (pending_of h tx) pairs → KeepsPrefixRule (patched h tx pairs)
-  patched_rule rule fit = record { live = rule.live; pending = λ t. subst IsPrefixFree (sym (inner-set h.pending tx t pairs)) (by t (eq_by_cmp bytes_cmp t tx)) } where
+  patched_rule rule fit = record {
+    live = rule.live;
+    pending = λ t. subst IsPrefixFree (sym (inner-set h.pending tx t pairs)) (by t (eq_by_cmp bytes_cmp t tx));
+  } where
     by : (t : List ℕ) (b : Bool) → IsPrefixFree (cond b (put_all (inner h.pending tx) pairs) (inner h.pending t))
     by t true = put_free (inner h.pending tx) pairs (rule.pending tx) fit
     by t false = rule.pending t

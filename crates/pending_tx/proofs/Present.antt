@@ -9,7 +9,8 @@ use Rattle.settings_maps.specs.Maps.{inner, is_empty, IsLeastAfter, HasNoneAfter
 use Rattle.settings_maps.proofs.NestedMaps.{is_empty-empty}
 
 -- A transaction with a key is there.
-pub some_there : (m : FinMap bytes_cmp (FinMap key_cmp Pending)) (tx : List ℕ) (k : List (List ℕ)) (x : Pending) → get (inner m tx) k ≡ Some x → is_some (get m tx) ≡ true
+pub some_there : (m : FinMap bytes_cmp (FinMap key_cmp Pending)) (tx : List ℕ) (k : List (List ℕ)) (x : Pending) → get (inner m tx) k ≡ Some x
+    → is_some (get m tx) ≡ true
 some_there m tx k x has = by (get m tx) refl where
   by : (o : Option (FinMap key_cmp Pending)) → get m tx ≡ o → is_some o ≡ true
   by None is = absurd (cc (sym has ∙ ap (λ (o : Option (FinMap key_cmp Pending)). get (unwrap_or o empty) k) is ∙ get-empty {X = Pending} key_cmp k))
@@ -21,7 +22,8 @@ none_there m tx full none = by (get m tx) refl where
   by : (o : Option (FinMap key_cmp Pending)) → get m tx ≡ o → is_some o ≡ false
   by None is = refl
   by (Some i) is = absurd (both_ways (is_empty i) (full.each tx i is) (ap is_empty (same_map key_total key_cmp-IsAntisymmetric i empty (λ q.
-      ap (λ (o : Option (FinMap key_cmp Pending)). get (unwrap_or o empty) q) (sym is) ∙ none.none q tt ∙ sym (get-empty {X = Pending} key_cmp q))) ∙ is_empty-empty key_cmp Pending))
+      ap (λ (o : Option (FinMap key_cmp Pending)). get (unwrap_or o empty) q) (sym is) ∙ none.none q tt ∙ sym (get-empty {X = Pending} key_cmp q)))
+      ∙ is_empty-empty key_cmp Pending))
 
 -- What a step to the first key answers tells which.
 pub first_tells : {E : Type 0} (m : FinMap bytes_cmp (FinMap key_cmp Pending)) (tx : List ℕ) (o : Option E) (k : E → List (List ℕ)) (x : E → Pending) → IsFull m

@@ -36,7 +36,8 @@ pend_entry h tx k v = if is_new h tx k v then PendSet tx k v ∷ [] else []
 abbrev pub patch_entries : Held → List ℕ → List (List (List ℕ) × Pending) → List Entry
 patch_entries h tx pairs = map (λ e. PendSet tx e.0 e.1) (filter (λ e. is_new h tx e.0 e.1) (entries (last_of pairs)))
 
--- What a commit adds to some entries: those for the live values, those that end the transaction, and one for the owed and one for the weak keys where these change.
+-- What a commit adds to some entries: those for the live values, those that end the transaction, and one for the owed and one for the weak keys where
+-- these change.
 pub record CommitAdds (h : Held) (tx : List ℕ) (old new : List Entry) : Type 0 where
   pub owed_part : Option Entry
   pub weak_part : Option Entry
@@ -44,4 +45,5 @@ pub record CommitAdds (h : Held) (tx : List ℕ) (old new : List Entry) : Type 0
   pub weak : Tells weak_part WeakIs h.live.weak (without_keys h.live.weak (keys_of h tx))
   pub strong : is_some weak_part ≡ list_any (has_key h.live.weak) (keys_of h tx)
   pub added : new
-      ≡ old ++ (map (λ e. live_entry e.0 e.1) (changes_of h tx) ++ map (λ k. PendGone tx k) (keys_of h tx) ++ option_to_list owed_part ++ option_to_list weak_part)
+      ≡ old ++ (map (λ e. live_entry e.0 e.1) (changes_of h tx) ++ map (λ k. PendGone tx k) (keys_of h tx) ++ option_to_list owed_part
+      ++ option_to_list weak_part)

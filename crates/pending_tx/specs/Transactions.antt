@@ -22,7 +22,7 @@ pending_of h tx = inner h.pending tx
 abbrev pub keys_of : Held → List ℕ → List (List (List ℕ))
 keys_of h tx = keys (pending_of h tx)
 
--- Whether a live value is missing or another than the pending one, or stands where a removal is pending.
+-- Whether a live value is missing or another than the pending one, or is there where a removal is pending.
 abbrev pub differs : Pending → Option Scalar → Bool
 differs (Put v) None = true
 differs (Put v) (Some live) = not (scalar_eq v live)

@@ -31,7 +31,7 @@ pub enum CommitError {
     /// There is no such transaction.
     #[error("no such transaction")]
     NoPending,
-    /// Memory was wanting. It says nothing of the transaction.
+    /// It ran out of memory. It says nothing of the transaction.
     #[error("out of memory")]
     Memory,
 }

@@ -20,7 +20,7 @@ fn owed_more(owed: &KeyList, keys: &KeyList) -> Result<Option<Entry>, AllocError
 }
 
 /// The entry that makes the keys owed too, None exactly where that changes nothing. It takes a step
-/// for each owed key where it changes something. The only error is want of memory.
+/// for each owed key where it changes something. The only error is out of memory.
 pub(crate) fn owed_entry(owed: &Owed, keys: &KeyList) -> Result<Option<Entry>, AllocError>
     ensures { IfOk result (λ e. Tells e OwedSet owed.now (owing owed.now keys.now)) }
 {
@@ -31,7 +31,7 @@ pub(crate) fn owed_entry(owed: &Owed, keys: &KeyList) -> Result<Option<Entry>, A
 }
 
 /// The entry that makes the keys strong, None exactly where none of them is weak. It takes a step
-/// for each weak key where one of them is. The only error is want of memory.
+/// for each weak key where one of them is. The only error is out of memory.
 pub(crate) fn weak_entry(weak: &KeyList, keys: &KeyList) -> Result<Option<Entry>, AllocError>
     ensures told { IfOk result (λ e. Tells e WeakIs weak.now (without_keys weak.now keys.now)) }
     ensures exact { IfOk result (λ e. is_some e ≡ list_any (has_key weak.now) keys.now) }

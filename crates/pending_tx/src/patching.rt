@@ -64,7 +64,7 @@ fn patch_entries(
 /// last one counts. Nothing else changes, and the change names no key that is set so already. What it
 /// makes keeps the prefix rule where what is held does and the keys of the pairs overlap no other key
 /// of the transaction, and none another. It takes a logarithmic step for each pair. The only error is
-/// want of memory.
+/// out of memory.
 pub fn patch(
     alloc: Global,
     held: &Held,

@@ -13,7 +13,7 @@ use settings_tree::{Held, KeyList, Pending, TxName};
 use std::alloc::{AllocError, Global};
 
 /// The names of the transactions, rising. It takes a logarithmic step for each. The only error is
-/// want of memory.
+/// out of memory.
 pub fn list(alloc: Global, held: &Held) -> Result<Vec<TxName>, AllocError>
     ensures names { IfOk result (λ names. names.items ≡ keys held.now.pending) }
     ensures rising { IfOk result (λ names. IsStrictlySortedBy bytes_cmp names.items) }
@@ -28,7 +28,7 @@ pub fn list(alloc: Global, held: &Held) -> Result<Vec<TxName>, AllocError>
 }
 
 /// Copies of the values and removals that the transaction has pending, rising by key; none where
-/// there is no such transaction. It takes a logarithmic step for each. The only error is want of
+/// there is no such transaction. It takes a logarithmic step for each. The only error is out of
 /// memory.
 pub fn pending(alloc: Global, held: &Held, tx: &TxName) -> Result<Vec<(Key, Pending)>, AllocError>
     ensures pairs { IfOk result (λ pairs. pairs.items ≡ entries (pending_of held.now tx.now)) }

@@ -29,7 +29,8 @@ module _ (types : List Row) (old : Held) (tx : List ℕ) where
     pub pended_is : (new : Held) → first_wanted types pairs ≡ None → new ≡ patched old tx pairs → IsAnswered types old (Patch tx pairs) new (patch_reply None)
     unfolding request_next
     pended_is new is laid = record {
-      makes = λ I W same held. ap (λ (o : Option Wanted). (patch_next W tx pairs o).world.held) (wanted_none I same) ∙ ap (λ (h : Held). patched h tx pairs) held
+      makes = λ I W same held. ap (λ (o : Option Wanted). (patch_next W tx pairs o).world.held) (wanted_none I same)
+          ∙ ap (λ (h : Held). patched h tx pairs) held
           ∙ sym laid;
       says = λ I W same held. ap (λ (o : Option Wanted). (patch_next W tx pairs o).reply) (wanted_none I same);
     } where

@@ -9,7 +9,8 @@ use Rattle.pending_tx.specs.Transactions.{keys_of, changed_keys, committed}
 use Rattle.settings_machine.specs.World.{Key, Image, World, Job, Idle, Failed, Running, owes_none}
 use Rattle.settings_machine.specs.Typed.{Wanted, first_wanted}
 use Rattle.settings_machine.specs.Requests.{Patch, DropTx, Commit, Apply, CommitAndApply, Reply, Empty}
-use Rattle.settings_machine.specs.Step.{request_next, with_held, with_job, noting, asked_for, patch_next, commit_next, commit_and_apply_next, committed_world, applied}
+use Rattle.settings_machine.specs.Step.{request_next, with_held, with_job, noting, asked_for}
+use Rattle.settings_machine.specs.Step.{patch_next, commit_next, commit_and_apply_next, committed_world, applied}
 use Rattle.plain_machine.specs.Plain.{IsAnswered, keys_reply, missing_reply}
 use Rattle.settings_machine.specs.JobSeen.{job_seen, IsApplied}
 use Rattle.plain_machine.specs.Jobs.{noted, with_since, fresh_job, next_job, taken_up}
@@ -33,10 +34,12 @@ module _ (image : PlainImage) (old new : PlainMachine) (tx : List ℕ) where
       → world_of new ≡ with_held (world_of old) new.held → IsAsked image old (Patch tx pairs) new reply
   unfolding request_next
   asked_patch pairs reply a stays = record {
-    world = λ I holds. stays ∙ ap (with_held (world_of old)) (sym (a.makes I (world_of old) (sym holds.types_are) refl)) ∙ sym (by I (first_wanted I.types pairs));
+    world = λ I holds. stays ∙ ap (with_held (world_of old)) (sym (a.makes I (world_of old) (sym holds.types_are) refl))
+        ∙ sym (by I (first_wanted I.types pairs));
     says = λ I holds. a.says I (world_of old) (sym holds.types_are) refl;
   } where
-    by : (I : Image) (o : Option Wanted) → (patch_next (world_of old) tx pairs o).world ≡ with_held (world_of old) (patch_next (world_of old) tx pairs o).world.held
+    by : (I : Image) (o : Option Wanted) → (patch_next (world_of old) tx pairs o).world ≡ with_held (world_of old)
+        (patch_next (world_of old) tx pairs o).world.held
     by I None = refl
     by I (Some wanted) = refl
 
@@ -97,7 +100,8 @@ module _ (image : PlainImage) (old : PlainMachine) (tx : List ℕ) where
         → world_of new ≡ with_both (world_of old) new.held (job_seen new.job) → IsAsked image old (Commit tx) new (keys_reply keys)
     unfolding request_next
     asked_commit job stays = record {
-      world = λ I holds. stays ∙ ap (λ (h : Held). with_both (world_of old) h (job_seen new.job)) laid ∙ ap (with_both (world_of old) (committed old.held tx)) job
+      world = λ I holds. stays ∙ ap (λ (h : Held). with_both (world_of old) h (job_seen new.job)) laid
+          ∙ ap (with_both (world_of old) (committed old.held tx)) job
           ∙ sym (at (get old.held.pending tx) there);
       says = λ I holds. said (get old.held.pending tx) there ∙ ap keys_reply (sym are);
     } where

@@ -28,7 +28,13 @@ use Rattle.plain_machine.specs.declared.opening_answer.OpeningAnswer.TheVariants
 -- The types of the image know its defaults and take what is held.
 pub may_open : (types : List Row) (defaults : Contents) (held : Held) → IsTable types → AreTyped types defaults.values → IsTypedHeld types held
     → HasTypes defaults held
-may_open types defaults held table typed fit = record { types = types; free = prefix_free types table.apart; known = all_known types defaults.values typed; fit = fit }
+may_open types defaults held table typed fit = record {
+  types = types;
+  free = prefix_free types table.apart;
+  known =
+      all_known types defaults.values typed;
+  fit = fit;
+}
 
 -- The image with no templates, for which no opening asks.
 abbrev bare : PlainImage → Image
@@ -42,7 +48,8 @@ bare image = record {
 }
 
 -- What is held stays typed.
-pub step_typed : (image : PlainImage) (held : Held) (boot : Bool) (change : List Entry) → AreTyped image.types image.defaults.values → IsTypedHeld image.types held
+pub step_typed : (image : PlainImage) (held : Held) (boot : Bool) (change : List Entry) → AreTyped image.types image.defaults.values
+    → IsTypedHeld image.types held
     → MakesStep boot image.defaults image.text held change → IsTypedHeld image.types (laid held change)
 step_typed image held boot change typed fit makes = subst (IsTypedHeld image.types) (sym (makes.laid_is (bare image) refl refl))
     (opened_typed (bare image) held boot (record { typed = λ q v there other. typed q v there }) fit)

@@ -21,10 +21,12 @@ use Rattle.plain_machine.specs.declared.turn_answer.TurnAnswer.TheVariants as an
 -- ---- the file
 
 module _ (I : Image) (W : World) (f : List ℕ) (w : Work) (more : List (List ℕ)) where
-  pub written_is : (etc : Files) (job : Job) (bytes : List ℕ) → job ≡ past_file W.job → W.job ≡ Running w → w.files ≡ f ∷ more → etc ≡ insert W.etc (path_of I f) bytes
+  pub written_is : (etc : Files) (job : Job) (bytes : List ℕ) → job ≡ past_file W.job → W.job ≡ Running w → w.files ≡ f ∷ more
+      → etc ≡ insert W.etc (path_of I f) bytes
       → record W { job = job; etc = etc } ≡ machine.wrote I W f more w (Ok bytes)
   written_is etc job bytes past running files put =
-      ap (λ (j : Job). record W { job = j; etc = etc }) (past ∙ ap past_file running ∙ ap (λ (fs : List (List ℕ)). Running (record w { files = drop 1 fs })) files)
+      ap (λ (j : Job). record W { job = j; etc = etc }) (past ∙ ap past_file running ∙ ap (λ (fs : List (List ℕ)). Running (record w { files = drop 1 fs }))
+      files)
       ∙ ap (λ (m : Files). record W { job = Running (record w { files = more }); etc = m }) put
 
 -- ---- the turn of a running job
@@ -36,7 +38,8 @@ module _ (image : PlainImage) (old new : PlainMachine) (answer : TurnAnswer) (w 
       ∙ sym (ap (λ (j : Job). machine.job_turn I (world_of old) j (answer_of answer)) running
       ∙ ap (λ (fs : List (List ℕ)). machine.work_turn I (world_of old) fs w (answer_of answer)) first.files)
 
-  pub command_turned : (service : List ℕ) (words : List (List ℕ)) → IsFirstCommand w service words → IsCommandTurn old service words answer new → IsTurned image old answer new
+  pub command_turned : (service : List ℕ) (words : List (List ℕ)) → IsFirstCommand w service words → IsCommandTurn old service words answer new
+      → IsTurned image old answer new
   unfolding turn_next
   command_turned service words first turned = λ I holds. turned w first.index first.more running first.commands
       ∙ sym (ap (λ (j : Job). machine.job_turn I (world_of old) j (answer_of answer)) running
@@ -66,7 +69,8 @@ module _ (image : PlainImage) (old new : PlainMachine) (f : List ℕ) where
 
   pub file_refused : (status : ℕ) (e : RenderError) → IsRenderedAs image.templates image.os f old.held.live (Err e)
       → world_of new ≡ machine.with_job (world_of old) (Failed (cause.Render f e)) → IsFileTurn image old f (answer.Fine status) new
-  file_refused status e like is = λ I w more holds running files. is ∙ sym (ap (machine.wrote I (world_of old) f more w) (like.renders I holds.templates_are holds.os_is))
+  file_refused status e like is = λ I w more holds running files. is ∙ sym
+      (ap (machine.wrote I (world_of old) f more w) (like.renders I holds.templates_are holds.os_is))
 
 -- The turn of a machine whose job does not run.
 pub unturned : (image : PlainImage) (old : PlainMachine) (a : TurnAnswer) → is_running (world_of old).job ≡ false → IsTurned image old a old

@@ -61,7 +61,8 @@ IsWritten image old file r new = (I : Image) (w : Work) (more : List (List ℕ))
 
 -- The file was the first, and its turn was made.
 abbrev pub IsFileTurn : PlainImage → PlainMachine → List ℕ → TurnAnswer → PlainMachine → Type 0
-IsFileTurn image old file answer new = (I : Image) (w : Work) (more : List (List ℕ)) → HoldsImage I image → (world_of old).job ≡ Running w → w.files ≡ file ∷ more
+IsFileTurn image old file answer new = (I : Image) (w : Work) (more : List (List ℕ)) → HoldsImage I image → (world_of old).job ≡ Running w
+    → w.files ≡ file ∷ more
     → world_of new ≡ machine.file_turn I (world_of old) file more w (answer_of answer)
 
 -- The command was the first, and ran.

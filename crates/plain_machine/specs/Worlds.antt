@@ -1,4 +1,4 @@
--- The world that a machine in memory is.
+-- The world that a reference model is.
 use Rattle.std.specs.Prelude.{ℕ, List, [], map}
 use Rattle.std.specs.BTreeMap.{BTreeMap}
 use Rattle.std.specs.FinMap.{empty, from_entries}

@@ -20,7 +20,7 @@ use std::alloc::{AllocError, Global};
 
 impl PlainMachine {
     /// What is owed is to be paid: a job begins where none runs, and a running one is asked for again; where nothing is
-    /// owed the job is idle. The only error is want of memory, which leaves the machine as it was. It takes the time of
+    /// owed the job is idle. The only error is out of memory, which leaves the machine as it was. It takes the time of
     /// `settings_machine::apply`.
     pub fn apply(&mut self, alloc: Global, image: &PlainImage) -> Result<(), AllocError>
         ensures asked { OnOk result (IsAsked image.now self.old Apply self.new Empty) }

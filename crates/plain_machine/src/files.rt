@@ -12,7 +12,7 @@ use std::alloc::{AllocError, Global};
 use std::collections::BTreeMap;
 
 /// The path at which the file is written; a file that the manifest lacks has the path without names. The only error is
-/// want of memory.
+/// out of memory.
 pub(crate) fn path_of(alloc: Global, manifest: &Manifest, file: &Text) -> Result<Path, AllocError>
     ensures { IfOk result (λ path. path ≡ path_in (get manifest.now.files file.now)) }
 {
@@ -22,7 +22,7 @@ pub(crate) fn path_of(alloc: Global, manifest: &Manifest, file: &Text) -> Result
     }
 }
 
-/// The path has these bytes from then on, or no file. The only error is want of memory, which changes nothing. It is
+/// The path has these bytes from then on, or no file. The only error is out of memory, which changes nothing. It is
 /// logarithmic.
 #[tactic(auto, using(crate::proofs::PathMaps::path_maps))]
 pub(crate) fn set_file(

@@ -10,7 +10,7 @@ use settings_machine::{Job, Work, begun, owes_none};
 use settings_tree::{KeyList, Owed};
 use std::alloc::{AllocError, Global};
 
-/// What a running job will have noted with these keys; nothing where none runs. The only error is want of memory.
+/// What a running job will have noted with these keys; nothing where none runs. The only error is out of memory.
 pub(crate) fn noted(alloc: Global, job: &Job, keys: &KeyList) -> Result<KeyList, AllocError>
     ensures { IfOk result (λ since. since ≡ noted (job_seen job.now) keys.now) }
 {
@@ -30,7 +30,7 @@ pub(crate) fn note(job: &mut Job, since: KeyList)
 }
 
 /// The job that apply begins, which is an idle one where nothing is owed; None exactly where a running one is asked for
-/// again. The only error is want of memory.
+/// again. The only error is out of memory.
 pub(crate) fn next_job(
     alloc: Global,
     manifest: &Manifest,

@@ -46,7 +46,7 @@ impl PlainMachine {
     /// Opens the store, at a boot or later, with what the outside lets it come to: services, files and metadata become the
     /// image's, each default setting without a live value is added and weak, its key is owed, and all is owed at a boot and
     /// where another image's text was stored; the image's text is stored. A failed opening makes this step or nothing. The
-    /// only error is want of memory, which leaves the machine as it was. It takes a logarithmic step for each value and each
+    /// only error is out of memory, which leaves the machine as it was. It takes a logarithmic step for each value and each
     /// metadata of the defaults and of what is held.
     pub fn open_store(
         &mut self,

@@ -1,4 +1,4 @@
-//! The requests on transactions, where nothing but memory may be wanting.
+//! The requests on transactions, where the only error is out of memory.
 ghost use Rattle.std.specs.Prelude.{◌≡◌, All, IfOk, OnErr, true};
 ghost use Rattle.key_names.specs.Key.{is_prefix};
 ghost use Rattle.settings_tree.specs.Content.{settings_key};
@@ -49,7 +49,7 @@ pub(crate) fn pend(
 }
 
 /// Drops the transaction, and tells its keys: none where there is no such transaction. The only error is
-/// want of memory, which leaves what is held as it was. It takes the time of `pending_tx::drop_tx`.
+/// out of memory, which leaves what is held as it was. It takes the time of `pending_tx::drop_tx`.
 pub(crate) fn drop_tx(
     alloc: Global,
     types: &Types,

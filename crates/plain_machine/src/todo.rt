@@ -30,7 +30,7 @@ fn words_of(alloc: Global, words: &[String]) -> Result<Vec<Text>, AllocError>
     Ok(copies)
 }
 
-/// What the running job is to do next. The only error is want of memory.
+/// What the running job is to do next. The only error is out of memory.
 pub fn next_todo(alloc: Global, work: &Work) -> Result<Todo, AllocError>
     ensures { IfOk result (IsTodo (work_seen work.now)) }
 {

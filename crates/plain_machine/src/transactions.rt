@@ -31,7 +31,7 @@ pub fn are_settings(pairs: &[(Key, Pending)]) -> bool
 
 impl PlainMachine {
     /// Makes the pairs pending in the transaction, unless the types refuse one of them: then it tells the first of these
-    /// by key, and nothing changes. Each key begins with `settings`. The only error is want of memory, which leaves the
+    /// by key, and nothing changes. Each key begins with `settings`. The only error is out of memory, which leaves the
     /// machine as it was. It takes the time of `pend`.
     pub fn patch(
         &mut self,
@@ -50,7 +50,7 @@ impl PlainMachine {
         pend(alloc, &image.types, &mut self.held, tx, pairs)
     }
 
-    /// Drops the transaction, and tells its keys: none where there is no such transaction. The only error is want of
+    /// Drops the transaction, and tells its keys: none where there is no such transaction. The only error is out of
     /// memory, which leaves the machine as it was. It takes the time of `drop_tx`.
     pub fn drop_tx(
         &mut self,
@@ -85,7 +85,7 @@ impl PlainMachine {
         ensures unchanged { OnErr result (world_of self.new ≡ world_of self.old) }
     {
         let commit = pending_tx::commit(alloc, &self.held, tx)?;
-        // All that may want memory is made before what is held changes.
+        // All that may run out of memory is made before what is held changes.
         let since = noted(alloc, &self.job, &commit.changed)?;
         keep_rule(&self.held);
         self.held.lay(commit.change)?;

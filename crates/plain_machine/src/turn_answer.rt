@@ -10,7 +10,7 @@ pub enum TurnAnswer {
         /// The status, which only a command reads.
         status: u16,
     },
-    /// Memory is wanting.
+    /// It runs out of memory.
     NoRoom,
     /// The write of a file fails.
     FileFault {

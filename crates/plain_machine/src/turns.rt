@@ -227,7 +227,7 @@ impl PlainMachine {
         }
     }
 
-    /// Makes one turn of the job with what the outside lets it come to; where none runs, nothing. The only error is want
+    /// Makes one turn of the job with what the outside lets it come to; where none runs, nothing. The only error is out
     /// of memory, which leaves the machine as it was. It takes the time of rendering a file, or of `begun`.
     pub fn turn(
         &mut self,

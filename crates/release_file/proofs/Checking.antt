@@ -15,7 +15,7 @@ pub passes_behind : (xs ys : List Check) → Passes (xs ++ ys) → Passes ys
 passes_behind [] ys all = all
 passes_behind (x ∷ xs) ys all = passes_behind xs ys all.1
 
--- What is the first to fail in a list is so with others behind it.
+-- What is the first to fail in a list is so with others after it.
 pub failing_before : (xs ys : List Check) (c : Check) → IsFirstFailing xs c → IsFirstFailing (xs ++ ys) c
 failing_before xs ys c first = record {
   before = first.before;
@@ -35,7 +35,7 @@ failing_after xs ys c front first = record {
   fails = first.fails;
 }
 
--- A refusal of some checks is one with others behind them.
+-- A refusal of some checks is one with others after them.
 pub refuses_before : (xs ys : List Check) (e : Refusal) → Refuses xs e → Refuses (xs ++ ys) e
 refuses_before xs ys Memory refused = tt
 refuses_before xs ys (Fault kind at) refused = (refused.0, failing_before xs ys refused.0 refused.1, refused.2, refused.3)
@@ -50,7 +50,7 @@ pub refuses_first : (c : Check) (rest : List Check) (e : Refusal) → (Holds c �
 refuses_first c rest Memory fails at = tt
 refuses_first c rest (Fault kind text) fails at = (c, record { before = []; after = rest; split = refl; hold = tt; fails = fails }, at.0, at.1)
 
--- Unless memory was wanting, the first check fails, and the refusal is of its kind and at its path.
+-- Unless it ran out of memory, the first check fails, and the refusal is of its kind and at its path.
 pub refuses_unless : (c : Check) (rest : List Check) (e : Refusal) → (e ≢ Memory → Holds c → ⊥) → IsAt (fault_of c) (name_of c) e → Refuses (c ∷ rest) e
 refuses_unless c rest Memory fails at = tt
 refuses_unless c rest (Fault kind text) fails at = refuses_first c rest (Fault kind text) (fails (λ same. absurd (cc))) at

@@ -29,7 +29,8 @@ both_true false b one two = one
 
 -- What holds of each in one order holds of each in another.
 pub all_moved : (p : Transition → Bool) (listed sorted : List Transition) → IsPermutation listed sorted → list_all p listed ≡ true → list_all p sorted ≡ true
-all_moved p listed sorted moved all = list_all-from_AllPass p sorted (All-permutation (λ t. p t ≡ true) listed sorted moved (AllPass-from_list_all p listed all))
+all_moved p listed sorted moved all = list_all-from_AllPass p sorted (All-permutation (λ t. p t ≡ true) listed sorted moved
+    (AllPass-from_list_all p listed all))
 
 -- Each transition leads to a later version.
 pub all_lead_on : (es : List (List ℕ × Data)) (ts : List Transition) → AreTransitions es ts → list_all leads_on ts ≡ true
@@ -46,12 +47,14 @@ named_known (member own d ms) (n ∷ ns) name all there =
     let first : eq_by_cmp bytes_cmp name n.name ≡ is_eq (bytes_cmp name own) = ap (eq_by_cmp bytes_cmp name) all.0.name_is in
     ap (λ b. b || is_known ns name) first ∙ by (bytes_cmp name own) (named_known ms ns name all.1) there
   where
-    by : (r : Ordering) → (is_defined ms name ≡ true → is_known ns name ≡ true) → is_some (match_ordering r (get_member name ms) (Some d) (get_member name ms)) ≡ true → (is_eq r || is_known ns name) ≡ true
+    by : (r : Ordering) → (is_defined ms name ≡ true → is_known ns name ≡ true) → is_some (match_ordering r (get_member name ms) (Some d) (get_member name ms))
+        ≡ true → (is_eq r || is_known ns name) ≡ true
     by Less later found = later found
     by Equal later found = refl
     by Greater later found = later found
 
-all_known : (ms : Members) (ns : List Named) (names : List (List ℕ)) → AreNamed (named ms) ns → list_all (is_defined ms) names ≡ true → list_all (is_known ns) names ≡ true
+all_known : (ms : Members) (ns : List Named) (names : List (List ℕ)) → AreNamed (named ms) ns → list_all (is_defined ms) names ≡ true
+    → list_all (is_known ns) names ≡ true
 all_known ms ns [] all there = refl
 all_known ms ns (name ∷ names) all there =
     let parts = both_parts (is_defined ms name) (list_all (is_defined ms) names) there in
@@ -62,7 +65,8 @@ all_known ms ns (name ∷ names) all there =
     both_parts false b e = absurd (false≢true e)
 
 -- Where those checks hold, each transition's names are those of migrations.
-pub names_are_known : (ms : Members) (ns : List Named) (es : List (List ℕ × Data)) (ts : List Transition) → AreNamed (named ms) ns → AreTransitions es ts → Passes (map (known_check ms) es) → list_all (names_known ns) ts ≡ true
+pub names_are_known : (ms : Members) (ns : List Named) (es : List (List ℕ × Data)) (ts : List Transition) → AreNamed (named ms) ns → AreTransitions es ts
+    → Passes (map (known_check ms) es) → list_all (names_known ns) ts ≡ true
 names_are_known ms ns [] [] all are hold = refl
 names_are_known ms ns [] (t ∷ ts) all are hold = absurd are
 names_are_known ms ns (e ∷ es) [] all are hold = absurd are
@@ -72,9 +76,11 @@ names_are_known ms ns (e ∷ es) (t ∷ ts) all are hold =
     (names_are_known ms ns es ts all are.1 hold.1)
 
 -- A name that is that of no migration is refused.
-pub known_refused : (ms : Members) (entry : List ℕ × Data) (names : List (List ℕ)) (e : Refusal) → Some names ≡ texts_of entry.1 → list_all (is_defined ms) names ≡ false → IsAt UnknownMigration entry.0 e → Refuses (known_check ms entry ∷ []) e
+pub known_refused : (ms : Members) (entry : List ℕ × Data) (names : List (List ℕ)) (e : Refusal) → Some names ≡ texts_of entry.1
+    → list_all (is_defined ms) names ≡ false → IsAt UnknownMigration entry.0 e → Refuses (known_check ms entry ∷ []) e
 known_refused ms entry names e is none at =
-    refuses_first (known_check ms entry) [] e (λ holds. false≢true (sym none ∙ ap (λ (o : Option (List (List ℕ))). list_all (is_defined ms) (unwrap_or o [])) is ∙ holds)) at
+    refuses_first (known_check ms entry) [] e (λ holds. false≢true (sym none ∙ ap (λ (o : Option (List (List ℕ))). list_all (is_defined ms) (unwrap_or o [])) is
+    ∙ holds)) at
 
 -- Migrations whose names rise.
 pub named_rise : (ns : List Named) → IsStrictlySortedBy bytes_cmp (map (λ n. n.name) ns) → are_named_rising ns ≡ true
@@ -82,6 +88,7 @@ unfolding IsStrictlySortedBy
 named_rise [] rising = refl
 named_rise (n ∷ ns) rising = both_true (list_all (λ m. is_lt (bytes_cmp n.name m.name)) ns) (are_named_rising ns) (above ns rising.0) (named_rise ns rising.1)
   where
-    above : (ms : List Named) → AllByRecursion (λ name. bytes_cmp n.name name ≡ Less) (map (λ m. m.name) ms) → list_all (λ m. is_lt (bytes_cmp n.name m.name)) ms ≡ true
+    above : (ms : List Named) → AllByRecursion (λ name. bytes_cmp n.name name ≡ Less) (map (λ m. m.name) ms)
+        → list_all (λ m. is_lt (bytes_cmp n.name m.name)) ms ≡ true
     above [] all = refl
     above (m ∷ ms) all = both_true (is_lt (bytes_cmp n.name m.name)) (list_all (λ m. is_lt (bytes_cmp n.name m.name)) ms) (ap is_lt all.0) (above ms all.1)

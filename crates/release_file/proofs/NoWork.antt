@@ -53,7 +53,8 @@ no_removed_settings ms none (Plain NoOp) is fields = absurd (cc)
 no_removed_settings ms none (Program words) is fields = absurd (cc)
 
 -- Without a key and two texts no text changed.
-pub no_replaced_string : (ms : Members) → ((key : List (List ℕ)) (old new : List ℕ) → HasKey 2 (codes "setting") ms key → text_at (codes "old") ms ≡ Some old → text_at (codes "new") ms ≡ Some new → ⊥) → HasNoWork kind.ReplaceString ms
+pub no_replaced_string : (ms : Members) → ((key : List (List ℕ)) (old new : List ℕ) → HasKey 2 (codes "setting") ms key → text_at (codes "old") ms ≡ Some old
+    → text_at (codes "new") ms ≡ Some new → ⊥) → HasNoWork kind.ReplaceString ms
 no_replaced_string ms none (Plain (AddSettings settings)) is fields = absurd (cc)
 no_replaced_string ms none (Plain (AddPrefixes prefixes)) is fields = absurd (cc)
 no_replaced_string ms none (Plain (RemoveSettings settings)) is fields = absurd (cc)
@@ -67,12 +68,15 @@ no_replaced_string ms none (Plain NoOp) is fields = absurd (cc)
 no_replaced_string ms none (Program words) is fields = absurd (cc)
 
 -- Without keys in pairs no settings moved.
-pub no_renamed_settings : (ms : Members) → ((old new : List (List (List ℕ))) → HasKeys 2 (codes "old") ms old → HasKeys 2 (codes "new") ms new → ◌≡◌ {A = ℕ} (length old) (length new) → ⊥) → HasNoWork kind.RenameSettings ms
+pub no_renamed_settings : (ms : Members) → ((old new : List (List (List ℕ))) → HasKeys 2 (codes "old") ms old → HasKeys 2 (codes "new") ms new
+    → ◌≡◌ {A = ℕ} (length old) (length new) → ⊥) → HasNoWork kind.RenameSettings ms
 no_renamed_settings ms none (Plain (AddSettings settings)) is fields = absurd (cc)
 no_renamed_settings ms none (Plain (AddPrefixes prefixes)) is fields = absurd (cc)
 no_renamed_settings ms none (Plain (RemoveSettings settings)) is fields = absurd (cc)
 no_renamed_settings ms none (Plain (ReplaceString setting old new)) is fields = absurd (cc)
-no_renamed_settings ms none (Plain (RenameSettings pairs)) is fields = none (map (λ pair. pair.0) pairs.items) (map (λ pair. pair.1) pairs.items) fields.0 fields.1 (length-map pairs.items (λ pair. pair.0) ∙ sym (length-map pairs.items (λ pair. pair.1)))
+no_renamed_settings ms none (Plain (RenameSettings pairs)) is fields =
+    none (map (λ pair. pair.0) pairs.items) (map (λ pair. pair.1) pairs.items) fields.0 fields.1
+    (length-map pairs.items (λ pair. pair.0) ∙ sym (length-map pairs.items (λ pair. pair.1)))
 no_renamed_settings ms none (Plain (AddMetadata key names)) is fields = absurd (cc)
 no_renamed_settings ms none (Plain (RemoveMetadata key names)) is fields = absurd (cc)
 no_renamed_settings ms none (Plain (ReplaceMetadata key name old new)) is fields = absurd (cc)
@@ -81,7 +85,8 @@ no_renamed_settings ms none (Plain NoOp) is fields = absurd (cc)
 no_renamed_settings ms none (Program words) is fields = absurd (cc)
 
 -- Without a key and names no metadata came.
-pub no_added_metadata : (ms : Members) → ((key : List (List ℕ)) (names : List (List ℕ)) → HasKey 1 (codes "key") ms key → texts_at (codes "names") ms ≡ Some names → ⊥) → HasNoWork kind.AddMetadata ms
+pub no_added_metadata : (ms : Members) → ((key : List (List ℕ)) (names : List (List ℕ)) → HasKey 1 (codes "key") ms key
+    → texts_at (codes "names") ms ≡ Some names → ⊥) → HasNoWork kind.AddMetadata ms
 no_added_metadata ms none (Plain (AddSettings settings)) is fields = absurd (cc)
 no_added_metadata ms none (Plain (AddPrefixes prefixes)) is fields = absurd (cc)
 no_added_metadata ms none (Plain (RemoveSettings settings)) is fields = absurd (cc)
@@ -95,7 +100,8 @@ no_added_metadata ms none (Plain NoOp) is fields = absurd (cc)
 no_added_metadata ms none (Program words) is fields = absurd (cc)
 
 -- Without a key and names no metadata went.
-pub no_removed_metadata : (ms : Members) → ((key : List (List ℕ)) (names : List (List ℕ)) → HasKey 1 (codes "key") ms key → texts_at (codes "names") ms ≡ Some names → ⊥) → HasNoWork kind.RemoveMetadata ms
+pub no_removed_metadata : (ms : Members) → ((key : List (List ℕ)) (names : List (List ℕ)) → HasKey 1 (codes "key") ms key
+    → texts_at (codes "names") ms ≡ Some names → ⊥) → HasNoWork kind.RemoveMetadata ms
 no_removed_metadata ms none (Plain (AddSettings settings)) is fields = absurd (cc)
 no_removed_metadata ms none (Plain (AddPrefixes prefixes)) is fields = absurd (cc)
 no_removed_metadata ms none (Plain (RemoveSettings settings)) is fields = absurd (cc)
@@ -109,7 +115,9 @@ no_removed_metadata ms none (Plain NoOp) is fields = absurd (cc)
 no_removed_metadata ms none (Program words) is fields = absurd (cc)
 
 -- Without a key, a name and two scalars no metadata changed.
-pub no_replaced_metadata : (ms : Members) → ((key : List (List ℕ)) (name : List ℕ) (old new : Scalar) → HasKey 1 (codes "key") ms key → text_at (codes "name") ms ≡ Some name → scalar_at (codes "old") ms ≡ Some old → scalar_at (codes "new") ms ≡ Some new → ⊥) → HasNoWork kind.ReplaceMetadata ms
+pub no_replaced_metadata : (ms : Members) → ((key : List (List ℕ)) (name : List ℕ) (old new : Scalar) → HasKey 1 (codes "key") ms key
+    → text_at (codes "name") ms ≡ Some name → scalar_at (codes "old") ms ≡ Some old → scalar_at (codes "new") ms ≡ Some new → ⊥)
+    → HasNoWork kind.ReplaceMetadata ms
 no_replaced_metadata ms none (Plain (AddSettings settings)) is fields = absurd (cc)
 no_replaced_metadata ms none (Plain (AddPrefixes prefixes)) is fields = absurd (cc)
 no_replaced_metadata ms none (Plain (RemoveSettings settings)) is fields = absurd (cc)

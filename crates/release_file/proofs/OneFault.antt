@@ -14,7 +14,8 @@ never_both text release kind at spells fault =
     none_fails (checks spells.document) there.0 spells.hold there.1
 
 -- Two faults of a text are one.
-pub one_fault : (found : Option Members) (kind other : ReleaseKind) (at also : List ℕ) → HasFault found kind at → HasFault found other also → (kind ≡ other) × (at ≡ also)
+pub one_fault : (found : Option Members) (kind other : ReleaseKind) (at also : List ℕ) → HasFault found kind at → HasFault found other also
+    → (kind ≡ other) × (at ≡ also)
 one_fault None kind other at also one two = (one.0 ∙ sym two.0, one.1 ∙ sym two.1)
 one_fault (Some document) kind other at also one two =
     let same = one_fails (checks document) one.0 two.0 one.1 two.1 in

@@ -24,10 +24,20 @@ plain : (mark n : ℕ) → mark ≢ 95 → cond (mark == 95) (id_text n) (decima
 plain mark n other = ap (λ b. cond b (id_text n) (decimal n)) (ne_eqb mark 95 other)
 
 pub in_decimal : (mark n : ℕ) (text rest : List ℕ) → mark ≢ 95 → HasNumber mark text n rest → HasDecimal mark text n rest
-in_decimal mark n text rest other has = record { fits = has.fits; text_is = has.text_is ∙ ap (λ (l : List ℕ). mark ∷ (l ++ rest)) (plain mark n other); ends = has.ends }
+in_decimal mark n text rest other has = record {
+  fits = has.fits;
+  text_is = has.text_is ∙ ap (λ (l : List ℕ). mark ∷ (l ++ rest)) (plain mark n other);
+  ends =
+      has.ends;
+}
 
 pub no_decimal : (mark n : ℕ) (text rest : List ℕ) → mark ≢ 95 → HasNoNumber mark text → HasDecimal mark text n rest → ⊥
-no_decimal mark n text rest other none has = none n rest (record { fits = has.fits; text_is = has.text_is ∙ ap (λ (l : List ℕ). mark ∷ (l ++ rest)) (sym (plain mark n other)); ends = has.ends })
+no_decimal mark n text rest other none has = none n rest (record {
+  fits = has.fits;
+  text_is = has.text_is
+      ∙ ap (λ (l : List ℕ). mark ∷ (l ++ rest)) (sym (plain mark n other));
+  ends = has.ends;
+})
 
 tails : (mark : ℕ) (xs ys : List ℕ) → mark ∷ xs ≡ mark ∷ ys → xs ≡ ys
 tails mark xs ys same = cc
@@ -35,7 +45,8 @@ tails mark xs ys same = cc
 -- A text begins with one number at most.
 pub one_decimal : (mark n m : ℕ) (text rest more : List ℕ) → HasDecimal mark text n rest → HasDecimal mark text m more → (n ≡ m) × (rest ≡ more)
 one_decimal mark n m text rest more a b =
-    let both = same_runs (decimal n) (decimal m) rest more (glyphs-decimal n a.fits) (glyphs-decimal m b.fits) a.ends b.ends (tails mark (decimal n ++ rest) (decimal m ++ more) (sym a.text_is ∙ b.text_is)) in
+    let both = same_runs (decimal n) (decimal m) rest more (glyphs-decimal n a.fits) (glyphs-decimal m b.fits) a.ends b.ends
+    (tails mark (decimal n ++ rest) (decimal m ++ more) (sym a.text_is ∙ b.text_is)) in
     (decimal_injective n m a.fits b.fits both.0, both.1)
 
 -- ---- versions
@@ -49,7 +60,8 @@ behind_minor v rest = 46 ∷ (decimal v.patch ++ rest)
 
 spread : (v : Version) (rest : List ℕ) → version_text v ++ rest ≡ decimal v.major ++ behind_major v rest
 spread v rest =
-    append_assoc (decimal v.major ++ 46 ∷ decimal v.minor) (46 ∷ decimal v.patch) rest ∙ append_assoc (decimal v.major) (46 ∷ decimal v.minor) (46 ∷ (decimal v.patch ++ rest))
+    append_assoc (decimal v.major ++ 46 ∷ decimal v.minor) (46 ∷ decimal v.patch) rest ∙ append_assoc (decimal v.major) (46 ∷ decimal v.minor)
+    (46 ∷ (decimal v.patch ++ rest))
 
 -- A version at the front, number by number.
 module _ (mark : ℕ) (text : List ℕ) (v : Version) (rest : List ℕ) (has : HasVersion mark text v rest) where
@@ -65,14 +77,18 @@ module _ (mark : ℕ) (text : List ℕ) (v : Version) (rest : List ℕ) (has : H
       has_patch = record { fits = has.fits.patch; text_is = (one_decimal 46 b v.minor first second (behind_minor v rest) two has_minor).1; ends = has.ends }
 
 -- A text begins with one version at most.
-pub one_version : (mark : ℕ) (text : List ℕ) (v w : Version) (rest more : List ℕ) → HasVersion mark text v rest → HasVersion mark text w more → (v ≡ w) × (rest ≡ more)
+pub one_version : (mark : ℕ) (text : List ℕ) (v w : Version) (rest more : List ℕ) → HasVersion mark text v rest → HasVersion mark text w more
+    → (v ≡ w) × (rest ≡ more)
 one_version mark text v w rest more a b =
-    let majors = one_decimal mark v.major w.major text (behind_major v rest) (behind_major w more) (has_major mark text v rest a) (has_major mark text w more b) in
+    let majors = one_decimal mark v.major w.major text (behind_major v rest) (behind_major w more) (has_major mark text v rest a) (has_major mark text w more b)
+    in
     let one = has_major mark text v rest a in
     let two = has_minor mark text v rest a v.major (behind_major v rest) one in
     let three = has_patch mark text v rest a v.major (behind_major v rest) one v.minor (behind_minor v rest) two in
-    let minors = one_decimal 46 v.minor w.minor (behind_major v rest) (behind_minor v rest) (behind_minor w more) two (has_minor mark text w more b v.major (behind_major v rest) one) in
-    let patches = one_decimal 46 v.patch w.patch (behind_minor v rest) rest more three (has_patch mark text w more b v.major (behind_major v rest) one v.minor (behind_minor v rest) two) in
+    let minors = one_decimal 46 v.minor w.minor (behind_major v rest) (behind_minor v rest) (behind_minor w more) two
+    (has_minor mark text w more b v.major (behind_major v rest) one) in
+    let patches = one_decimal 46 v.patch w.patch (behind_minor v rest) rest more three
+    (has_patch mark text w more b v.major (behind_major v rest) one v.minor (behind_minor v rest) two) in
     ((λ i. record { major = majors.0 i; minor = minors.0 i; patch = patches.0 i }), patches.1)
 
 -- ---- pairs
@@ -107,9 +123,11 @@ module _ (text : List ℕ) (from to : Version) (pair : IsPair text from to) wher
         in_order = subst (λ (x : Version). IsTrue (is_before x w)) (sym from_is) (subst (λ (x : Version). IsTrue (is_before from x)) (sym to_is) pair.before)
 
 -- The parts are those of a pair.
-pub pair_made : (text first second rest : List ℕ) (v w : Version) → HasVersion 40 text v first → first ≡ 44 ∷ second → HasVersion 32 second w rest → rest ≡ 41 ∷ [] → IsTrue (is_before v w) → IsPair text v w
+pub pair_made : (text first second rest : List ℕ) (v w : Version) → HasVersion 40 text v first → first ≡ 44 ∷ second → HasVersion 32 second w rest
+    → rest ≡ 41 ∷ [] → IsTrue (is_before v w) → IsPair text v w
 pair_made text first second rest v w one comma two closed before = record {
-  text_is = one.text_is ∙ ap (λ (l : List ℕ). 40 ∷ (version_text v ++ l)) (comma ∙ ap (λ (l : List ℕ). 44 ∷ l) (two.text_is ∙ ap (λ (l : List ℕ). 32 ∷ (version_text w ++ l)) closed));
+  text_is = one.text_is ∙ ap (λ (l : List ℕ). 40 ∷ (version_text v ++ l))
+      (comma ∙ ap (λ (l : List ℕ). 44 ∷ l) (two.text_is ∙ ap (λ (l : List ℕ). 32 ∷ (version_text w ++ l)) closed));
   from_fits = one.fits;
   to_fits = two.fits;
   before = before;

@@ -22,7 +22,8 @@ use Rattle.release_file.proofs.Farthest.{all_lead, map-reverse}
 -- Versions that tie are one.
 pub version_same : (v w : Version) → version_cmp v w ≡ Equal → v ≡ w
 version_same v w e =
-    let same : v.major ∷ v.minor ∷ v.patch ∷ [] ≡ w.major ∷ w.minor ∷ w.patch ∷ [] = bytes_cmp-IsAntisymmetric (v.major ∷ v.minor ∷ v.patch ∷ []) (w.major ∷ w.minor ∷ w.patch ∷ []) e in
+    let same : v.major ∷ v.minor ∷ v.patch ∷ [] ≡ w.major ∷ w.minor ∷ w.patch ∷ [] =
+    bytes_cmp-IsAntisymmetric (v.major ∷ v.minor ∷ v.patch ∷ []) (w.major ∷ w.minor ∷ w.patch ∷ []) e in
     λ i. record { major = get_or (same i) 0 0; minor = get_or (same i) 1 0; patch = get_or (same i) 2 0 }
 
 upto_equal : (r s : Ordering) → s ≡ ordering_reverse r → IsTrue (is_le r) → IsTrue (is_le s) → r ≡ Equal
@@ -49,7 +50,8 @@ module _ (all : List Transition) (target : Version) (lead : IsTrue (list_all lea
   steps_same false t u a b = λ i. record { from = a i; to = b i; back = false }
   steps_same true t u a b = λ i. record { from = b i; to = a i; back = true }
 
-  chains_same : (back : Bool) (at : Version) (one other : List Transition) → Leads all target at one target → Leads all target at other target → map (step_of back) one ≡ map (step_of back) other
+  chains_same : (back : Bool) (at : Version) (one other : List Transition) → Leads all target at one target → Leads all target at other target
+      → map (step_of back) one ≡ map (step_of back) other
   chains_same back at [] [] a b = refl
   chains_same back at [] (u ∷ other) a b = absurd (none_behind u (subst (λ v. IsFarthest all v target u) a b.0))
   chains_same back at (t ∷ one) [] a b = absurd (none_behind t (subst (λ v. IsFarthest all v target t) b a.0))
@@ -59,38 +61,49 @@ module _ (all : List Transition) (target : Version) (lead : IsTrue (list_all lea
       let rest = chains_same back u.to one other (subst (λ v. Leads all target v one target) ends a.1) b.1 in
       ap (λ s. s ∷ map (step_of back) one) head ∙ ap (λ l. step_of back u ∷ l) rest
 
-  chain_or_missing : (at end : Version) (one other : List Transition) → Leads all target at one target → Leads all target at other end → end ≢ target → ((t : Transition) → Contains all t → t.from ≡ end → IsTrue (is_upto t.to target) → ⊥) → ⊥
+  chain_or_missing : (at end : Version) (one other : List Transition) → Leads all target at one target → Leads all target at other end → end ≢ target
+      → ((t : Transition) → Contains all t → t.from ≡ end → IsTrue (is_upto t.to target) → ⊥) → ⊥
   chain_or_missing at end [] [] a b short ends = short (sym b ∙ a)
   chain_or_missing at end [] (u ∷ other) a b short ends = none_behind u (subst (λ v. IsFarthest all v target u) a b.0)
   chain_or_missing at end (t ∷ one) [] a b short ends = ends t a.0.listed (a.0.begins ∙ b) a.0.within
-  chain_or_missing at end (t ∷ one) (u ∷ other) a b short ends = chain_or_missing u.to end one other (subst (λ v. Leads all target v one target) (one_farthest at t u a.0 b.0) a.1) b.1 short ends
+  chain_or_missing at end (t ∷ one) (u ∷ other) a b short ends = chain_or_missing u.to end one other
+      (subst (λ v. Leads all target v one target) (one_farthest at t u a.0 b.0) a.1) b.1 short ends
 
-  one_missing : (at end stop : Version) (one other : List Transition) → Leads all target at one end → Leads all target at other stop → ((t : Transition) → Contains all t → t.from ≡ end → IsTrue (is_upto t.to target) → ⊥) → ((t : Transition) → Contains all t → t.from ≡ stop → IsTrue (is_upto t.to target) → ⊥) → end ≡ stop
+  one_missing : (at end stop : Version) (one other : List Transition) → Leads all target at one end → Leads all target at other stop
+      → ((t : Transition) → Contains all t → t.from ≡ end → IsTrue (is_upto t.to target) → ⊥)
+      → ((t : Transition) → Contains all t → t.from ≡ stop → IsTrue (is_upto t.to target) → ⊥) → end ≡ stop
   one_missing at end stop [] [] a b ends stops = sym a ∙ b
   one_missing at end stop [] (u ∷ other) a b ends stops = absurd (ends u b.0.listed (b.0.begins ∙ a) b.0.within)
   one_missing at end stop (t ∷ one) [] a b ends stops = absurd (stops t a.0.listed (a.0.begins ∙ b) a.0.within)
-  one_missing at end stop (t ∷ one) (u ∷ other) a b ends stops = one_missing u.to end stop one other (subst (λ v. Leads all target v one end) (one_farthest at t u a.0 b.0) a.1) b.1 ends stops
+  one_missing at end stop (t ∷ one) (u ∷ other) a b ends stops = one_missing u.to end stop one other
+      (subst (λ v. Leads all target v one end) (one_farthest at t u a.0 b.0) a.1) b.1 ends stops
 
 -- ---- plans
 
-ordered_same : (turn back : Bool) (one other : List Transition) → map (step_of back) one ≡ map (step_of back) other → map (step_of back) (in_order turn one) ≡ map (step_of back) (in_order turn other)
+ordered_same : (turn back : Bool) (one other : List Transition) → map (step_of back) one ≡ map (step_of back) other
+    → map (step_of back) (in_order turn one) ≡ map (step_of back) (in_order turn other)
 ordered_same false back one other same = same
 ordered_same true back one other same = map-reverse (step_of back) one ∙ ap reverse same ∙ sym (map-reverse (step_of back) other)
 
-pub plans_once : (all : List Transition) (from to : Version) (one other : List Step) → IsTrue (list_all leads_on all) → IsPlan all from to one → IsPlan all from to other → one ≡ other
+pub plans_once : (all : List Transition) (from to : Version) (one other : List Step) → IsTrue (list_all leads_on all) → IsPlan all from to one
+    → IsPlan all from to other → one ≡ other
 plans_once all from to one other lead a b =
     let back = is_back from to in
     a.steps_are ∙ ap (map (step_of back)) a.is_way.way_is
-    ∙ ordered_same back back a.is_way.chain b.is_way.chain (chains_same all (upper back from to) lead back (lower back from to) a.is_way.chain b.is_way.chain a.is_way.is_chain.led b.is_way.is_chain.led)
+    ∙ ordered_same back back a.is_way.chain b.is_way.chain (chains_same all (upper back from to) lead back (lower back from to) a.is_way.chain b.is_way.chain
+    a.is_way.is_chain.led b.is_way.is_chain.led)
     ∙ sym (b.steps_are ∙ ap (map (step_of back)) b.is_way.way_is)
 
-pub plans_or_misses : (all : List Transition) (from to at target : Version) (steps : List Step) → IsTrue (list_all leads_on all) → IsPlan all from to steps → HasNoPlan all from to at target → ⊥
+pub plans_or_misses : (all : List Transition) (from to at target : Version) (steps : List Step) → IsTrue (list_all leads_on all) → IsPlan all from to steps
+    → HasNoPlan all from to at target → ⊥
 plans_or_misses all from to at target steps lead plan none =
     let back = is_back from to in
     let missing = subst (λ v. IsMissing all (lower back from to) v at) none.target_is none.missing in
-    chain_or_missing all (upper back from to) lead (lower back from to) at plan.is_way.chain missing.chain plan.is_way.is_chain.led missing.led missing.short missing.ends
+    chain_or_missing all (upper back from to) lead (lower back from to) at plan.is_way.chain missing.chain plan.is_way.is_chain.led missing.led missing.short
+    missing.ends
 
-pub misses_once : (all : List Transition) (from to at target other end : Version) → IsTrue (list_all leads_on all) → HasNoPlan all from to at target → HasNoPlan all from to other end → at ≡ other
+pub misses_once : (all : List Transition) (from to at target other end : Version) → IsTrue (list_all leads_on all) → HasNoPlan all from to at target
+    → HasNoPlan all from to other end → at ≡ other
 misses_once all from to at target other end lead a b =
     let back = is_back from to in
     let one = subst (λ v. IsMissing all (lower back from to) v at) a.target_is a.missing in

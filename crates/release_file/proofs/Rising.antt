@@ -1,5 +1,6 @@
 -- Transitions that are listed by the names of their entries, and sorted by their versions, rise.
-use Rattle.std.proofs.Common.{◌≡◌, ℕ, suc, ◌+◌, ◌<◌, ◌≤◌, Bool, true, false, ◌&&◌, cond, List, [], ◌∷◌, ◌++◌, map, length, get_or, refl, sym, ◌∙◌, ap, subst, arith}
+use Rattle.std.proofs.Common.{◌≡◌, ℕ, suc, ◌+◌, ◌<◌, ◌≤◌, Bool, true, false, ◌&&◌, cond, List}
+use Rattle.std.proofs.Common.{[], ◌∷◌, ◌++◌, map, length, get_or, refl, sym, ◌∙◌, ap, subst, arith}
 use Rattle.std.specs.Prelude.{IsTrue}
 use Rattle.std.specs.List.{AllByRecursion, list_all, sum_by}
 use Rattle.std.specs.List.Sorted.{IsPermutation, IsSortedBy, IsStrictlySortedBy}
@@ -74,7 +75,8 @@ pair_text : Version → Version → List ℕ
 pair_text from to = 40 ∷ (version_text from ++ 44 ∷ 32 ∷ (version_text to ++ 41 ∷ []))
 
 -- The same pair has the same name.
-one_name : (e f : List ℕ × Data) (t u : Transition) → IsTransition e t.from t.to t.names.items → IsTransition f u.from u.to u.names.items → transition_cmp t u ≡ Equal → e.0 ≡ f.0
+one_name : (e f : List ℕ × Data) (t u : Transition) → IsTransition e t.from t.to t.names.items → IsTransition f u.from u.to u.names.items
+    → transition_cmp t u ≡ Equal → e.0 ≡ f.0
 unfolding pair_text
 one_name e f t u is also same =
     let both = same_versions t u same in
@@ -88,7 +90,8 @@ no_tie : (t u : Transition) → is_eq (transition_cmp t u) ≡ false → ties t 
 unfolding ties
 no_tie t u other = ap (λ b. cond b 1 0) other
 
-none_ties : (e : List ℕ × Data) (t u : Transition) (es : List (List ℕ × Data)) (us : List Transition) → IsTransition e u.from u.to u.names.items → transition_cmp t u ≡ Equal → AllByRecursion (λ n. bytes_cmp e.0 n ≡ Less) (map (λ f. f.0) es) → AreTransitions es us → many t us ≡ 0
+none_ties : (e : List ℕ × Data) (t u : Transition) (es : List (List ℕ × Data)) (us : List Transition) → IsTransition e u.from u.to u.names.items
+    → transition_cmp t u ≡ Equal → AllByRecursion (λ n. bytes_cmp e.0 n ≡ Less) (map (λ f. f.0) es) → AreTransitions es us → many t us ≡ 0
 unfolding many
 none_ties e t u [] [] is same above all = refl
 none_ties e t u [] (w ∷ us) is same above all = absurd all
@@ -109,7 +112,8 @@ none_ties e t u (f ∷ es) (w ∷ us) is same above all =
     )
 
 -- Of transitions whose names rise, one at most ties with another.
-one_at_most : (es : List (List ℕ × Data)) (us : List Transition) → IsStrictlySortedBy bytes_cmp (map (λ e. e.0) es) → AreTransitions es us → (t : Transition) → many t us ≤ 1
+one_at_most : (es : List (List ℕ × Data)) (us : List Transition) → IsStrictlySortedBy bytes_cmp (map (λ e. e.0) es) → AreTransitions es us → (t : Transition)
+    → many t us ≤ 1
 unfolding many IsStrictlySortedBy
 one_at_most [] [] rising all t = omega arith
 one_at_most [] (u ∷ us) rising all t = absurd all
@@ -140,7 +144,8 @@ not_tied t u none = by (is_eq (transition_cmp t u)) none
     by true one = absurd (omega (arith, one))
     by false one = refl
 
-all_above : (t : Transition) (us : List Transition) → ((j : ℕ) (d : Transition) → j < length us → is_lt (transition_cmp (get_or us j d) t) ≡ false) → many t us ≡ 0 → list_all (λ u. is_lt (transition_cmp t u)) us ≡ true
+all_above : (t : Transition) (us : List Transition) → ((j : ℕ) (d : Transition) → j < length us → is_lt (transition_cmp (get_or us j d) t) ≡ false)
+    → many t us ≡ 0 → list_all (λ u. is_lt (transition_cmp t u)) us ≡ true
 unfolding many
 all_above t [] far none = refl
 all_above t (u ∷ us) far none =
@@ -154,15 +159,19 @@ unfolding many
 rises [] sorted one = refl
 rises (t ∷ ts) sorted one =
     both_true (list_all (λ u. is_lt (transition_cmp t u)) ts) (are_rising ts)
-    (all_above t ts (λ j d within. sorted_far (λ (t u : Transition). is_lt (transition_cmp t u)) transitions_ranked (t ∷ ts) sorted 0 (suc j) d (omega arith) (omega (arith, within)))
+    (all_above t ts (λ j d within. sorted_far (λ (t u : Transition). is_lt (transition_cmp t u)) transitions_ranked (t ∷ ts) sorted 0 (suc j) d (omega arith)
+    (omega (arith, within)))
     (omega (arith, one t, sum_by-cons (ties t) t ts, one_tie t t (tied_itself transition_total t))))
     (rises ts (λ k d low within. next k d (sorted (suc k) d (omega arith) (omega (arith, within)))) (λ u. omega (arith, one u, sum_by-cons (ties u) t ts)))
   where
-    next : (k : ℕ) (d : Transition) → is_lt (transition_cmp (get_or (t ∷ ts) (suc k + 1) d) (get_or ts k d)) ≡ false → is_lt (transition_cmp (get_or ts (k + 1) d) (get_or ts k d)) ≡ false
-    next k d is = let place : suc k + 1 ≡ suc (k + 1) = omega arith in subst (λ (n : ℕ). is_lt (transition_cmp (get_or (t ∷ ts) n d) (get_or ts k d)) ≡ false) place is
+    next : (k : ℕ) (d : Transition) → is_lt (transition_cmp (get_or (t ∷ ts) (suc k + 1) d) (get_or ts k d)) ≡ false
+        → is_lt (transition_cmp (get_or ts (k + 1) d) (get_or ts k d)) ≡ false
+    next k d is = let place : suc k + 1 ≡ suc (k + 1) = omega arith in subst (λ (n : ℕ). is_lt (transition_cmp (get_or (t ∷ ts) n d) (get_or ts k d)) ≡ false)
+        place is
 
 -- Listed by names that rise, and then sorted, transitions rise.
-pub sorted_rise : (es : List (List ℕ × Data)) (listed sorted : List Transition) → IsStrictlySortedBy bytes_cmp (map (λ e. e.0) es) → AreTransitions es listed → IsPermutation listed sorted → IsSortedBy (λ (t u : Transition). is_lt (transition_cmp t u)) sorted → IsTrue (are_rising sorted)
+pub sorted_rise : (es : List (List ℕ × Data)) (listed sorted : List Transition) → IsStrictlySortedBy bytes_cmp (map (λ e. e.0) es) → AreTransitions es listed
+    → IsPermutation listed sorted → IsSortedBy (λ (t u : Transition). is_lt (transition_cmp t u)) sorted → IsTrue (are_rising sorted)
 unfolding many
 sorted_rise es listed sorted rising all moved is =
     rises sorted is (λ t. omega (arith, one_at_most es listed rising all t, sum_by-IsPermutation (ties t) listed sorted moved))

@@ -1,4 +1,4 @@
--- Names of sections, and what stands under them.
+-- Names of sections, and what is under them.
 use Rattle.std.proofs.Common.{◌≡◌, ◌||◌, ℕ, List, [], ◌∷◌, map, subst, Bool, true, false, Option, Some, None, Bor, refl, sym, ◌∙◌, ap}
 use Rattle.std.specs.Prelude.{is_some, unwrap_or}
 use Rattle.std.specs.List.{list_any}
@@ -29,11 +29,12 @@ pub name_holds : (name bytes : List ℕ) → bytes ≡ name → true ≡ list_an
 name_holds name bytes same found = (ap (λ (n : List ℕ). list_any (eq_by_cmp bytes_cmp n) sections) (sym same) ∙ sym found, tt)
 
 -- And one that is not.
-pub name_refused : (name bytes printed : List ℕ) (e : Refusal) → bytes ≡ name → printed ≡ name → false ≡ list_any (eq_by_cmp bytes_cmp bytes) sections → IsAt UnknownSection printed e → Refuses (name_check name ∷ []) e
+pub name_refused : (name bytes printed : List ℕ) (e : Refusal) → bytes ≡ name → printed ≡ name → false ≡ list_any (eq_by_cmp bytes_cmp bytes) sections
+    → IsAt UnknownSection printed e → Refuses (name_check name ∷ []) e
 name_refused name bytes printed e same also none at =
     refuses_first (name_check name) [] e (both_ways _ (ap (λ (n : List ℕ). list_any (eq_by_cmp bytes_cmp n) sections) (sym same) ∙ sym none)) (rw (← also) at)
 
--- ---- what stands under a name
+-- ---- what is under a name
 
 module _ (kind : ReleaseKind) (name : List ℕ) (document : Members) where
   -- A section that is missing.
@@ -48,19 +49,25 @@ module _ (kind : ReleaseKind) (name : List ℕ) (document : Members) where
   table_passes d ms there found = (ap is_section there ∙ ap is_some found, tt)
 
   pub table_members : (d : Data) (ms : Members) → get_member name document ≡ Some d → as_table d ≡ Some ms → section_members name document ≡ ms
-  table_members d ms there found = ap (λ (o : Option Data). unwrap_or (read_by as_table o) no_members) there ∙ ap (λ (o : Option Members). unwrap_or o no_members) found
+  table_members d ms there found = ap (λ (o : Option Data). unwrap_or (read_by as_table o) no_members) there
+      ∙ ap (λ (o : Option Members). unwrap_or o no_members) found
 
   -- One that is another value.
-  pub other_refuses : (d : Data) (e : Refusal) → get_member name document ≡ Some d → as_table d ≡ None → IsAt kind name e → Refuses (section_check kind name document ∷ []) e
-  other_refuses d e there none at = refuses_first (section_check kind name document) [] e (λ holds. false≢true (sym (ap is_section there ∙ ap is_some none) ∙ holds)) at
+  pub other_refuses : (d : Data) (e : Refusal) → get_member name document ≡ Some d → as_table d ≡ None → IsAt kind name e
+      → Refuses (section_check kind name document ∷ []) e
+  other_refuses d e there none at = refuses_first (section_check kind name document) [] e
+      (λ holds. false≢true (sym (ap is_section there ∙ ap is_some none) ∙ holds)) at
 
 -- ---- a section with its entries
 
-module _ (check : List ℕ × Data → Check) (kind : ReleaseKind) (name : List ℕ) (document ms : Members) (is : section_members name document ≡ ms) (table : Passes (section_check kind name document ∷ [])) where
+module _ (check : List ℕ × Data → Check) (kind : ReleaseKind) (name : List ℕ) (document ms : Members) (is : section_members name document ≡ ms)
+    (table : Passes (section_check kind name document ∷ [])) where
   -- The section is a table, and all of its entries hold.
   pub entries_pass : Passes (map check (named ms)) → Passes (section_check kind name document ∷ map check (named (section_members name document)))
   entries_pass all = (table.0, subst (λ (m : Members). Passes (map check (named m))) (sym is) all)
 
   -- The section is a table, and the first of its entries that fails is refused.
-  pub entries_refuse : (e : Refusal) → Refuses (map check (named ms)) e → Refuses (section_check kind name document ∷ map check (named (section_members name document))) e
-  entries_refuse e refused = refuses_after (section_check kind name document ∷ []) _ e table (subst (λ (m : Members). Refuses (map check (named m)) e) (sym is) refused)
+  pub entries_refuse : (e : Refusal) → Refuses (map check (named ms)) e
+      → Refuses (section_check kind name document ∷ map check (named (section_members name document))) e
+  entries_refuse e refused = refuses_after (section_check kind name document ∷ []) _ e table
+      (subst (λ (m : Members). Refuses (map check (named m)) e) (sym is) refused)

@@ -4,7 +4,7 @@ use Rattle.toml.specs.View.{items_view}
 use Rattle.toml.specs.declared.value.Value.{Value}
 use Rattle.release_file.specs.Fields.{texts_in}
 
--- The texts so far, with those of the values to come behind them.
+-- The texts so far, with those of the values to come after them.
 abbrev pub behind : List (List ℕ) → Option (List (List ℕ)) → Option (List (List ℕ))
 behind texts rest = option_map (λ xs. texts ++ xs) rest
 

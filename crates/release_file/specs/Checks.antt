@@ -49,7 +49,7 @@ Holds (transition entry) = (from : Version) × (to : Version) × (names : List (
 
 -- ---- the sections
 
--- The names that may stand at the top.
+-- The names that may be at the top.
 abbrev pub sections : List (List ℕ)
 sections = codes "version" ∷ codes "migrations" ∷ codes "migration" ∷ []
 

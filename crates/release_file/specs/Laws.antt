@@ -9,12 +9,15 @@ use Rattle.release_file.specs.Chain.{IsPlan, HasNoPlan}
 
 -- Between two versions there is one plan at most.
 abbrev pub PlansOnce : Type 0
-PlansOnce = (all : List Transition) (from to : Version) (one other : List Step) → IsTrue (list_all leads_on all) → IsPlan all from to one → IsPlan all from to other → one ≡ other
+PlansOnce = (all : List Transition) (from to : Version) (one other : List Step) → IsTrue (list_all leads_on all) → IsPlan all from to one
+    → IsPlan all from to other → one ≡ other
 
 -- Where there is a plan, no version is missing.
 abbrev pub PlansOrMisses : Type 0
-PlansOrMisses = (all : List Transition) (from to at target : Version) (steps : List Step) → IsTrue (list_all leads_on all) → IsPlan all from to steps → HasNoPlan all from to at target → ⊥
+PlansOrMisses = (all : List Transition) (from to at target : Version) (steps : List Step) → IsTrue (list_all leads_on all) → IsPlan all from to steps
+    → HasNoPlan all from to at target → ⊥
 
 -- One version is missing at most.
 abbrev pub MissesOnce : Type 0
-MissesOnce = (all : List Transition) (from to at target other end : Version) → IsTrue (list_all leads_on all) → HasNoPlan all from to at target → HasNoPlan all from to other end → at ≡ other
+MissesOnce = (all : List Transition) (from to at target other end : Version) → IsTrue (list_all leads_on all) → HasNoPlan all from to at target
+    → HasNoPlan all from to other end → at ≡ other

@@ -11,17 +11,17 @@ use Rattle.release_file.specs.declared.release_error.ReleaseKind.{ReleaseKind}
 abbrev pub Passes : List Check → Type 0
 Passes all = AllByRecursion Holds all
 
--- The refusal is that of the first of the checks which fails, unless memory was wanting.
+-- The refusal is that of the first of the checks which fails, unless it ran out of memory.
 abbrev pub Refuses : List Check → Refusal → Type 0
 Refuses all Memory = ⊤
 Refuses all (Fault kind at) = (check : Check) × IsFirstFailing all check × (kind ≡ fault_of check) × (at ≡ name_of check)
 
--- The refusal is of this kind and at this name, unless memory was wanting.
+-- The refusal is of this kind and at this name, unless it ran out of memory.
 abbrev pub IsAt : ReleaseKind → List ℕ → Refusal → Type 0
 IsAt kind name Memory = ⊤
 IsAt kind name (Fault k at) = (k ≡ kind) × (at ≡ name)
 
--- The refusal is a fault of the text, unless memory was wanting.
+-- The refusal is a fault of the text, unless it ran out of memory.
 abbrev pub RefusesText : List ℕ → Refusal → Type 0
 RefusesText text Memory = ⊤
 RefusesText text (Fault kind at) = IsFault text kind at

@@ -56,8 +56,10 @@ abbrev pub HasFields : Members → Work → Type 0
 HasFields ms (Plain (AddSettings settings)) = HasKeys 2 (codes "settings") ms settings.items
 HasFields ms (Plain (AddPrefixes prefixes)) = HasKeys 1 (codes "prefixes") ms prefixes.items
 HasFields ms (Plain (RemoveSettings settings)) = HasKeys 2 (codes "settings") ms settings.items
-HasFields ms (Plain (ReplaceString setting old new)) = HasKey 2 (codes "setting") ms setting × (text_at (codes "old") ms ≡ Some old) × (text_at (codes "new") ms ≡ Some new)
-HasFields ms (Plain (RenameSettings pairs)) = HasKeys 2 (codes "old") ms (map (λ pair. pair.0) pairs.items) × HasKeys 2 (codes "new") ms (map (λ pair. pair.1) pairs.items)
+HasFields ms (Plain (ReplaceString setting old new)) = HasKey 2 (codes "setting") ms setting × (text_at (codes "old") ms ≡ Some old)
+    × (text_at (codes "new") ms ≡ Some new)
+HasFields ms (Plain (RenameSettings pairs)) = HasKeys 2 (codes "old") ms (map (λ pair. pair.0) pairs.items)
+    × HasKeys 2 (codes "new") ms (map (λ pair. pair.1) pairs.items)
 HasFields ms (Plain (AddMetadata key names)) = HasKey 1 (codes "key") ms key × (texts_at (codes "names") ms ≡ Some names.items)
 HasFields ms (Plain (RemoveMetadata key names)) = HasKey 1 (codes "key") ms key × (texts_at (codes "names") ms ≡ Some names.items)
 HasFields ms (Plain (ReplaceMetadata key name old new)) =

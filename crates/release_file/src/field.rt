@@ -17,7 +17,7 @@ pub fn field<'a>(table: &'a Table, name: &str) -> Option<&'a Value>
     table.get(name)
 }
 
-/// The text of a field, None exactly where the field is missing or no text. The only error is want of memory.
+/// The text of a field, None exactly where the field is missing or no text. The only error is out of memory.
 pub fn text_field(table: &Table, name: &str) -> Result<Option<Text>, AllocError>
     ensures { IfOk result (λ text. text ≡ text_at name.now (table_view table.now)) }
 {
@@ -41,7 +41,7 @@ fn texts_in(alloc: Global, values: &[Value]) -> Result<Option<Vec<Text>>, AllocE
     Ok(Some(texts))
 }
 
-/// The texts that the value is a list of, None exactly where it is none. The only error is want of memory.
+/// The texts that the value is a list of, None exactly where it is none. The only error is out of memory.
 pub fn texts_of(alloc: Global, value: &Value) -> Result<Option<Vec<Text>>, AllocError>
     ensures { IfOk result (λ texts. option_map (λ v. v.items) texts ≡ texts_of (view value.now)) }
 {
@@ -51,7 +51,7 @@ pub fn texts_of(alloc: Global, value: &Value) -> Result<Option<Vec<Text>>, Alloc
     }
 }
 
-/// The texts of a field, None exactly where the field is missing or no list of texts. The only error is want of memory.
+/// The texts of a field, None exactly where the field is missing or no list of texts. The only error is out of memory.
 pub fn texts_field(
     alloc: Global,
     table: &Table,
@@ -65,7 +65,7 @@ pub fn texts_field(
     }
 }
 
-/// The scalar of a field, None exactly where the field is missing or no scalar. The only error is want of memory.
+/// The scalar of a field, None exactly where the field is missing or no scalar. The only error is out of memory.
 pub fn scalar_field(alloc: Global, table: &Table, name: &str) -> Result<Option<Scalar>, AllocError>
     ensures { IfOk result (λ scalar. scalar ≡ scalar_at name.now (table_view table.now)) }
 {

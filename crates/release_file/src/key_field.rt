@@ -46,7 +46,7 @@ fn keys_of(alloc: Global, texts: &[Text], least: usize) -> Result<Option<Vec<Key
 }
 
 /// The key of a field: it begins with `settings` and has so many segments at least. None exactly where the field is no
-/// text of such a key. The only error is want of memory.
+/// text of such a key. The only error is out of memory.
 pub fn key_field(
     alloc: Global,
     table: &Table,
@@ -63,7 +63,7 @@ pub fn key_field(
 }
 
 /// The keys of a field, each as that of `key_field`. None exactly where the field is no list of texts of such keys. The
-/// only error is want of memory.
+/// only error is out of memory.
 pub fn keys_field(
     alloc: Global,
     table: &Table,

@@ -35,7 +35,8 @@ fn add_prefixes(alloc: Global, table: &Table) -> Result<Option<Work>, AllocError
 
 #[tactic(auto, using(crate::proofs::NoWork::no_removed_settings))]
 fn remove_settings(alloc: Global, table: &Table) -> Result<Option<Work>, AllocError>
-    ensures { IfOk result (λ found. MatchOption found (HasNoWork Kind.RemoveSettings (table_view table.now)) (IsOfKind Kind.RemoveSettings (table_view table.now))) }
+    ensures { IfOk result (λ found. MatchOption found (HasNoWork Kind.RemoveSettings (table_view table.now))
+        (IsOfKind Kind.RemoveSettings (table_view table.now))) }
 {
     let Some(settings) = keys_field(alloc, table, "settings", 2)? else {
         return Ok(None);
@@ -45,7 +46,8 @@ fn remove_settings(alloc: Global, table: &Table) -> Result<Option<Work>, AllocEr
 
 #[tactic(auto, using(crate::proofs::NoWork::no_replaced_string))]
 fn replace_string(alloc: Global, table: &Table) -> Result<Option<Work>, AllocError>
-    ensures { IfOk result (λ found. MatchOption found (HasNoWork Kind.ReplaceString (table_view table.now)) (IsOfKind Kind.ReplaceString (table_view table.now))) }
+    ensures { IfOk result (λ found. MatchOption found (HasNoWork Kind.ReplaceString (table_view table.now))
+        (IsOfKind Kind.ReplaceString (table_view table.now))) }
 {
     let Some(setting) = key_field(alloc, table, "setting", 2)? else {
         return Ok(None);
@@ -76,7 +78,8 @@ fn paired(alloc: Global, old: &[Key], new: &[Key]) -> Result<Option<Vec<(Key, Ke
 
 #[tactic(auto, using(crate::proofs::NoWork::no_renamed_settings))]
 fn rename_settings(alloc: Global, table: &Table) -> Result<Option<Work>, AllocError>
-    ensures { IfOk result (λ found. MatchOption found (HasNoWork Kind.RenameSettings (table_view table.now)) (IsOfKind Kind.RenameSettings (table_view table.now))) }
+    ensures { IfOk result (λ found. MatchOption found (HasNoWork Kind.RenameSettings (table_view table.now))
+        (IsOfKind Kind.RenameSettings (table_view table.now))) }
 {
     let Some(old) = keys_field(alloc, table, "old", 2)? else {
         return Ok(None);
@@ -105,7 +108,8 @@ fn add_metadata(alloc: Global, table: &Table) -> Result<Option<Work>, AllocError
 
 #[tactic(auto, using(crate::proofs::NoWork::no_removed_metadata))]
 fn remove_metadata(alloc: Global, table: &Table) -> Result<Option<Work>, AllocError>
-    ensures { IfOk result (λ found. MatchOption found (HasNoWork Kind.RemoveMetadata (table_view table.now)) (IsOfKind Kind.RemoveMetadata (table_view table.now))) }
+    ensures { IfOk result (λ found. MatchOption found (HasNoWork Kind.RemoveMetadata (table_view table.now))
+        (IsOfKind Kind.RemoveMetadata (table_view table.now))) }
 {
     let Some(key) = key_field(alloc, table, "key", 1)? else {
         return Ok(None);
@@ -118,7 +122,8 @@ fn remove_metadata(alloc: Global, table: &Table) -> Result<Option<Work>, AllocEr
 
 #[tactic(auto, using(crate::proofs::NoWork::no_replaced_metadata))]
 fn replace_metadata(alloc: Global, table: &Table) -> Result<Option<Work>, AllocError>
-    ensures { IfOk result (λ found. MatchOption found (HasNoWork Kind.ReplaceMetadata (table_view table.now)) (IsOfKind Kind.ReplaceMetadata (table_view table.now))) }
+    ensures { IfOk result (λ found. MatchOption found (HasNoWork Kind.ReplaceMetadata (table_view table.now))
+        (IsOfKind Kind.ReplaceMetadata (table_view table.now))) }
 {
     let Some(key) = key_field(alloc, table, "key", 1)? else {
         return Ok(None);
@@ -149,7 +154,7 @@ fn program(alloc: Global, table: &Table) -> Result<Option<Work>, AllocError>
     Ok(Some(Work::Program { words }))
 }
 
-/// The work of this kind whose fields the table has, None exactly where it has none. The only error is want of memory.
+/// The work of this kind whose fields the table has, None exactly where it has none. The only error is out of memory.
 pub fn work_of(alloc: Global, kind: Kind, table: &Table) -> Result<Option<Work>, AllocError>
     ensures { IfOk result (λ found. MatchOption found (HasNoWork kind (table_view table.now)) (IsOfKind kind (table_view table.now))) }
 {

@@ -75,7 +75,7 @@ fn work_in(alloc: Global, table: &Table) -> Result<Option<Work>, AllocError>
     work_of(alloc, kind, table)
 }
 
-/// The work that the value spells, None exactly where it spells none. The only error is want of memory. It takes time
+/// The work that the value spells, None exactly where it spells none. The only error is out of memory. It takes time
 /// linear in the value, up to a logarithm.
 pub fn migration_of(alloc: Global, value: &Value) -> Result<Option<Work>, AllocError>
     ensures { IfOk result (λ found. MatchOption found ((work : Done) → SpellsWork (view value.now) work → ⊥) (SpellsWork (view value.now))) }

@@ -7,7 +7,7 @@ ghost use Rattle.release_file.specs.Pair.{IsPair, HasVersion};
 use crate::order::is_before;
 use version_links::{Version, first_number};
 
-// The version behind the mark at the front of the text, and what follows it.
+// The version after the mark at the front of the text, and what follows it.
 fn first_version(text: &[u8], mark: u8) -> Option<(Version, &[u8])>
     requires { mark ≢ 95 }
     ensures { MatchOption result ((version : Three) (rest : List ℕ) → HasVersion mark text.now version rest → ⊥)

@@ -16,7 +16,7 @@ pub enum PlanError {
         /// Where it should lead.
         target: Version,
     },
-    /// Want of memory.
+    /// Out of memory.
     #[error("out of memory")]
     Memory,
 }

@@ -45,7 +45,7 @@ fn step_of(back: bool, transition: &Transition) -> Step
 /// Equal versions give no step.
 ///
 /// `Missing` exactly where the chain forward comes to a version before its target from which none leads on, with that
-/// version and the chain's target, which on the way back is `from`. `Memory` where memory is wanting.
+/// version and the chain's target, which on the way back is `from`. `Memory` where it ran out of memory.
 pub fn plan(
     alloc: Global,
     from: &Version,

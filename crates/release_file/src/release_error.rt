@@ -2,7 +2,7 @@
 
 use key_names::Text;
 
-/// What is wrong with a release file, or that memory was wanting.
+/// What is wrong with a release file, or that it ran out of memory.
 #[derive(Clone, Copy, Debug, Drop, PartialEq, Eq)]
 pub enum ReleaseKind {
     /// The text is no TOML. It is at `-`.
@@ -17,7 +17,7 @@ pub enum ReleaseKind {
     BadPair,
     /// A transition names a migration that isn't there.
     UnknownMigration,
-    /// Memory was wanting. It is at the empty text.
+    /// It ran out of memory. It is at the empty text.
     Memory,
 }
 

@@ -7,7 +7,8 @@ ghost use Rattle.key_names.specs.Order.{bytes_cmp};
 ghost use Rattle.toml.specs.View.{view, table_view};
 ghost use Rattle.toml_values.specs.Document.{named};
 ghost use Rattle.version_links.specs.declared.version.Version.{Version as Three};
-ghost use Rattle.release_file.specs.Checks.{IsTransition, is_defined, known_check, known_checks, section_members, transition, transition_checks, transitions_in};
+ghost use Rattle.release_file.specs.Checks.{IsTransition, is_defined, known_check, known_checks};
+ghost use Rattle.release_file.specs.Checks.{section_members, transition, transition_checks, transitions_in};
 ghost use Rattle.release_file.specs.Reading.{AreTransitions};
 ghost use Rattle.release_file.specs.Refused.{Passes, Refuses};
 ghost use Rattle.release_file.specs.Release.{are_rising, transition_cmp};
@@ -104,7 +105,8 @@ fn check_known(alloc: Global, table: &Table, migrations: &Table) -> Result<(), R
 // Checks that each migration that a transition names is one of the document.
 fn check_all_known(alloc: Global, document: &Table, table: &Table) -> Result<(), Refusal>
     ensures passes { OnOk result (Passes (map (known_check (section_members (codes "migration") (table_view document.now))) (named (table_view table.now)))) }
-    ensures refused { IfErr result (Refuses (map (known_check (section_members (codes "migration") (table_view document.now))) (named (table_view table.now)))) }
+    ensures refused { IfErr result (Refuses (map (known_check (section_members (codes "migration") (table_view document.now)))
+        (named (table_view table.now)))) }
 {
     match table_in(document, "migration") {
         Some(migrations) => check_known(alloc, table, migrations),
@@ -125,7 +127,8 @@ fn sorted(transitions: Vec<Transition>) -> Result<Vec<Transition>, AllocError>
 /// The transitions of the document, rising by where they begin and then by where they end.
 pub fn transitions_of(alloc: Global, document: &Table) -> Result<Vec<Transition>, Refusal>
     ensures passes { OnOk result (Passes (transition_checks (table_view document.now) ++ known_checks (table_view document.now))) }
-    ensures transitions { IfOk result (λ transitions. (listed : List Step) × AreTransitions (transitions_in (table_view document.now)) listed × IsPermutation listed transitions.items) }
+    ensures transitions { IfOk result (λ transitions. (listed : List Step) × AreTransitions (transitions_in (table_view document.now)) listed
+        × IsPermutation listed transitions.items) }
     ensures rising { IfOk result (λ transitions. IsTrue (are_rising transitions.items)) }
     ensures refused { IfErr result (Refuses (transition_checks (table_view document.now) ++ known_checks (table_view document.now))) }
 {

@@ -8,7 +8,7 @@ use std::alloc::{AllocError, Global};
 use toml::Table;
 use toml_values::words_in;
 
-/// The words of a field, None exactly where the field is no text with a word between its spaces. The only error is want
+/// The words of a field, None exactly where the field is no text with a word between its spaces. The only error is out
 /// of memory.
 pub fn words_field(
     alloc: Global,

@@ -1,4 +1,4 @@
-//! Rows over a disk: the words of a driver beside those for the disk.
+//! Rows over a disk: the words of a driver with those for the disk.
 use crate::crashes::copy_of;
 use crate::disks::Disks;
 use disk_memory::MemoryDisk;
@@ -84,7 +84,7 @@ impl<W: Words + Clone + Drop> Subject for Rows<W> {
     }
 }
 
-/// Goes through the files that the words of the program name, with these words beside those for a disk, as `row_files::all_go`.
+/// Goes through the files that the words of the program name, with these words besides those for a disk, as `row_files::all_go`.
 pub fn all_go<W: Words + Clone + Drop>(rt: &HostRuntime, words: W) -> io::Result<ExitCode> {
     let mut rows = Rows {
         disks: Disks::new(rt.alloc())?,

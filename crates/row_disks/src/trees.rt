@@ -1,4 +1,4 @@
-//! What stands on a disk.
+//! What is on a disk.
 use crate::crashes::copy_of;
 use crate::telling::path_of;
 use disk_memory::{MemoryDisk, Node};
@@ -28,7 +28,7 @@ fn push_in_line(out: &mut Vec<u8>, mark: &[u8], bytes: &[u8]) -> Result<(), Allo
     Ok(())
 }
 
-// Adds the path with what stands there, as a line.
+// Adds the path with what is there, as a line.
 fn push_node(out: &mut Vec<u8>, disk: &MemoryDisk, path: &Path) -> Result<(), AllocError> {
     out.extend_from_slice(&path.print()?)?;
     match disk.node(path) {
@@ -40,7 +40,7 @@ fn push_node(out: &mut Vec<u8>, disk: &MemoryDisk, path: &Path) -> Result<(), Al
     Ok(())
 }
 
-// The path to which a link of this text leads that stands at the path: the text takes the place of its last name.
+// The path to which a link of this text at the path leads: the text takes the place of its last name.
 fn beside(alloc: Global, path: &Path, text: &[u8]) -> io::Result<Path> {
     let mut whole = path.print()?;
     let last = path.names().last().map_or(0, |name| name.as_slice().len());
@@ -49,7 +49,7 @@ fn beside(alloc: Global, path: &Path, text: &[u8]) -> io::Result<Path> {
     path_of(alloc, &whole)
 }
 
-// The path itself, or what the links lead to that stand there, of which there are at most eight.
+// The path itself, or what the links there lead to, of which there are at most eight.
 fn led(alloc: Global, disk: &MemoryDisk, text: &[u8]) -> io::Result<Path> {
     let mut path = path_of(alloc, text)?;
     for _ in 0..8u32 {
@@ -61,7 +61,7 @@ fn led(alloc: Global, disk: &MemoryDisk, text: &[u8]) -> io::Result<Path> {
     Ok(path)
 }
 
-/// A line for each path below this one, or below what the links lead to that stand there.
+/// A line for each path below this one, or below what the links there lead to.
 pub fn tree(alloc: Global, disk: &MemoryDisk, text: &[u8]) -> io::Result<Vec<u8>> {
     let path = led(alloc, disk, text)?;
     // a copy, of which no call fails, and on which none is counted

@@ -1,7 +1,7 @@
 //! Escapes: `\n`, `\r`, `\t`, `\\`, `\xHH` for a byte, and `\(TEXT\)*N;`, which is the text N times.
 use std::alloc::{AllocError, Global};
 
-// Adds the byte that these letters behind a backslash are, and answers what stands behind them.
+// Adds the byte that these letters after a backslash are, and answers what is after them.
 fn push_escape<'a>(out: &mut Vec<u8>, letters: &'a str) -> Result<&'a str, AllocError> {
     let count = if letters.starts_with('x') { 3 } else { 1 };
     let byte = match letters.as_bytes().first() {
@@ -32,7 +32,7 @@ fn push_once(out: &mut Vec<u8>, text: &str) -> Result<(), AllocError> {
     out.extend_from_slice(rest.as_bytes())
 }
 
-// Adds what is repeated at the front of the text, and answers what stands behind it.
+// Adds what is repeated at the front of the text, and answers what is after it.
 fn push_repeated<'a>(out: &mut Vec<u8>, text: &'a str) -> Result<&'a str, AllocError> {
     let (within, behind) = text.split_once("\\)*").unwrap_or(("", text));
     let (count, rest) = behind.split_once(';').unwrap_or((behind, ""));

@@ -58,7 +58,7 @@ impl<'a> Run<'a> {
         Ok(next)
     }
 
-    // Begins the loop of the step with this index; one stands in another at most.
+    // Begins the loop of the step with this index; there is at most one within another.
     fn enter<S: Subject>(
         &mut self,
         subject: &mut S,
@@ -162,8 +162,9 @@ fn goes<S: Subject>(rt: &HostRuntime, file: &str, mode: Mode, subject: &mut S) -
     Ok(is_well)
 }
 
-/// Goes through the files that the words of the program name, and prints the name of each whose rows are as it says. In a file behind the word `--wrong`
-/// no row is to hold; in one behind `--show` each row is printed with what it comes to. The status is 1 where one is not as it says, and where no file is named.
+/// Goes through the files that the words of the program name, and prints the name of each whose rows are as it says. In a file after the word `--wrong`
+/// no row is to hold; in one after `--show` each row is printed with what it comes to. The exit status is 1 where one is not as it says, and where no file is
+/// named.
 pub fn all_go<S: Subject>(rt: &HostRuntime, subject: &mut S) -> io::Result<ExitCode> {
     let (mut mode, mut files, mut well) = (Mode::Right, 0u64, 0u64);
     for word in env::args(rt)?.skip(1) {

@@ -1,4 +1,4 @@
-//! What a step came to, beside what it is to come to.
+//! What a step came to, next to what it is to come to.
 ghost use Rattle.std.specs.Prelude.{◌≡◌, IsTrue, false};
 
 use crate::conditions::At;

@@ -40,7 +40,7 @@ fn range_of(range: &str) -> Option<(u64, u64)> {
     Some((first.parse::<u64>().ok()?, last.parse::<u64>().ok()?))
 }
 
-// The number of calls that `of N` says, or else this one, and the words behind.
+// The number of calls that `of N` says, or else this one, and the words after it.
 fn calls_of(words: &str, last: u64) -> Option<(u64, &str)> {
     let Some(words) = words.strip_prefix("of ") else {
         return Some((last, words));

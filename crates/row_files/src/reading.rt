@@ -4,7 +4,7 @@ use crate::escapes::unescaped;
 use crate::subject::Given;
 use std::alloc::{AllocError, Global};
 
-// A line of what a step comes to: where it holds, its bytes with the line feed, and whether anything may stand from here on, as the line is `...`.
+// A line of what a step comes to: where it holds, its bytes with the line feed, and whether anything may come from here on, as the line is `...`.
 #[derive(Drop)]
 struct Wanted {
     when: String,
@@ -19,7 +19,7 @@ pub struct Step {
     pub line: usize,
     /// The first word of the line.
     pub word: String,
-    /// The bytes behind it.
+    /// The bytes after it.
     pub text: Vec<u8>,
     /// What is given in lines below it; none where there are no such lines.
     pub lines: Option<Vec<u8>>,

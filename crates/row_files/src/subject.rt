@@ -6,14 +6,14 @@ use std::io;
 /// What a step is given.
 #[derive(Clone, Copy)]
 pub struct Given<'a> {
-    /// What stands behind its word, on its line.
+    /// What is after its word, on its line.
     pub text: &'a [u8],
     /// What the lines below it give; none where there are no such lines.
     pub lines: Option<&'a [u8]>,
 }
 
 impl<'a> Given<'a> {
-    /// The lines below the step, or else what stands behind its word.
+    /// The lines below the step, or else what is after its word.
     pub fn input(&self) -> &'a [u8] {
         self.lines.unwrap_or(self.text)
     }
@@ -23,7 +23,7 @@ impl<'a> Given<'a> {
         str::from_utf8(self.input()).ok().ok_or(bad())
     }
 
-    /// What stands behind its word, as a text. The only error is `bad()`, where it is none.
+    /// What is after its word, as a text. The only error is `bad()`, where it is none.
     pub fn words(&self) -> io::Result<&'a str> {
         str::from_utf8(self.text).ok().ok_or(bad())
     }

@@ -1,7 +1,7 @@
-//! Bytes as they stand in a file of rows.
+//! Bytes as they are in a file of rows.
 use std::alloc::{AllocError, Global};
 
-// Adds a byte of a line, as an escape where it can't stand as it is.
+// Adds a byte of a line, as an escape where it can't be there as it is.
 fn push_byte(out: &mut String, byte: u8, escapes: bool) -> Result<(), AllocError> {
     match byte {
         b'\\' if escapes => out.push_str("\\\\"),
@@ -21,7 +21,7 @@ fn push_line(out: &mut String, front: &str, line: &[u8]) -> Result<(), AllocErro
     out.push_str(if escapes { " (esc)" } else { "" })
 }
 
-/// The lines of the bytes as they stand in a file, each with this in front. The only error is out of memory.
+/// The lines of the bytes as they are in a file, each with this in front. The only error is out of memory.
 pub fn lines_of(alloc: Global, front: &str, bytes: &[u8]) -> Result<String, AllocError> {
     let mut out = String::new(alloc);
     if bytes.is_empty() {

@@ -7,12 +7,12 @@ pub fn bad() -> io::Error {
     io::Error::from(ErrorKind::InvalidInput)
 }
 
-/// The first word of the text, and what stands after it.
+/// The first word of the text, and what is after it.
 pub fn parts(text: &str) -> (&str, &str) {
     text.split_once(' ').unwrap_or((text, ""))
 }
 
-/// What stands before the first space of the bytes, and what stands after it. The only error is `bad()`, where there is no space.
+/// What is before the first space of the bytes, and what is after it. The only error is `bad()`, where there is no space.
 pub fn halves(bytes: &[u8]) -> io::Result<(&[u8], &[u8])> {
     let at = bytes.iter().position(|byte| *byte == b' ').ok_or(bad())?;
     let (first, rest) = (bytes.get(..at), bytes.get(at.saturating_add(1)..));

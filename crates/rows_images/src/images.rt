@@ -16,7 +16,7 @@ fn refused(alloc: Global, error: &ImageError) -> io::Result<Vec<u8>> {
     }
 }
 
-// The report of the files of the image, behind whether all are covered.
+// The report of the files of the image, after whether all are covered.
 fn covered(alloc: Global, image: &Image) -> io::Result<Vec<u8>> {
     let checks = check_files(alloc, image)?;
     let all = are_covered(&checks);

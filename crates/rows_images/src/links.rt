@@ -1,4 +1,4 @@
-//! What a model file links: services, files, commands, and the keys that concern them.
+//! What a model file links: services, files, commands, and the keys that affect them.
 use crate::models::fault;
 use crate::texts::{key_of, listed, listed_keys};
 use key_names::{Key, read_list};

@@ -1,9 +1,9 @@
 //! `rows_images FILE ..`: rows of what an image says, and of images over a disk in memory.
 //!
-//! Types: `types` takes the rows of a table, a pattern and a word on each line; `fits KEY JSON` tells whether the value may stand at the key, and
+//! Types: `types` takes the rows of a table, a pattern and a word on each line; `fits KEY JSON` tells whether the value may be at the key, and
 //! `finds KEY` whether a row is for the key and for one below it. Models: `model` tells what a model file says, or its first fault. Links: `links` takes a
 //! model file and tells its files, commands and lists of services, or why they are refused; `near KEY` and `below KEY` tell lists, and `affected KEYS`,
-//! `files KEYS` and `commands KEYS` what a change of these keys concerns (`all` for all of them), `steps KEYS` also by how many look-ups. Templates: `reads`
+//! `files KEYS` and `commands KEYS` what a change of these keys affects (`all` for all of them), `steps KEYS` also by how many look-ups. Templates: `reads`
 //! tells the paths that a template reads, and `covers FILE` whether the file with this template is covered. Images: `image` tells the text of the image on
 //! the disk, or why there is none, and `coverage` the report of its files. The words for the disk are those of `row_disks`.
 #![tactic(auto)]
@@ -21,7 +21,7 @@ use std::alloc::Global;
 use std::io;
 use std::process::ExitCode;
 
-// The rows of a table of types, and the model file whose links are told.
+// The rows of a table of types, and the model file whose links are printed.
 #[derive(Clone, Drop)]
 struct ImageWords {
     types: Vec<u8>,

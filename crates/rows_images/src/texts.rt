@@ -9,7 +9,7 @@ pub fn key_of(alloc: Global, text: &str) -> io::Result<Key> {
     Key::read(alloc, text.as_bytes()).ok().ok_or(bad())
 }
 
-/// The names, each behind a space.
+/// The names, each after a space.
 pub fn listed(alloc: Global, names: &[Text]) -> Result<String, AllocError> {
     let mut out = String::new(alloc);
     for name in names {
@@ -19,7 +19,7 @@ pub fn listed(alloc: Global, names: &[Text]) -> Result<String, AllocError> {
     Ok(out)
 }
 
-/// The keys, each behind a space.
+/// The keys, each after a space.
 pub fn listed_keys(alloc: Global, keys: &[Key]) -> Result<String, AllocError> {
     let mut out = String::new(alloc);
     for key in keys {

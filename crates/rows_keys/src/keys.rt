@@ -64,7 +64,7 @@ fn key_of(alloc: Global, text: &[u8]) -> io::Result<Key> {
     Key::read(alloc, text).ok().ok_or(bad())
 }
 
-// How the first key stands to the second.
+// How the first key relates to the second.
 fn place_of(one: &Key, two: &Key) -> &'static [u8] {
     if one == two {
         b"the same"

@@ -1,4 +1,4 @@
-//! `rows_machine FILE ..`: rows of the machine in memory, which answers requests and makes turns as the product does.
+//! `rows_machine FILE ..`: rows of the reference model, which answers requests and makes turns as the product does.
 //!
 //! - `put PATH` puts a file of the image, of the lines below. `boot` reads the image, and begins a machine of the version 1.5.2 whose store was opened at a
 //!   boot, so that all is owed.

@@ -1,4 +1,4 @@
-//! Replies as they are shown, and replies of the server's own, which the machine in memory writes anew.
+//! Replies as they are shown, and replies of the server's own, which the reference model writes anew.
 ghost use Rattle.machine_answers.specs.Replies.{MayNest};
 
 use api_http::{Reply, print_answer};
@@ -9,7 +9,7 @@ use row_files::{bad, parts};
 use std::alloc::{AllocError, Global};
 use std::io;
 
-/// The status of the reply, and what stands behind its head.
+/// The status of the reply, and what is after its head.
 pub fn said(alloc: Global, reply: &Reply) -> Result<Vec<u8>, AllocError> {
     let text = str::from_utf8(reply.bytes()).unwrap_or("");
     let (_, body) = text.split_once("\r\n\r\n").unwrap_or((text, ""));

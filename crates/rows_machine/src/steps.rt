@@ -61,7 +61,7 @@ fn answer_of(how: &str) -> io::Result<TurnAnswer> {
     })
 }
 
-// Makes so many turns of a job, each of which comes to the same. Nothing is told of them.
+// Makes so many turns of a job, each of which comes to the same. It tells nothing of them.
 fn turns(alloc: Global, host: &mut Host, how: &str, count: u32) -> io::Result<Vec<u8>> {
     for _ in 0..count {
         host.turn(alloc, answer_of(how)?)?;
@@ -69,7 +69,7 @@ fn turns(alloc: Global, host: &mut Host, how: &str, count: u32) -> io::Result<Ve
     Ok(Vec::new(alloc))
 }
 
-// What is replied to the request with this method, and the path and the body behind it. `bad()` where it is not whole.
+// What is replied to the request with this method, and the path and the body after it. `bad()` where it is not whole.
 fn replied(alloc: Global, host: &mut Host, method: &str, rest: &str) -> io::Result<Reply> {
     let (path, body) = parts(rest);
     let length = body.len();

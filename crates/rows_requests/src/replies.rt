@@ -8,7 +8,7 @@ use settings_tree::TxName;
 use std::alloc::{AllocError, Global};
 use std::io;
 
-// The refusal of HTTP of the word, with what is told of it.
+// The refusal of HTTP of the word, with what is said of it.
 fn refusal_of(alloc: Global, word: &str, text: &str) -> io::Result<Refusal> {
     let told = Text::from_str(alloc, text)?;
     Ok(match (word, text) {
@@ -31,7 +31,7 @@ fn key_of(alloc: Global, text: &str) -> io::Result<Key> {
     Key::read(alloc, text.as_bytes()).ok().ok_or(bad())
 }
 
-// The refusal of the machine of the word, if it is one, with what is told of it.
+// The refusal of the machine of the word, if it is one, with what is said of it.
 fn refused(alloc: Global, word: &str, text: &str) -> io::Result<Option<Refused>> {
     Ok(Some(match word {
         "type" => {

@@ -6,7 +6,7 @@ use row_files::{Given, bad, parts};
 use std::alloc::Global;
 use std::{io, mem};
 
-/// How its programs end and answer, and which calls of its devices fail beside those of the disk.
+/// How its programs end and answer, and which calls of its devices fail besides those of the disk.
 #[derive(Clone, Drop)]
 pub struct Coming {
     // The exit statuses of programs that are run, and 0 after them. One without a status can't be run.

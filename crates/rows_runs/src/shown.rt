@@ -1,4 +1,4 @@
-//! What is told of a run.
+//! What is shown of a run.
 use disk_memory::{MemoryDoor, MemorySpawner};
 use row_disks::{push_line, text_of};
 use std::io;

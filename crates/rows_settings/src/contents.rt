@@ -1,4 +1,4 @@
-//! Contents: what stands where, and what may be put there.
+//! Contents: what is where, and what may be put there.
 use crate::lines::{self, key_of, keys_of, scalar_of};
 use key_names::{Key, Text};
 use row_files::parts;
@@ -18,7 +18,7 @@ pub fn tell(out: &mut String, content: &Content, word: &str, text: &str) -> io::
     Ok(())
 }
 
-// Tells what was taken, and whether something then stands there.
+// Tells what was taken, and whether something is there then.
 fn told(out: &mut String, taken: Option<Scalar>, left: Option<&Scalar>) -> Result<(), AllocError> {
     match taken {
         Some(taken) => {

@@ -27,7 +27,7 @@ pub fn user_data(out: &mut String, text: &[u8]) -> Result<(), AllocError> {
     }
 }
 
-// Types of which any text may stand at three keys.
+// Types by which any text may be at three keys.
 fn types(alloc: Global) -> io::Result<Types> {
     let mut rows = Vec::new(alloc);
     for key in ["settings.a", "settings.b", "settings.c.d"] {

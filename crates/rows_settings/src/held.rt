@@ -47,7 +47,7 @@ pub fn print(out: &mut String, held: &Held) -> Result<(), AllocError> {
     writeln!(out, "{}", held.print()?.as_str())
 }
 
-/// Holds the text, and tells a copy of it if that is to be told, or tells that it is none.
+/// Holds the text, and tells a copy of it if `is_told`, or tells that it is none.
 pub fn hold(
     out: &mut String,
     held: &mut Held,

@@ -1,4 +1,4 @@
-//! Keys and values that are read, and lines that are told of them.
+//! Keys and values that are read, and lines that tell of them.
 use json_trees::{Pending, Scalar};
 use key_names::{Key, Text, read_list};
 use row_files::bad;
@@ -21,7 +21,7 @@ pub fn scalar_of(alloc: Global, json: &str) -> io::Result<Scalar> {
     Scalar::of_json(alloc, json.as_bytes()).ok().ok_or(bad())
 }
 
-/// Tells a word, and the key with its value behind a `=`.
+/// Tells a word, and the key with its value after a `=`.
 pub fn pair(out: &mut String, word: &str, key: &Key, value: &Scalar) -> Result<(), AllocError> {
     let (key, value) = (key.print()?, value.print(*out.allocator())?);
     write!(out, "{word}{}={}", key.as_str(), value.as_str())

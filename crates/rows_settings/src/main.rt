@@ -7,7 +7,7 @@
 //! - `text TEXT` reads a held text, `held MEMBERS` that of the members, as `live:[["a",1]]`: both print a copy of it. `with MEMBERS` comes to nothing.
 //!   `print` prints what is held.
 //! - Of the live settings: `below KEY`, `put KEY JSON`, `take KEY`, `put-meta KEY NAME JSON`, `take-meta KEY NAME` and `may-be-weak KEYS`; `setting KEY` of
-//!   none. What is taken is told, and what then stands there.
+//!   none. What is taken is printed, and whether something is there then.
 //! - Of transactions: `transactions`, `pending NAME`, `put-pending NAME KEY JSON`, `take-pending NAME KEY`, `patch NAME PAIRS`, `commit NAME` and
 //!   `drop NAME`.
 //! - `words A|B` tells the command that the words between the bars spell, or `usage`.

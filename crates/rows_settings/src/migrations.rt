@@ -36,7 +36,7 @@ fn of_settings(alloc: Global, kind: &str, list: &str) -> io::Result<Migration> {
     })
 }
 
-// The migration of one key, of its kind and the words behind the key.
+// The migration of one key, of its kind and the words after the key.
 fn of_key(alloc: Global, kind: &str, key: Key, words: &[&str]) -> io::Result<Migration> {
     Ok(match (kind, words) {
         ("replace-string", [old, new]) => Migration::ReplaceString {

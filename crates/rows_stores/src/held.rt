@@ -18,14 +18,14 @@ fn held_of(alloc: Global, text: &[u8]) -> io::Result<Held> {
     held.ok().ok_or(bad())
 }
 
-// Whether the file may stand alone in a data directory.
+// Whether the file may be alone in a data directory.
 fn stands(alloc: Global, text: &[u8], bytes: &[u8]) -> io::Result<Vec<u8>> {
     let path = path_of(alloc, text)?;
     let taken = Found::new(alloc).read(alloc, path.names(), bytes.to_vec(alloc)?)?;
     line(alloc, &[if taken { "taken" } else { "refused" }])
 }
 
-/// What the data directory holds, behind its format, or why it holds nothing.
+/// What the data directory holds, after its format, or why it holds nothing.
 pub fn loaded(alloc: Global, disk: &mut MemoryDisk, dir: &Path) -> io::Result<Vec<u8>>
     requires { length dir.now ≡ 2 }
 {

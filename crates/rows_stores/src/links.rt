@@ -7,7 +7,7 @@ use std::alloc::Global;
 use std::io;
 use version_links::{LinkError, Names, Version, directory_of, flip, fresh_dir, resolve};
 
-// Where the links lead, and the version that is told by it.
+// Where the links lead, and the version that this tells.
 fn leads(alloc: Global, disk: &mut MemoryDisk) -> io::Result<Vec<u8>> {
     match resolve(alloc, disk) {
         Ok(Some(place)) => {

@@ -43,7 +43,7 @@ fn refused(alloc: Global, error: &OpenError) -> io::Result<Vec<u8>> {
     }
 }
 
-// The version, the data directory, and whether what is held stands there, read on a copy of the disk, and has the text of the image that was read.
+// The version, the data directory, and whether what is held is there, read on a copy of the disk, and has the text of the image that was read.
 fn told(alloc: Global, disk: &MemoryDisk, opened: &Opened) -> io::Result<Vec<u8>> {
     let version = format!(in alloc; "open {}", opened.place.version)?;
     let mut told = at(alloc, version.as_str(), &opened.place.directory)?;

@@ -76,6 +76,7 @@ fn print(out: &mut Vec<u8>, expr: &Expr) -> Result<(), AllocError> {
         Expr::Plain { .. } => {}
         Expr::Default { literal: it, .. } => literal(out, it)?,
         Expr::Decode { .. } => out.extend_from_slice(b"decode ")?,
+        Expr::Json { .. } => out.extend_from_slice(b"json ")?,
         Expr::JoinArray { joiner, .. } => {
             out.extend_from_slice(b"array ")?;
             quoted(out, joiner.as_str())?;
@@ -125,7 +126,7 @@ fn open<'a>(parts: &mut Vec<Part<'a>>, node: &'a Node) -> Result<(), AllocError>
     Ok(parts.push(Part::Nodes(first.as_slice()))?)
 }
 
-// Adds a part, and to the parts those of its first node and the nodes behind that.
+// Adds a part, and to the parts those of its first node and the nodes after that.
 fn push_part<'a>(
     out: &mut Vec<u8>,
     source: &[u8],

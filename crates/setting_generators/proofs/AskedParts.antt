@@ -1,5 +1,8 @@
 -- Generators that are asked, one after another.
-use Rattle.std.proofs.Common.{le-leb, ◌≡◌, ◌≢◌, ◌≤◌, ◌<◌, ◌⊎◌, ◌+◌, ◌++◌, ◌==◌, ℕ, List, [], ◌∷◌, map, length, nat_le, take, drop, get_or, Bool, true, false, not, cond, String, Global, Option, Some, None, is_some, Bor, Result, Ok, Err, ok_or, if◌then◌else◌, inl, inr, append_assoc, append-nil, refl, sym, ap, ◌∙◌, subst, arith}
+use Rattle.std.proofs.Common.{le-leb, ◌≡◌, ◌≢◌, ◌≤◌, ◌<◌, ◌⊎◌, ◌+◌, ◌++◌, ◌==◌, ℕ, List}
+use Rattle.std.proofs.Common.{[], ◌∷◌, map, length, nat_le, take, drop, get_or, Bool, true, false, not}
+use Rattle.std.proofs.Common.{cond, String, Global, Option, Some, None, is_some, Bor, Result, Ok, Err}
+use Rattle.std.proofs.Common.{ok_or, if◌then◌else◌, inl, inr, append_assoc, append-nil, refl, sym, ap, ◌∙◌, subst, arith}
 use Rattle.std.specs.FinMap.{contains_key, get}
 use Rattle.std.specs.Option.{option_copied}
 use Rattle.std.specs.Result.{IfOk, IfErr, result_ok}
@@ -19,7 +22,8 @@ use Rattle.outside.specs.declared.spawner.AskErr.{AskErr}
 use Rattle.outside.proofs.Told.{moves_map, moves_then}
 use Rattle.settings_tree.specs.Content.{Contents}
 use Rattle.setting_generators.specs.Generators.{Path, Given, seen}
-use Rattle.setting_generators.specs.Asking.{Generated, wanted, most_output, output_value, answer_value, question, with_pair, AreAsked, Asks, FailsBy, AsksOne, Appends}
+use Rattle.setting_generators.specs.Asking.{Generated, wanted, most_output, output_value, answer_value, question}
+use Rattle.setting_generators.specs.Asking.{with_pair, AreAsked, Asks, FailsBy, AsksOne, Appends}
 use Rattle.setting_generators.specs.declared.generator.Generator.{Generator}
 use Rattle.setting_generators.specs.declared.generate_error.GenerateError.{GenerateError}
 use Rattle.setting_generators.specs.declared.generate_error.GenerateError.TheVariants.{Failed, Status, BadOutput, Memory}
@@ -27,16 +31,19 @@ use Rattle.setting_generators.specs.declared.generate_error.GenerateError.TheVar
 -- ---- one answer
 
 -- An output that is too long.
-pub too_long : (key : Path) (output : List ℕ) (e : GenerateError) → most_output < length output → (e ≡ BadOutput key) ⊎ (e ≡ Memory) → e ≢ Memory → output_value key output ≡ Err e
+pub too_long : (key : Path) (output : List ℕ) (e : GenerateError) → most_output < length output → (e ≡ BadOutput key) ⊎ (e ≡ Memory) → e ≢ Memory
+    → output_value key output ≡ Err e
 too_long key output e long (inl bad) some = rw (lt-leb (length output) most_output long) (ap Err (sym bad))
 too_long key output e long (inr memory) some = absurd (some memory)
 
 -- An output that is a scalar.
-pub output_read : (key : Path) (output : List ℕ) (value : Scalar) → length output ≤ most_output → scalar_read output ≡ Ok value → output_value key output ≡ Ok value
+pub output_read : (key : Path) (output : List ℕ) (value : Scalar) → length output ≤ most_output → scalar_read output ≡ Ok value
+    → output_value key output ≡ Ok value
 output_read key output value short read = rw (le-leb (length output) most_output short, read) refl
 
 -- Another.
-pub output_refused : (key : Path) (output : List ℕ) (error : ScalarError) (e : GenerateError) → length output ≤ most_output → (error ≢ scalar_error.Memory → scalar_read output ≡ Err error) → (e ≡ Memory) ⊎ ((e ≡ BadOutput key) × (error ≢ scalar_error.Memory)) → e ≢ Memory
+pub output_refused : (key : Path) (output : List ℕ) (error : ScalarError) (e : GenerateError) → length output ≤ most_output
+    → (error ≢ scalar_error.Memory → scalar_read output ≡ Err error) → (e ≡ Memory) ⊎ ((e ≡ BadOutput key) × (error ≢ scalar_error.Memory)) → e ≢ Memory
     → output_value key output ≡ Err e
 output_refused key output error e short read (inl memory) some = absurd (some memory)
 output_refused key output error e short read (inr bad) some = rw (le-leb (length output) most_output short, read bad.1) (ap Err (sym bad.0))
@@ -54,8 +61,9 @@ never_failed key k status output = by (status == 0)
     by true is = from_output key k (result_ok (scalar_read output)) (nat_le (length output) most_output) is
     by false is = cc
 
--- What a call answers is the value, or memory was wanting.
-pub value_or_memory : (r value : Result Scalar GenerateError) → IfOk r (λ v. value ≡ Ok v) → IfErr r (λ e. e ≢ Memory → value ≡ Err e) → (r ≡ value) ⊎ (r ≡ Err Memory)
+-- What a call answers is the value, or it ran out of memory.
+pub value_or_memory : (r value : Result Scalar GenerateError) → IfOk r (λ v. value ≡ Ok v) → IfErr r (λ e. e ≢ Memory → value ≡ Err e)
+    → (r ≡ value) ⊎ (r ≡ Err Memory)
 value_or_memory (Ok v) value ok refused = inl (sym ok)
 value_or_memory (Err (Failed k)) value ok refused = inl (sym (refused (λ same. cc)))
 value_or_memory (Err (Status k n)) value ok refused = inl (sym (refused (λ same. cc)))
@@ -66,10 +74,13 @@ value_or_memory (Err Memory) value ok refused = inr refl
 
 module _ (g : Generator) (before after : Option (List Question)) (r : Result Scalar GenerateError) where
   -- It was answered.
-  pub answered : (words : List (String Global)) (answer : Answer) → words ≡ g.words.items → Moves before after (Answers {E = AskErr} (texts words) [] (Ok answer)) → (r ≡ answer_value g.key answer.status answer.output.items) ⊎ (r ≡ Err Memory) → AsksOne (seen g) before after r
+  pub answered : (words : List (String Global)) (answer : Answer) → words ≡ g.words.items
+      → Moves before after (Answers {E = AskErr} (texts words) [] (Ok answer)) → (r ≡ answer_value g.key answer.status answer.output.items) ⊎ (r ≡ Err Memory)
+      → AsksOne (seen g) before after r
   answered words answer same asked value = record {
     questions = question (seen g) answer.status answer.output.items ∷ [];
-    told = moves_map (λ old new is. is ∙ ap (λ (w : List (String Global)). old ++ record { words = texts w; input = []; status = answer.status; output = answer.output.items } ∷ []) same) asked;
+    told = moves_map (λ old new is. is ∙ ap (λ (w : List (String Global)). old
+        ++ record { words = texts w; input = []; status = answer.status; output = answer.output.items } ∷ []) same) asked;
     is = inl (record { status = answer.status; output = answer.output.items; asked = refl; value_is = value });
   }
 
@@ -82,7 +93,8 @@ module _ (g : Generator) (before after : Option (List Question)) (r : Result Sca
   }
 
 -- An answer leaves the count.
-pub answer_kept : (before now : ℕ) (key : Path) (status : ℕ) (output : List ℕ) (r : Result Scalar GenerateError) → now ≡ before → (r ≡ answer_value key status output) ⊎ (r ≡ Err Memory) → FailsBy before now r
+pub answer_kept : (before now : ℕ) (key : Path) (status : ℕ) (output : List ℕ) (r : Result Scalar GenerateError) → now ≡ before
+    → (r ≡ answer_value key status output) ⊎ (r ≡ Err Memory) → FailsBy before now r
 answer_kept before now key status output r same value = record {
   later = omega (arith, same);
   failed = λ k is. absurd (none k value is);
@@ -128,26 +140,44 @@ wanted_one live g none = ap (λ b. cond (not b) (g ∷ []) []) none
 
 module _ (live : Contents) (g : Generator) (before after : Option (List Question)) (none : is_some (get live.values g.key) ≡ false) where
   -- It gives none.
-  pub refused_one : (ps : List (Path × Scalar)) (e : GenerateError) → AsksOne (seen g) before after (Err e) → Appends (wanted live (seen g ∷ [])) before after ps ps (Err e)
+  pub refused_one : (ps : List (Path × Scalar)) (e : GenerateError) → AsksOne (seen g) before after (Err e)
+      → Appends (wanted live (seen g ∷ [])) before after ps ps (Err e)
   refused_one ps e one =
-      rw (wanted_one live (seen g) none) (record { questions = one.questions; told = one.told; is = inr (record { error = e; refused = one.is; generated_is = refl }) })
+      rw (wanted_one live (seen g) none) (record {
+        questions = one.questions;
+        told = one.told;
+        is =
+            inr (record { error = e; refused = one.is; generated_is = refl });
+      })
 
   -- It gives one.
-  pub pushed_one : (ps more : List (Path × Scalar)) (key : Path) (v : Scalar) → AsksOne (seen g) before after (Ok v) → key ≡ g.key → more ≡ ps ++ (key, v) ∷ [] → Appends (wanted live (seen g ∷ [])) before after ps more (Ok tt)
+  pub pushed_one : (ps more : List (Path × Scalar)) (key : Path) (v : Scalar) → AsksOne (seen g) before after (Ok v) → key ≡ g.key → more ≡ ps ++ (key, v) ∷ []
+      → Appends (wanted live (seen g ∷ [])) before after ps more (Ok tt)
   pushed_one ps more key v one same pushed =
       rw (wanted_one live (seen g) none) (record {
         questions = one.questions;
         told = one.told;
         is = (
           (g.key, v) ∷ [],
-          inl (record { first = one.questions; value = v; answered = one.is; others = []; rest = Ok []; goes_on = (refl, refl); asked = sym (append-nil one.questions); generated_is = refl }),
+          inl (record {
+            first = one.questions;
+            value = v;
+            answered = one.is;
+            others = [];
+            rest = Ok [];
+            goes_on = (refl, refl);
+            asked =
+                sym (append-nil one.questions);
+            generated_is = refl;
+          }),
           pushed ∙ ap (λ (k : Path). ps ++ (k, v) ∷ []) same,
         );
       })
 
 -- ---- one after the other
 
-rest_of : (key : Path) (v : Scalar) (found : List (Path × Scalar)) (rest : Generated) → Ok found ≡ with_pair key v rest → (ps : List (Path × Scalar)) × (rest ≡ Ok ps) × (found ≡ (key, v) ∷ ps)
+rest_of : (key : Path) (v : Scalar) (found : List (Path × Scalar)) (rest : Generated) → Ok found ≡ with_pair key v rest
+    → (ps : List (Path × Scalar)) × (rest ≡ Ok ps) × (found ≡ (key, v) ∷ ps)
 rest_of key v found (Ok ps) is = (ps, refl, cc)
 rest_of key v found (Err e) is = absurd (cc)
 
@@ -168,8 +198,9 @@ unfolding behind
 behind_one key v found (Ok ps) = refl
 behind_one key v found (Err e) = refl
 
--- Generators were asked behind others that gave their values.
-both : (xs ys : List Given) (questions more : List Question) (found : List (Path × Scalar)) (o : Generated) → AreAsked xs questions (Ok found) → AreAsked ys more o → AreAsked (xs ++ ys) (questions ++ more) (behind found o)
+-- Generators were asked after others that gave their values.
+both : (xs ys : List Given) (questions more : List Question) (found : List (Path × Scalar)) (o : Generated) → AreAsked xs questions (Ok found)
+    → AreAsked ys more o → AreAsked (xs ++ ys) (questions ++ more) (behind found o)
 both [] ys questions more found o one two =
     let none : found ≡ [] = let same = one.1 in cc in
     rw (one.0, none) (subst (AreAsked ys more) (behind_none o) two)
@@ -187,7 +218,7 @@ both (x ∷ xs) ys questions more found o (inl one) two =
     })
 both (x ∷ xs) ys questions more found o (inr one) two = let clash = one.generated_is in absurd (cc)
 
--- Behind a refusal no other is asked.
+-- After a refusal no other is asked.
 stopped : (xs ys : List Given) (questions : List Question) (e : GenerateError) → AreAsked xs questions (Err e) → AreAsked (xs ++ ys) questions (Err e)
 stopped [] ys questions e one = let clash = one.1 in absurd (cc)
 stopped (x ∷ xs) ys questions e (inl one) =
@@ -207,7 +238,8 @@ stopped (x ∷ xs) ys questions e (inr one) = inr one
 joined : (a b c : List Question) (qs rs : List Question) → b ≡ a ++ qs → c ≡ b ++ rs → c ≡ a ++ (qs ++ rs)
 joined a b c qs rs one two = two ∙ ap (λ (l : List Question). l ++ rs) one ∙ append_assoc a qs rs
 
-module _ (live : Contents) (xs : List Generator) (i : ℕ) (x : Generator) (a b c : Option (List Question)) (ps : List (Path × Scalar)) (within : i < length xs) (is : x ≡ get_or xs i x)
+module _ (live : Contents) (xs : List Generator) (i : ℕ) (x : Generator) (a b c : Option (List Question)) (ps : List (Path × Scalar)) (within : i < length xs)
+    (is : x ≡ get_or xs i x)
     (so_far : Asks (wanted live (map seen (take i xs))) a b (Ok ps)) where
   grown : wanted live (map seen (take (i + 1) xs)) ≡ wanted live (map seen (take i xs)) ++ wanted live (seen x ∷ [])
   grown =
@@ -215,16 +247,19 @@ module _ (live : Contents) (xs : List Generator) (i : ℕ) (x : Generator) (a b 
       ∙ ap (wanted live) (map-append seen (take i xs) (x ∷ [])) ∙ filter-append (λ g. not (contains_key live.values g.0)) (map seen (take i xs)) (seen x ∷ [])
 
   -- One more was asked, or passed over.
-  pub asked_more : (qs : List (Path × Scalar)) → Appends (wanted live (seen x ∷ [])) b c ps qs (Ok tt) → Asks (wanted live (map seen (take (i + 1) xs))) a c (Ok qs)
+  pub asked_more : (qs : List (Path × Scalar)) → Appends (wanted live (seen x ∷ [])) b c ps qs (Ok tt)
+      → Asks (wanted live (map seen (take (i + 1) xs))) a c (Ok qs)
   unfolding behind
   asked_more qs one = record {
     questions = so_far.questions ++ one.questions;
     told = moves_then (λ old new now h k. joined old new now so_far.questions one.questions h k) so_far.told one.told;
-    outcome = rw (grown, one.is.2) (both (wanted live (map seen (take i xs))) (wanted live (seen x ∷ [])) so_far.questions one.questions ps (Ok one.is.0) so_far.outcome one.is.1);
+    outcome = rw (grown, one.is.2) (both (wanted live (map seen (take i xs))) (wanted live (seen x ∷ [])) so_far.questions one.questions ps (Ok one.is.0)
+        so_far.outcome one.is.1);
   }
 
   -- The next one gave none.
-  asked_last : (qs : List (Path × Scalar)) (e : GenerateError) → Appends (wanted live (seen x ∷ [])) b c ps qs (Err e) → Asks (wanted live (map seen xs)) a c (Err e)
+  asked_last : (qs : List (Path × Scalar)) (e : GenerateError) → Appends (wanted live (seen x ∷ [])) b c ps qs (Err e)
+      → Asks (wanted live (map seen xs)) a c (Err e)
   unfolding behind
   asked_last qs e one = record {
     questions = so_far.questions ++ one.questions;
@@ -233,14 +268,17 @@ module _ (live : Contents) (xs : List Generator) (i : ℕ) (x : Generator) (a b 
         let upto : AreAsked (wanted live (map seen (take (i + 1) xs))) (so_far.questions ++ one.questions) (Err e) =
         rw grown (both (wanted live (map seen (take i xs))) (wanted live (seen x ∷ [])) so_far.questions one.questions ps (Err e) so_far.outcome one.is) in
         subst (λ (l : List Given). AreAsked l (so_far.questions ++ one.questions) (Err e))
-        (sym (filter-append (λ g. not (contains_key live.values g.0)) (map seen (take (i + 1) xs)) (map seen (drop (i + 1) xs))) ∙ ap (wanted live) (sym (map-append seen (take (i + 1) xs) (drop (i + 1) xs)) ∙ ap (map seen) (take-append-drop (i + 1) xs)))
+        (sym (filter-append (λ g. not (contains_key live.values g.0)) (map seen (take (i + 1) xs)) (map seen (drop (i + 1) xs)))
+        ∙ ap (wanted live) (sym (map-append seen (take (i + 1) xs) (drop (i + 1) xs)) ∙ ap (map seen) (take-append-drop (i + 1) xs)))
         (stopped (wanted live (map seen (take (i + 1) xs))) (wanted live (map seen (drop (i + 1) xs))) (so_far.questions ++ one.questions) e upto);
   }
 
 -- So it is of all generators.
-pub all_refused : (live : Contents) (xs : List Generator) (whole : List Given) (i : ℕ) (x : Generator) (a b c : Option (List Question)) (ps qs : List (Path × Scalar)) (e : GenerateError) → i < length xs → x ≡ get_or xs i x → map seen xs ≡ whole
+pub all_refused : (live : Contents) (xs : List Generator) (whole : List Given) (i : ℕ) (x : Generator) (a b c : Option (List Question))
+    (ps qs : List (Path × Scalar)) (e : GenerateError) → i < length xs → x ≡ get_or xs i x → map seen xs ≡ whole
     → Asks (wanted live (map seen (take i xs))) a b (Ok ps) → Appends (wanted live (seen x ∷ [])) b c ps qs (Err e) → Asks (wanted live whole) a c (Err e)
-all_refused live xs whole i x a b c ps qs e within is all so_far one = subst (λ (l : List Given). Asks (wanted live l) a c (Err e)) all (asked_last live xs i x a b c ps within is so_far qs e one)
+all_refused live xs whole i x a b c ps qs e within is all so_far one =
+    subst (λ (l : List Given). Asks (wanted live l) a c (Err e)) all (asked_last live xs i x a b c ps within is so_far qs e one)
 
 -- At first none was asked.
 pub none_asked : (told : Option (List Question)) (ps : List (Path × Scalar)) → ps ≡ [] → Moves told told (λ old new. new ≡ old) → Asks [] told told (Ok ps)

@@ -1,4 +1,4 @@
--- Lists that have the same keys, so that the same keys are new behind them.
+-- Lists that have the same keys, so that the same keys are new after them.
 use Rattle.std.proofs.Common.{◌≡◌, ◌||◌, ◌++◌, ℕ, List, [], ◌∷◌, Bool, true, false, cond, refl, sym, ap, ◌∙◌}
 use Rattle.std.specs.BTreeSet as tree
 use Rattle.std.specs.List.{list_any}
@@ -14,7 +14,7 @@ use Rattle.setting_generators.specs.declared.generators_error.GeneratorsKind.{Ge
 abbrev pub IsSame : List Path → List Path → Type 0
 IsSame one other = (q : Path) → list_any (eq_by_cmp key_cmp q) one ≡ list_any (eq_by_cmp key_cmp q) other
 
--- What is new behind the one list is new behind the other.
+-- What is new after the one list is new after the other.
 pub same_new : (one other : List Path) → IsSame one other → (text : List ℕ) (key : Path) → SpellsNew one text key → SpellsNew other text key
 same_new one other same text key own = record { spelled = own.spelled; begins = own.begins; new = sym (same key) ∙ own.new }
 

@@ -34,27 +34,35 @@ flips x y = by (key_cmp y x) (key_total.antisymm x y)
     by Equal is = ap is_eq is
     by Greater is = ap is_eq is
 
-all_above : (g : Generator) (gs : List Generator) → ((j : ℕ) (d : Generator) → j < length gs → is_lt (key_cmp (get_or gs j d).key g.key) ≡ false) → AllByRecursion (λ k. eq_by_cmp key_cmp g.key k ≡ false) (keys_of (map seen gs))
+all_above : (g : Generator) (gs : List Generator) → ((j : ℕ) (d : Generator) → j < length gs → is_lt (key_cmp (get_or gs j d).key g.key) ≡ false)
+    → AllByRecursion (λ k. eq_by_cmp key_cmp g.key k ≡ false) (keys_of (map seen gs))
     → AllByRecursion (λ k. key_cmp g.key k ≡ Less) (keys_of (map seen gs))
 all_above g [] far none = tt
-all_above g (h ∷ gs) far none =
-    (less_is (key_cmp g.key h.key) (ap is_lt (sym (key_total.antisymm h.key g.key)) ∙ far 0 h (omega arith)) none.0, all_above g gs (λ j d within. far (suc j) d (omega (arith, within))) none.1)
+all_above g (h ∷ gs) far none = (
+  less_is (key_cmp g.key h.key) (ap is_lt (sym (key_total.antisymm h.key g.key)) ∙ far 0 h (omega arith)) none.0,
+  all_above g gs
+      (λ j d within. far (suc j) d (omega (arith, within))) none.1,
+)
 
 rises : (gs : List Generator) → IsSortedBy before gs → IsDistinct (eq_by_cmp key_cmp) (keys_of (map seen gs)) → IsRising (map seen gs)
 unfolding IsStrictlySortedBy
 rises [] sorted distinct = tt
 rises (g ∷ gs) sorted distinct = (
-  all_above g gs (λ j d within. sorted_far before ranked (g ∷ gs) sorted 0 (suc j) d (omega arith) (omega (arith, within))) (IsDistinct-head (eq_by_cmp key_cmp) g.key (keys_of (map seen gs)) distinct),
-  rises gs (λ k d low within. next k d (sorted (suc k) d (omega arith) (omega (arith, within)))) (IsDistinct-tail (eq_by_cmp key_cmp) g.key (keys_of (map seen gs)) distinct),
+  all_above g gs (λ j d within. sorted_far before ranked (g ∷ gs) sorted 0 (suc j) d (omega arith) (omega (arith, within)))
+      (IsDistinct-head (eq_by_cmp key_cmp) g.key (keys_of (map seen gs)) distinct),
+  rises gs (λ k d low within. next k d (sorted (suc k) d (omega arith) (omega (arith, within))))
+      (IsDistinct-tail (eq_by_cmp key_cmp) g.key (keys_of (map seen gs)) distinct),
 )
   where
     next : (k : ℕ) (d : Generator) → before (get_or (g ∷ gs) (suc k + 1) d) (get_or gs k d) ≡ false → before (get_or gs (k + 1) d) (get_or gs k d) ≡ false
     next k d is = let place : suc k + 1 ≡ suc (k + 1) = omega arith in subst (λ (n : ℕ). before (get_or (g ∷ gs) n d) (get_or gs k d) ≡ false) place is
 
 -- Sorted by their keys, which differ, generators rise.
-pub sorted_rise : (listed sorted : List Generator) → IsDistinct (eq_by_cmp key_cmp) (keys_of (map seen listed)) → IsPermutation listed sorted → IsSortedBy (λ (g h : Generator). is_lt (key_cmp g.key h.key)) sorted → IsRising (map seen sorted)
+pub sorted_rise : (listed sorted : List Generator) → IsDistinct (eq_by_cmp key_cmp) (keys_of (map seen listed)) → IsPermutation listed sorted
+    → IsSortedBy (λ (g h : Generator). is_lt (key_cmp g.key h.key)) sorted → IsRising (map seen sorted)
 sorted_rise listed sorted distinct moved is =
-    rises sorted is (IsDistinct-IsPermutation (eq_by_cmp key_cmp) flips (keys_of (map seen listed)) (keys_of (map seen sorted)) (IsPermutation-map (λ (x : Given). x.0) (map seen listed) (map seen sorted) (IsPermutation-map seen listed sorted moved)) distinct)
+    rises sorted is (IsDistinct-IsPermutation (eq_by_cmp key_cmp) flips (keys_of (map seen listed)) (keys_of (map seen sorted))
+    (IsPermutation-map (λ (x : Given). x.0) (map seen listed) (map seen sorted) (IsPermutation-map seen listed sorted moved)) distinct)
 
 -- So are they as pairs.
 pub seen_moved : (listed sorted : List Generator) → IsPermutation listed sorted → IsPermutation (map seen listed) (map seen sorted)

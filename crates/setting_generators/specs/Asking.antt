@@ -39,14 +39,14 @@ answer_value key status output = if status == 0 then output_value key output els
 abbrev pub question : Given → ℕ → List ℕ → Question
 question generator status output = record { words = generator.1; input = []; status = status; output = output }
 
--- The generator was asked and answered: that is the one question, and the value is what the answer gives, unless memory was wanting.
+-- The generator was asked and answered: that is the one question, and the value is what the answer gives, unless it ran out of memory.
 pub record IsAnswered (generator : Given) (questions : List Question) (value : Result Scalar GenerateError) : Type 0 where
   pub status : ℕ
   pub output : List ℕ
   pub asked : questions ≡ question generator status output ∷ []
   pub value_is : (value ≡ answer_value generator.0 status output) ⊎ (value ≡ Err Memory)
 
--- The generator was not answered: its program failed, or memory was wanting.
+-- The generator was not answered: its program failed, or it ran out of memory.
 pub record IsUnanswered (generator : Given) (questions : List Question) (value : Result Scalar GenerateError) : Type 0 where
   pub asked : questions ≡ []
   pub value_is : (value ≡ Err (Failed generator.0)) ⊎ (value ≡ Err Memory)
@@ -61,7 +61,7 @@ IsAsked generator questions value = IsAnswered generator questions value ⊎ IsU
 abbrev pub with_pair : Path → Scalar → Generated → Generated
 with_pair key value generated = result_map (λ pairs. (key, value) ∷ pairs) generated
 
--- The first generator gives a value, and so on with those behind it.
+-- The first generator gives a value, and so on with those after it.
 pub record GoesOn (Rest : List Question → Generated → Type 0) (generator : Given) (questions : List Question) (generated : Generated) : Type 0 where
   pub first : List Question
   pub value : Scalar
@@ -109,7 +109,8 @@ AppendsBy generators questions old new (Ok done) = (found : List (Path × Scalar
 AppendsBy generators questions old new (Err e) = AreAsked generators questions (Err e)
 
 -- So they were, and where the spawner tells what it was asked, it was asked that more.
-pub record Appends (generators : List Given) (before after : Option (List Question)) (old new : List (Path × Scalar)) (result : Result Unit GenerateError) : Type 0 where
+pub record Appends (generators : List Given) (before after : Option (List Question)) (old new : List (Path × Scalar))
+    (result : Result Unit GenerateError) : Type 0 where
   pub questions : List Question
   pub told : Moves before after (λ told more. more ≡ told ++ questions)
   pub is : AppendsBy generators questions old new result

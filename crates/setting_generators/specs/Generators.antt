@@ -18,6 +18,6 @@ Given = Path × List (List ℕ)
 abbrev pub seen : Generator → Given
 seen g = (g.key, texts g.words.items)
 
--- Each key is below those behind it.
+-- Each key is below those after it.
 abbrev pub IsRising : List Given → Type 0
 IsRising generators = IsStrictlySortedBy key_cmp (keys_of generators)

@@ -43,14 +43,14 @@ pub record SpellsNew (keys : List Path) (text : List ℕ) (key : Path) : Type 0 
 abbrev pub command_of : Data → List (List ℕ)
 command_of value = unwrap_or (option_map words_in (text_of value)) []
 
--- Behind entries of these keys the entry is this generator: its name spells a new key that some row of the types matches, and its text has a word.
+-- After entries of these keys the entry is this generator: its name spells a new key that some row of the types matches, and its text has a word.
 pub record IsGenerator (table : List Row) (keys : List Path) (entry : Entry) (generator : Given) : Type 0 where
   pub key : SpellsNew keys entry.0 generator.0
   pub known : IsKnown table generator.0
   pub words : generator.1 ≡ command_of entry.1
   pub some : 0 < length generator.1
 
--- Behind entries of these keys the entry is none, for this cause.
+-- After entries of these keys the entry is none, for this cause.
 pub data IsBad (table : List Row) (keys : List Path) (entry : Entry) : GeneratorsKind → Type 0 where
   -- The name spells no new key.
   no_key : ((key : Path) → SpellsNew keys entry.0 key → ⊥) → IsBad table keys entry BadKey
@@ -65,7 +65,7 @@ pub data IsBad (table : List Row) (keys : List Path) (entry : Entry) : Generator
 abbrev pub with_first : Given → Outcome → Outcome
 with_first generator outcome = result_map (λ generators. generator ∷ generators) outcome
 
--- The first entry is this generator, and so on with those behind it.
+-- The first entry is this generator, and so on with those after it.
 pub record GoesOn (Rest : List Path → Outcome → Type 0) (table : List Row) (keys : List Path) (entry : Entry) (outcome : Outcome) : Type 0 where
   pub generator : Given
   pub is : IsGenerator table keys entry generator
@@ -79,14 +79,14 @@ pub record Stops (table : List Row) (keys : List Path) (entry : Entry) (outcome 
   pub bad : IsBad table keys entry kind
   pub outcome_is : outcome ≡ Err (fault_at kind entry.0)
 
--- Behind entries of these keys the entries are read to this outcome: one generator for each, or the fault of the first that is none.
+-- After entries of these keys the entries are read to this outcome: one generator for each, or the fault of the first that is none.
 abbrev pub Reads : List Row → List Path → List Entry → Outcome → Type 0
 Reads table keys [] outcome = outcome ≡ Ok []
 Reads table keys (entry ∷ entries) outcome = GoesOn (λ more rest. Reads table more entries rest) table keys entry outcome ⊎ Stops table keys entry outcome
 
 -- ---- the text
 
--- Beside these types the text spells the generators: those of the entries of its table, in the order of their keys.
+-- With these types the text spells the generators: those of the entries of its table, in the order of their keys.
 pub record Spells (table : List Row) (text : List ℕ) (generators : List Given) : Type 0 where
   pub document : Members
   pub read : table_of text ≡ Some document
@@ -100,6 +100,6 @@ abbrev pub HasFault : List Row → Option Members → GeneratorsError → Type 0
 HasFault table None fault = fault ≡ fault_at NotToml (codes "-")
 HasFault table (Some document) fault = Reads table [] (named document) (Err fault)
 
--- Beside these types the text has this fault: it is no TOML, or else the first of its entries that is no generator is of this kind and name.
+-- With these types the text has this fault: it is no TOML, or else the first of its entries that is no generator is of this kind and name.
 abbrev pub IsFault : List Row → List ℕ → GeneratorsKind → List ℕ → Type 0
 IsFault table text kind at = HasFault table (table_of text) (fault_at kind at)

@@ -28,7 +28,8 @@ fn has_key(keys: &BTreeSet<Key>, key: &Key) -> bool
 
 // The key that the name spells, None exactly where it spells none that begins with `settings` and is new.
 fn new_key(alloc: Global, before: &BTreeSet<Key>, name: &str) -> Result<Option<Key>, AllocError>
-    ensures { IfOk result (λ found. MatchOption found ((key : List (List ℕ)) → SpellsNew before.now.keys name.now key → ⊥) (SpellsNew before.now.keys name.now)) }
+    ensures { IfOk result (λ found. MatchOption found ((key : List (List ℕ)) → SpellsNew before.now.keys name.now key → ⊥)
+        (SpellsNew before.now.keys name.now)) }
 {
     match Key::read(alloc, name.as_bytes()) {
         Ok(key) => {
@@ -55,7 +56,7 @@ fn command_of(alloc: Global, value: &Value) -> Result<Vec<String>, AllocError>
     }
 }
 
-/// The generator that the entry of this name is, behind entries of these keys.
+/// The generator that the entry of this name is, after entries of these keys.
 pub fn generator_of(
     alloc: Global,
     types: &Types,

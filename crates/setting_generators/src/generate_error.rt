@@ -23,7 +23,7 @@ pub enum GenerateError {
         /// The key.
         key: Key,
     },
-    /// Memory was wanting.
+    /// It ran out of memory.
     Memory,
 }
 

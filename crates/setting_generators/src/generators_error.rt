@@ -2,7 +2,7 @@
 
 use key_names::Text;
 
-/// What is wrong with a generators file, or that memory was wanting.
+/// What is wrong with a generators file, or that it ran out of memory.
 #[derive(Clone, Copy, Debug, Drop, PartialEq, Eq)]
 pub enum GeneratorsKind {
     /// The text is no TOML. It is at `-`.
@@ -13,7 +13,7 @@ pub enum GeneratorsKind {
     IllTyped,
     /// An entry is no text, or none with a word between its spaces.
     BadCommand,
-    /// Memory was wanting. It is at the empty text.
+    /// It ran out of memory. It is at the empty text.
     Memory,
 }
 

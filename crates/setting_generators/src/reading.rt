@@ -16,7 +16,7 @@ use toml_values::table_of;
 use typed_settings::Types;
 
 impl Generators {
-    /// The generators that a text spells, beside these types. Each entry has a name that spells a key, and a text whose words
+    /// The generators that a text spells, with these types. Each entry has a name that spells a key, and a text whose words
     /// are the command's.
     ///
     /// The first fault is answered, at the entry's name: `NotToml` at `-` where `toml` doesn't read the text; and then, for

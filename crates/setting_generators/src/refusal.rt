@@ -6,12 +6,12 @@ use crate::GeneratorsKind;
 use key_names::Text;
 use std::alloc::{AllocError, AllocFailed, Global};
 
-/// A fault and where it is, or want of memory.
+/// A fault and where it is, or out of memory.
 #[derive(Debug, Drop)]
 pub enum Refusal {
     /// The fault of this kind, at this name.
     Fault(GeneratorsKind, Text),
-    /// Memory was wanting.
+    /// It ran out of memory.
     Memory,
 }
 

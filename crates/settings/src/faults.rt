@@ -45,7 +45,7 @@ fn toml_fault(alloc: Global, file: &str, text: &[u8]) -> Result<Option<String>, 
     }
 }
 
-// What stands before the first line that is `+++`, or the whole text.
+// What is before the first line that is `+++`, or the whole text.
 fn front_of(text: &[u8]) -> &[u8] {
     let mut count = 0usize;
     for line in text.split(|byte| *byte == b'\n') {

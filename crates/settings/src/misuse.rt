@@ -32,7 +32,7 @@ fn spell(alloc: Global, command: &str, word: &str) -> Result<bool, AllocError> {
     }
 }
 
-// What stands before the first `=` outside double quotes.
+// What is before the first `=` outside double quotes.
 fn key_of(word: &str) -> Option<&str> {
     let mut closed = true;
     for (place, byte) in word.as_bytes().iter().enumerate() {
@@ -77,7 +77,7 @@ fn wrong_word(
     }
 }
 
-// The words that a command takes behind its own.
+// The words that a command takes after its own.
 fn wanted_by(command: &str) -> &'static str {
     match command {
         "init" => "--version V, three numbers as 1.5.2",
@@ -91,7 +91,7 @@ fn wanted_by(command: &str) -> &'static str {
     }
 }
 
-// The first word behind the command that is at fault by itself, with what is wrong, as a line.
+// The first word after the command that is at fault by itself, with what is wrong, as a line.
 fn fault_of_each(
     alloc: Global,
     command: &str,

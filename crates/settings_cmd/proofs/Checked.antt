@@ -15,7 +15,8 @@ use Rattle.command_outcome.specs.declared.refusal.Refusal.TheVariants as refused
 use Rattle.settings_cmd.specs.Checks.{Reports, TellsOfImage}
 use Rattle.settings_cmd.specs.Handing.{HandsImage}
 
-told : (files : Sources) (image : Image) (outcome : Outcome) → IsImageOf files image.model image.manifest image.templates image.text → Reports image outcome → TellsOfImage files outcome
+told : (files : Sources) (image : Image) (outcome : Outcome) → IsImageOf files image.model image.manifest image.templates image.text → Reports image outcome
+    → TellsOfImage files outcome
 told files image (Ok lines) read reports = record { image = image; read = read; report = reports }
 told files image (Err refused.Memory) read reports = tt
 told files image (Err refused.Usage) read reports = absurd reports
@@ -43,11 +44,13 @@ told files image (Err (refused.MigrationStatus name number)) read reports = absu
 told files image (Err (refused.MigrationOutput name)) read reports = absurd reports
 
 -- The report on an image that was read.
-pub report_tells : (image : Image) (outcome : Outcome) (d : Option History) → WhereTold d (λ h. IsImageOf (sources_in (tree_of h)) image.model image.manifest image.templates image.text)
+pub report_tells : (image : Image) (outcome : Outcome) (d : Option History)
+    → WhereTold d (λ h. IsImageOf (sources_in (tree_of h)) image.model image.manifest image.templates image.text)
     → Reports image outcome → WhereTold d (λ h. TellsOfImage (sources_in (tree_of h)) outcome)
 report_tells image outcome d read reports = where_map (λ h there. told (sources_in (tree_of h)) image outcome there reports) read
 
-always : (outcome : Outcome) (d : Option History) → ((files : Sources) → TellsOfImage files outcome) → WhereTold d (λ h. TellsOfImage (sources_in (tree_of h)) outcome)
+always : (outcome : Outcome) (d : Option History) → ((files : Sources) → TellsOfImage files outcome)
+    → WhereTold d (λ h. TellsOfImage (sources_in (tree_of h)) outcome)
 always outcome None each = record { is = tt }
 always outcome (Some h) each = record { is = each (sources_in (tree_of h)) }
 
@@ -58,5 +61,7 @@ pub refusal_tells : (read : Result Image ImageError) (e : ImageError) (outcome :
 refusal_tells read (image.Bad file kind at) outcome d is hands bad =
     subst (λ (o : Outcome). WhereTold d (λ h. TellsOfImage (sources_in (tree_of h)) o)) (sym hands)
     (where_map (λ h told. told) (bad file kind at (subst (λ (r : Result Image ImageError). IsErrOf r (image.Bad file kind at)) (sym is) refl)))
-refusal_tells read image.Failed outcome d is hands bad = subst (λ (o : Outcome). WhereTold d (λ h. TellsOfImage (sources_in (tree_of h)) o)) (sym hands) (always (Err refused.Disk) d (λ files. tt))
-refusal_tells read image.Memory outcome d is hands bad = subst (λ (o : Outcome). WhereTold d (λ h. TellsOfImage (sources_in (tree_of h)) o)) (sym hands) (always (Err refused.Memory) d (λ files. tt))
+refusal_tells read image.Failed outcome d is hands bad = subst (λ (o : Outcome). WhereTold d (λ h. TellsOfImage (sources_in (tree_of h)) o)) (sym hands)
+    (always (Err refused.Disk) d (λ files. tt))
+refusal_tells read image.Memory outcome d is hands bad = subst (λ (o : Outcome). WhereTold d (λ h. TellsOfImage (sources_in (tree_of h)) o)) (sym hands)
+    (always (Err refused.Memory) d (λ files. tt))

@@ -17,7 +17,8 @@ use Rattle.settings_cmd.specs.Laws.{IsOpening, GettingsOpen}
 refused_opening : (e : OpenError) (line : List ℕ) → ◌≡◌ {A = Outcome} (Ok line) (Err (not_opened e)) → ⊥
 refused_opening e line is = cc is
 
-answered : (I : Image) → IsGood I → (folder : Folder) → IsImageOfFolder I folder → (W V : World) (keys : List (List (List ℕ))) (line : List ℕ) (old new : History) → DiskAt I folder W V old → is_running W.job ≡ false
+answered : (I : Image) → IsGood I → (folder : Folder) → IsImageOfFolder I folder → (W V : World) (keys : List (List (List ℕ))) (line : List ℕ)
+    (old new : History) → DiskAt I folder W V old → is_running W.job ≡ false
     → (result : Result Opened OpenError) → Opens false result old new → AnswersOpening keys result (Ok line) → IsOpening I folder W V keys line old new
 answered I good folder is W V keys line old new at idle (Ok store) opens answers =
     let run = openings_run I good folder is W V false (Ok store) old new at idle opens in

@@ -1,4 +1,4 @@
--- How faults of user data and of generators are told.
+-- How faults of user data and of generators are reported.
 use Rattle.std.proofs.Common.{◌≡◌, ◌≢◌, inl, inr, ℕ, List, Some, Err, refl, sym, subst}
 use Rattle.typed_settings.specs.declared.row.Row.{Row}
 use Rattle.user_data.specs.Pairs.{pairs_of}
@@ -13,8 +13,9 @@ use Rattle.settings_cmd.specs.UserData.{TellsOfData, TellsOfDataFault, IsOfData}
 
 -- ---- user data
 
--- A fault of a text is told of it.
-pub data_fault_told : (text : List ℕ) (error : UserDataError) (refusal : Refusal) → TellsOfDataFault error refusal → (error.kind ≢ kind.Memory → pairs_of text ≡ Err error)
+-- A fault of a text is reported as its fault.
+pub data_fault_told : (text : List ℕ) (error : UserDataError) (refusal : Refusal) → TellsOfDataFault error refusal
+    → (error.kind ≢ kind.Memory → pairs_of text ≡ Err error)
     → TellsOfData (Some text) (Err refusal)
 data_fault_told text error refusal (inl is) fault = subst (λ (r : Refusal). TellsOfData (Some text) (Err r)) (sym is) tt
 data_fault_told text error refusal (inr told) fault =

@@ -15,14 +15,16 @@ load_range [] count spelled = absurd spelled
 load_range (word ∷ words) count spelled = (spelled.1.spelled.low, spelled.1.spelled.high)
 
 -- The number that was read is in the range.
-pub load_in_range : (words : List (List ℕ)) (command : Command) (count : ℕ) → command ≡ Load count → Spells words (order_of command) → (1 ≤ count) × (count ≤ 10000)
+pub load_in_range : (words : List (List ℕ)) (command : Command) (count : ℕ) → command ≡ Load count → Spells words (order_of command)
+    → (1 ≤ count) × (count ≤ 10000)
 load_in_range words command count is spelled = load_range words count (subst (λ (k : Command). Spells words (order_of k)) is spelled)
 
--- Where memory alone may be wanting, there is no other refusal,
+-- Where only memory may run out, there is no other refusal,
 pub memory_alone : (outcome : Outcome) (e : Refusal) → (refused.Memory ≡ e → ⊥) → IfErr outcome (λ refusal. refusal ≡ refused.Memory) → IsErrOf outcome e → ⊥
 memory_alone outcome e other memory is = is_none_of (λ refusal. refusal ≡ refused.Memory) outcome e (λ same. other (sym same)) memory is
 
 -- and nothing failed.
 pub memory_spawn : (outcome : Outcome) (x : ℕ) → IfErr outcome (λ refusal. refusal ≡ refused.Memory) → HasSpawnCause x x outcome
 memory_spawn outcome x memory =
-    spawn_none outcome x x refl (λ name. memory_alone outcome (refused.Spawn name) (λ clash. cc clash) memory) (memory_alone outcome refused.Door (λ clash. cc clash) memory)
+    spawn_none outcome x x refl (λ name. memory_alone outcome (refused.Spawn name) (λ clash. cc clash) memory)
+    (memory_alone outcome refused.Door (λ clash. cc clash) memory)

@@ -11,15 +11,22 @@ use Rattle.settings_cmd.specs.Does.{Devices, Does}
 use Rattle.settings_cmd.specs.Serving.{HasAccepted}
 
 -- The words order what the command is that was read.
-pub does_read : (outcome : Outcome) (old new : Devices) (read known : Command) (order : Order) → read ≡ known → order_of read ≡ order → Does (order_of known) outcome old new
+pub does_read : (outcome : Outcome) (old new : Devices) (read known : Command) (order : Order) → read ≡ known → order_of read ≡ order
+    → Does (order_of known) outcome old new
     → Does order outcome old new
 does_read outcome old new read known order is exact did = subst (λ (o : Order). Does o outcome old new) (sym (ap order_of is) ∙ exact) did
 
 none_accepted : (connections : Option ℕ) (door : DoorState) → door.accepted ≡ 0 → HasAccepted connections (Err refused.Memory) door door
 none_accepted connections door unused =
-    record { most = subst (λ (n : ℕ). n ≤ wanted connections) (sym unused) (omega arith); all = λ well. absurd (cc well); kept = λ other. refl; failed = λ is. absurd (cc is) }
+    record {
+      most = subst (λ (n : ℕ). n ≤ wanted connections) (sym unused) (omega arith);
+      all = λ well. absurd (cc well);
+      kept = λ other. refl;
+      failed =
+          λ is. absurd (cc is);
+    }
 
--- Memory was wanting before it was known what is ordered.
+-- It ran out of memory before it was known what is ordered.
 pub does_nothing : (now : Devices) → now.door.accepted ≡ 0 → (order : Order) → Does order (Err refused.Memory) now now
 does_nothing now unused (init version) = inr (refl, refl)
 does_nothing now unused (serve boot slice connections) =

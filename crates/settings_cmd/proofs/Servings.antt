@@ -20,7 +20,8 @@ pub serves_store : (boot : Bool) (slice : Option ℕ) (fine : Bool) (store : Ope
     (old new : History) → core_state c ≡ core_over store → c.image ≡ store.image → server.Serves slice boot fine c now x x' r r' old new
     → Serves boot slice fine store x x' r r' old new
 serves_store boot slice fine store c now x x' r r' old new state image serves = record { each = by } where
-  by : (I : Image) → IsGood I → HoldsImage I store.image → (folder : Folder) → IsImageOfFolder I folder → (W V : World) → Kept I folder W V old (core_over store)
+  by : (I : Image) → IsGood I → HoldsImage I store.image → (folder : Folder) → IsImageOfFolder I folder → (W V : World)
+      → Kept I folder W V old (core_over store)
       → ServesOn I folder W V boot slice fine (core_over store) x x' r r' old new
   by I good holds folder is W V kept =
       let ran = serves.each I good (subst (HoldsImage I) (sym image) holds) folder is W V (subst (Kept I folder W V old) (sym state) kept) in

@@ -12,7 +12,8 @@ use Rattle.toml.specs.Data.{Data, string, integer, float, boolean, datetime, arr
 use Rattle.toml_values.specs.Document.{table_of}
 use Rattle.toml_values.specs.Values.{scalar_of}
 use Rattle.typed_settings.specs.declared.row.Row.{Row}
-use Rattle.user_data.specs.Pairs.{Path, Pairs, settings, other_name, fault_at, printed_path, where_key, joined, value_pairs, members_pairs, settings_pairs, where_none, document_pairs, pairs_of}
+use Rattle.user_data.specs.Pairs.{Path, Pairs, settings, other_name, fault_at, printed_path, where_key}
+use Rattle.user_data.specs.Pairs.{joined, value_pairs, members_pairs, settings_pairs, where_none, document_pairs, pairs_of}
 use Rattle.user_data.specs.declared.user_data_error.UserDataError.{UserDataError}
 use Rattle.user_data.specs.declared.user_data_error.UserDataKind.TheVariants.{NotToml, BadValue}
 use Rattle.setting_generators.specs.Generators.{Given}
@@ -94,7 +95,8 @@ data_begin text pairs is = by (table_of text) is where
 abbrev GivenBegin : List Given → Type 0
 GivenBegin given = All (λ g. IsTrue (is_prefix settings_key g.0)) given
 
-listed_rest : (first : Given) (listed : List Given) (rest : reading.Outcome) → Ok listed ≡ with_first first rest → (others : List Given) × (rest ≡ Ok others) × (first ∷ others ≡ listed)
+listed_rest : (first : Given) (listed : List Given) (rest : reading.Outcome) → Ok listed ≡ with_first first rest
+    → (others : List Given) × (rest ≡ Ok others) × (first ∷ others ≡ listed)
 listed_rest first listed (Ok others) is = (others, refl, cc (sym is))
 listed_rest first listed (Err e) is = absurd (cc is)
 
@@ -117,7 +119,8 @@ answered_rest : (key : Path) (value : Scalar) (pairs : List (Path × Scalar)) (r
 answered_rest key value pairs (Ok others) is = (others, refl, cc (sym is))
 answered_rest key value pairs (Err e) is = absurd (cc is)
 
-answered_begin : (given : List Given) (questions : List Question) (pairs : List (Path × Scalar)) → GivenBegin given → AreAsked given questions (Ok pairs) → AllBegin pairs
+answered_begin : (given : List Given) (questions : List Question) (pairs : List (Path × Scalar)) → GivenBegin given → AreAsked given questions (Ok pairs)
+    → AllBegin pairs
 answered_begin [] questions pairs begin is = let none : [] ≡ pairs = cc (sym is.1) in subst AllBegin none (All-nil (λ pair. Begins pair.0))
 answered_begin (g ∷ given) questions pairs begin (inl on) =
     let rest = answered_rest g.0 on.value pairs on.rest on.generated_is in
@@ -127,6 +130,7 @@ answered_begin (g ∷ given) questions pairs begin (inl on) =
 answered_begin (g ∷ given) questions pairs begin (inr stops) = absurd (cc stops.generated_is)
 
 -- and those of the pairs that they give.
-pub pairs_begin : (live : Contents) (given : List Given) (questions : List Question) (pairs : List (Path × Scalar)) → GivenBegin given → AreAsked (wanted live given) questions (Ok pairs) → AllBegin pairs
+pub pairs_begin : (live : Contents) (given : List Given) (questions : List Question) (pairs : List (Path × Scalar)) → GivenBegin given
+    → AreAsked (wanted live given) questions (Ok pairs) → AllBegin pairs
 pairs_begin live given questions pairs begin asked =
     answered_begin (wanted live given) questions pairs (All-filter (λ g. not (contains_key live.values g.0)) (λ g. Begins g.0) given begin) asked

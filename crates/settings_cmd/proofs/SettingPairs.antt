@@ -11,13 +11,16 @@ begins : (key : List (List ℕ)) → slice_index_or key 0 [] ≡ codes "settings
 begins [] e = absurd (cc e)
 begins (s ∷ rest) e = subst (λ (t : List ℕ). IsTrue (is_prefix settings_key (t ∷ rest))) (sym e) refl
 
-each : (texts : List (List ℕ)) (pairs : List (List (List ℕ) × Scalar)) → Each SpellsPair texts pairs → All (λ pair. IsTrue (is_prefix settings_key pair.0)) pairs
+each : (texts : List (List ℕ)) (pairs : List (List (List ℕ) × Scalar)) → Each SpellsPair texts pairs
+    → All (λ pair. IsTrue (is_prefix settings_key pair.0)) pairs
 each [] [] spelled = All-nil (λ (pair : List (List ℕ) × Scalar). IsTrue (is_prefix settings_key pair.0))
 each [] (pair ∷ pairs) spelled = absurd spelled
 each (text ∷ texts) [] spelled = absurd spelled
-each (text ∷ texts) (pair ∷ pairs) spelled = All-cons (λ (pair : List (List ℕ) × Scalar). IsTrue (is_prefix settings_key pair.0)) pair pairs (begins pair.0 spelled.0.setting.first) (each texts pairs spelled.1)
+each (text ∷ texts) (pair ∷ pairs) spelled = All-cons (λ (pair : List (List ℕ) × Scalar). IsTrue (is_prefix settings_key pair.0)) pair pairs
+    (begins pair.0 spelled.0.setting.first) (each texts pairs spelled.1)
 
 -- So it is of each pair.
-pub setting_pairs : (words : List (List ℕ)) (pairs : List (List (List ℕ) × Scalar)) → Spells words (set pairs) → All (λ pair. IsTrue (is_prefix settings_key pair.0)) pairs
+pub setting_pairs : (words : List (List ℕ)) (pairs : List (List (List ℕ) × Scalar)) → Spells words (set pairs)
+    → All (λ pair. IsTrue (is_prefix settings_key pair.0)) pairs
 setting_pairs [] pairs spelled = absurd spelled
 setting_pairs (word ∷ words) pairs spelled = each _ pairs spelled.1.spelled

@@ -22,8 +22,9 @@ cause_none (Err refusal) x of = record {
   no_door = λ is. subst IsOfImage (same_error refusal refused.Door is) of;
 }
 
--- A failure that is told under a name is one of the spawner.
-pub cause_named : (outcome : Outcome) (before now : ℕ) → HasNamedCause refused.Spawn before now outcome → (IsErrOf outcome refused.Door → ⊥) → HasSpawnCause before now outcome
+-- A failure that is reported under a name is one of the spawner.
+pub cause_named : (outcome : Outcome) (before now : ℕ) → HasNamedCause refused.Spawn before now outcome → (IsErrOf outcome refused.Door → ⊥)
+    → HasSpawnCause before now outcome
 cause_named (Ok text) before now cause no_door = record { later = cause.later; failed = cause.failed; kept = λ not memory. cause.kept; no_door = no_door }
 cause_named (Err refusal) before now cause no_door = record {
   later = cause.later;

@@ -39,7 +39,7 @@ use Rattle.settings_cmd.specs.UserData.{data_tx, TellsOfData}
 abbrev pub Carrying : Type 1
 Carrying = Outcome → Option History → Option History → Type 0
 
--- The command was carried out, or memory was wanting before it began.
+-- The command was carried out, or it ran out of memory before it began.
 abbrev pub Carried : Carrying → Carrying
 Carried Does outcome d d' = Does outcome d d' ⊎ ((outcome ≡ Err refused.Memory) × (d' ≡ d))
 
@@ -47,7 +47,7 @@ Carried Does outcome d d' = Does outcome d d' ⊎ ((outcome ≡ Err refused.Memo
 abbrev pub IsMisused : Carrying
 IsMisused outcome d d' = (outcome ≡ Err refused.Usage) × (d' ≡ d)
 
--- The run is made over devices of its own: it comes to its lines, or memory was wanting. The disk is as before.
+-- The run is made over devices of its own: it comes to its lines, or it ran out of memory. The disk is as before.
 pub record IsLoaded (count : ℕ) (outcome : Outcome) (d d' : Option History) : Type 0 where
   pub lines : IfOk outcome (Loads count)
   pub memory : IfErr outcome (λ refusal. refusal ≡ refused.Memory)
@@ -79,7 +79,7 @@ pub record IsBegun (version : Version) (outcome : Outcome) (d d' : Option Histor
   pub begins : Moves d d' (Begins version result)
   pub answers : AnswersBeginning version result outcome
 
--- The store is opened, and the values at the keys and below them are told.
+-- The store is opened, and the values at the keys and below them are reported.
 pub record IsGot (keys : List (List (List ℕ))) (outcome : Outcome) (d d' : Option History) : Type 0 where
   pub result : Result Opened OpenError
   pub opens : Moves d d' (Opens false result)
@@ -90,7 +90,7 @@ abbrev pub AnswersMoving : Version → Result Moved MoveError → Outcome → Ty
 AnswersMoving to (Ok moved) outcome = outcome ≡ Ok (version_text to ++ 10 ∷ [])
 AnswersMoving to (Err e) outcome = HandsMoving e outcome
 
--- There is no release, or memory was wanting before; the disk is as before, and nothing was asked.
+-- There is no release, or the disk failed, or it ran out of memory before; the disk is as before, and nothing was asked.
 pub record HasNoRelease (a a' : Option (List Question)) (outcome : Outcome) (d d' : Option History) : Type 0 where
   pub refusal : Refusal
   pub answers : outcome ≡ Err refusal
@@ -116,7 +116,7 @@ pub record IsPruned (outcome : Outcome) (d d' : Option History) : Type 0 where
   pub prunes : Moves d d' (Prunes result)
   pub answers : AnswersPruning result outcome
 
--- The image is told of, and the disk is as before.
+-- The image is reported on, and the disk is as before.
 abbrev pub IsChecked : Carrying
 IsChecked outcome d d' = WhereTold d (λ h. TellsOfImage (sources_in (tree_of h)) outcome) × (d' ≡ d)
 
@@ -128,7 +128,7 @@ pub record Generates (a a' : Option (List Question)) (store : Opened) (outcome :
   pub gives : IsGenerated a a' store made d
   pub ends : CommitsMade generate_tx store made outcome d d'
 
--- They are, where the store was opened. Why it was not is told as it is, and then nothing was asked.
+-- They are, where the store was opened. Why it was not is reported as it is, and then nothing was asked.
 abbrev pub GeneratesAfter : Option (List Question) → Option (List Question) → Result Opened OpenError → Carrying
 GeneratesAfter a a' (Ok store) outcome d d' = Generates a a' store outcome d d'
 GeneratesAfter a a' (Err e) outcome d d' = (outcome ≡ Err (not_opened e)) × (d' ≡ d) × (a' ≡ a)
@@ -140,7 +140,7 @@ pub record HasGenerated (a a' : Option (List Question)) (outcome : Outcome) (d d
   pub opens : Moves d between (Opens false opening)
   pub follows : GeneratesAfter a a' opening outcome between d'
 
--- Memory was wanting before it began, and nothing was asked.
+-- It ran out of memory before it began, and nothing was asked.
 pub record HasNotBegun (a a' : Option (List Question)) (outcome : Outcome) (d d' : Option History) : Type 0 where
   pub answers : outcome ≡ Err refused.Memory
   pub same : d' ≡ d
@@ -156,7 +156,7 @@ pub record Provides (path : Names) (store : Opened) (outcome : Outcome) (d d' : 
   pub gives : WhereTold d (λ h. TellsOfData (file_in (node_at (tree_of h) path)) made)
   pub ends : CommitsMade data_tx store made outcome d d'
 
--- They are, where the store was opened. Why it was not is told as it is.
+-- They are, where the store was opened. Why it was not is reported as it is.
 abbrev pub ProvidesAfter : Names → Result Opened OpenError → Carrying
 ProvidesAfter path (Ok store) outcome d d' = Provides path store outcome d d'
 ProvidesAfter path (Err e) outcome d d' = (outcome ≡ Err (not_opened e)) × (d' ≡ d)

@@ -21,7 +21,7 @@ pub record IsReportOn (image : Image) (lines : List ℕ) (covered : Bool) : Type
   pub lines_are : lines ≡ flat_map line checks
   pub covered_are : list_all is_covered checks ≡ covered
 
--- What is told of an image: the lines of its files, where all are covered or where not all are, or that memory was wanting.
+-- What is reported of an image: the lines of its files, where all are covered or where not all are, or that it ran out of memory.
 abbrev pub Reports : Image → Outcome → Type 0
 Reports image (Ok lines) = IsReportOn image lines true
 Reports image (Err (refused.NotCovered lines)) = IsReportOn image lines false

@@ -12,7 +12,7 @@ use Rattle.core_commands.specs.Committing.{Commits}
 abbrev pub Made : Type 0
 Made = Result (List (List (List ℕ) × Scalar)) Refusal
 
--- The pairs are committed to the store by this transaction. Why there are none is told as it is, and then the disk is as before.
+-- The pairs are committed to the store by this transaction. Why there are none is reported as it is, and then the disk is as before.
 abbrev pub CommitsMade : List ℕ → Opened → Made → Outcome → Option History → Option History → Type 0
 CommitsMade tx store (Ok pairs) outcome d d' = Moves d d' (Commits tx pairs store outcome)
 CommitsMade tx store (Err refusal) outcome d d' = (outcome ≡ Err refusal) × (d' ≡ d)

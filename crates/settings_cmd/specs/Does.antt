@@ -11,7 +11,7 @@ use Rattle.core_commands.specs.Lines.{IsSettingsLine, IsJobLine}
 use Rattle.settings_cmd.specs.Carried.{Carried, IsBegun, IsGot, IsChecked, IsMigrated, IsPruned, GeneratesOrNot, IsProvided, IsLoaded}
 use Rattle.settings_cmd.specs.Serving.{HasServed, HasAccepted}
 
--- The disk's history, what the door has accepted and its connections, the programs that were asked, and those that were run, where each is told.
+-- The disk's history, what the door has accepted and its connections, the programs that were asked, and those that were run, each where its device tells it.
 pub record Devices : Type 0 where
   pub disk : Option History
   pub door : DoorState

@@ -39,7 +39,7 @@ generators_word kind.Memory = []
 
 -- ---- the file
 
--- Beside these types the file that was found spells these generators; none where there is no file.
+-- With these types the file that was found spells these generators; none where there is no file.
 abbrev pub AreGeneratorsIn : List Row → Option (List ℕ) → List Given → Type 0
 AreGeneratorsIn table None given = given ≡ []
 AreGeneratorsIn table (Some text) given = Spells table text given
@@ -68,11 +68,11 @@ IsOfGenerators _ = ⊥
 
 -- ---- their answers
 
--- The program for the key could not be asked, which is told under the printed key; or memory was wanting for that.
+-- The program for the key could not be asked, which is reported under the printed key; or it ran out of memory for that.
 abbrev pub HandsFailed : List (List ℕ) → Refusal → Type 0
 HandsFailed key refusal = (refusal ≡ refused.Spawn (printed key)) ⊎ (refusal ≡ refused.Memory)
 
--- Why generators gave no values is told as it is.
+-- Why generators gave no values is reported as it is.
 abbrev pub HandsError : GenerateError → Refusal → Type 0
 HandsError (asking.Failed key) refusal = HandsFailed key refusal
 HandsError (asking.Status key number) refusal = refusal ≡ refused.GeneratorStatus key number
@@ -118,15 +118,16 @@ BeginWithSettings given = All (λ g. IsTrue (is_prefix settings_key g.0)) given
 abbrev pub given_of : Option (List Given) → List Given
 given_of found = unwrap_or found []
 
--- Want of memory is told as that, and any other fault under its word, at its place.
+-- Out of memory is reported as that, and any other fault under its word, at its place.
 abbrev pub TellsOfFault : GeneratorsError → Refusal → Type 0
 TellsOfFault error refusal =
     (refusal ≡ refused.Memory) ⊎ ((error.kind ≢ kind.Memory) × (refusal ≡ refused.BadImage (codes "generators.toml") (generators_word error.kind) error.at))
 
--- The text has this fault, or memory was wanting.
+-- The text has this fault, or it ran out of memory.
 abbrev pub TellsOfText : List Row → List ℕ → Refusal → Type 0
 TellsOfText table text refusal =
-    (refusal ≡ refused.Memory) ⊎ ((which : GeneratorsKind) × (at : List ℕ) × IsFault table text which at × (refusal ≡ refused.BadImage (codes "generators.toml") (generators_word which) at))
+    (refusal ≡ refused.Memory) ⊎ ((which : GeneratorsKind) × (at : List ℕ) × IsFault table text which at
+    × (refusal ≡ refused.BadImage (codes "generators.toml") (generators_word which) at))
 
 -- Why there are no pairs: the generators could not be read or asked; or the disk or memory failed.
 abbrev pub IsOfGenerating : Refusal → Type 0

@@ -11,27 +11,27 @@ use Rattle.migrate_chain.specs.declared.move_error.MoveError.TheVariants as movi
 use Rattle.command_outcome.specs.Ends.{Outcome}
 use Rattle.command_outcome.specs.declared.refusal.Refusal.TheVariants as refused
 
--- A fault of the image is told as one, and the others as what they are.
+-- A fault of the image is reported as one, and the others as what they are.
 abbrev pub HandsImage : ImageError → Outcome → Type 0
 HandsImage (reading.Bad file kind at) outcome = outcome ≡ Err (refused.BadImage file kind at)
 HandsImage reading.Failed outcome = outcome ≡ Err refused.Disk
 HandsImage reading.Memory outcome = outcome ≡ Err refused.Memory
 
--- Why a store was not begun is told as it is.
+-- Why a store was not begun is reported as it is.
 abbrev pub HandsBeginning : InitError → Outcome → Type 0
 HandsBeginning (beginning.AlreadyThere version) outcome = outcome ≡ Err (refused.AlreadyThere version)
 HandsBeginning (beginning.BadLink path) outcome = outcome ≡ Err (refused.BadLink path)
 HandsBeginning beginning.Failed outcome = outcome ≡ Err refused.Disk
 HandsBeginning beginning.Memory outcome = outcome ≡ Err refused.Memory
 
--- Why nothing was pruned is told as it is.
+-- Why nothing was pruned is reported as it is.
 abbrev pub HandsPruning : PruneError → Outcome → Type 0
 HandsPruning pruning.NoStore outcome = outcome ≡ Err refused.NoStore
 HandsPruning (pruning.BadLink path) outcome = outcome ≡ Err (refused.BadLink path)
 HandsPruning pruning.Failed outcome = outcome ≡ Err refused.Disk
 HandsPruning pruning.Memory outcome = outcome ≡ Err refused.Memory
 
--- Why a store was not moved is told as it is.
+-- Why a store was not moved is reported as it is.
 abbrev pub HandsMoving : MoveError → Outcome → Type 0
 HandsMoving moving.NoStore outcome = outcome ≡ Err refused.NoStore
 HandsMoving (moving.BadLink path) outcome = outcome ≡ Err (refused.BadLink path)

@@ -19,5 +19,6 @@ pub record IsOpening (I : Image) (folder : Folder) (W V : World) (keys : List (L
 
 -- Where the disk is at W, which has no running job, and the folder makes the image, a `get` that answers is an opening.
 abbrev pub GettingsOpen : Type 0
-GettingsOpen = (I : Image) → IsGood I → (folder : Folder) → IsImageOfFolder I folder → (W V : World) (keys : List (List (List ℕ))) (line : List ℕ) (old new : History)
+GettingsOpen = (I : Image) → IsGood I → (folder : Folder) → IsImageOfFolder I folder → (W V : World) (keys : List (List (List ℕ))) (line : List ℕ)
+    (old new : History)
     → DiskAt I folder W V old → is_running W.job ≡ false → IsGot keys (Ok line) (Some old) (Some new) → IsOpening I folder W V keys line old new

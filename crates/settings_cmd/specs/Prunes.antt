@@ -9,7 +9,7 @@ use Rattle.settings_cmd.specs.Handing.{HandsPruning}
 abbrev pub pruned_line : ℕ → List ℕ
 pruned_line count = codes "pruned " ++ decimal count ++ codes "\n"
 
--- The line, but for want of memory, or why nothing was pruned.
+-- The line, unless it ran out of memory, or why nothing was pruned.
 abbrev pub AnswersPruning : Result ℕ PruneError → Outcome → Type 0
 AnswersPruning (Ok count) outcome = (outcome ≡ Ok (pruned_line count)) ⊎ (outcome ≡ Err refused.Memory)
 AnswersPruning (Err e) outcome = HandsPruning e outcome

@@ -60,11 +60,12 @@ IsOfRelease _ = ⊥
 
 -- ---- for private clauses
 
--- Want of memory is told as that, and any other fault under its word, at its place.
+-- Out of memory is reported as that, and any other fault under its word, at its place.
 abbrev pub TellsOfText : ReleaseError → Refusal → Type 0
-TellsOfText error refusal = (refusal ≡ refused.Memory) ⊎ ((error.kind ≢ kind.Memory) × (refusal ≡ refused.BadImage (codes "release.toml") (release_word error.kind) error.at))
+TellsOfText error refusal = (refusal ≡ refused.Memory) ⊎ ((error.kind ≢ kind.Memory)
+    × (refusal ≡ refused.BadImage (codes "release.toml") (release_word error.kind) error.at))
 
--- The text spells the release, or this is told of it.
+-- The text spells the release, or this is reported of it.
 abbrev pub Reads : List ℕ → Result Release Refusal → Type 0
 Reads text (Ok release) = Spells text release
 Reads text (Err refusal) = (refusal ≡ refused.Memory) ⊎ ((which : ReleaseKind) × (at : List ℕ) × IsFault text which at

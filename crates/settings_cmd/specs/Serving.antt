@@ -27,7 +27,7 @@ abbrev pub served : Bool → Outcome
 served true = Ok []
 served false = Err refused.Door
 
--- No more connections were accepted than are wanted. It ended well only where so many were, or no further one comes; and `Door` is told exactly
+-- No more connections were accepted than are wanted. It ended well only where so many were, or no further one comes; and `Door` is reported exactly
 -- where an accept failed, which none has before.
 pub record HasAccepted (connections : Option ℕ) (outcome : Outcome) (old new : DoorState) : Type 0 where
   pub most : new.accepted ≤ wanted connections
@@ -50,10 +50,11 @@ pub record ServesOn (I : Image) (folder : Folder) (W V : World) (boot : Bool) (s
 -- By each image that was read with the store and that the folder makes, in each world at which the disk is with the store open.
 pub record Serves (boot : Bool) (slice : Option ℕ) (fine : Bool) (store : Opened) (told_before told_after : Option (List Exchange))
     (ran_before ran_after : Option (List Run)) (old new : History) : Type 0 where
-  pub each : (I : Image) → IsGood I → HoldsImage I store.image → (folder : Folder) → IsImageOfFolder I folder → (W V : World) → Kept I folder W V old (core_over store)
+  pub each : (I : Image) → IsGood I → HoldsImage I store.image → (folder : Folder) → IsImageOfFolder I folder → (W V : World)
+      → Kept I folder W V old (core_over store)
       → ServesOn I folder W V boot slice fine (core_over store) told_before told_after ran_before ran_after old new
 
--- What comes after an opening: it is served where the opening succeeded; why it did not is told as it is, and then no connection is
+-- What comes after an opening: it is served where the opening succeeded; why it did not is reported as it is, and then no connection is
 -- accepted, and no program run.
 abbrev pub FollowsOpening : Bool → Option ℕ → Bool → Result Opened OpenError → Outcome → Option (List Exchange) → Option (List Exchange)
     → Option (List Run) → Option (List Run) → Option History → Option History → Type 0
@@ -61,7 +62,8 @@ FollowsOpening boot slice fine (Ok store) outcome x x' r r' between d' = (outcom
 FollowsOpening boot slice fine (Err e) outcome x x' r r' between d' = (outcome ≡ Err (not_opened e)) × (d' ≡ between) × (x' ≡ x) × (r' ≡ r)
 
 -- The store is opened, with boot or without, and served.
-pub record IsServed (boot : Bool) (slice : Option ℕ) (told_before told_after : Option (List Exchange)) (ran_before ran_after : Option (List Run)) (outcome : Outcome)
+pub record IsServed (boot : Bool) (slice : Option ℕ) (told_before told_after : Option (List Exchange)) (ran_before ran_after : Option (List Run))
+    (outcome : Outcome)
     (d d' : Option History) : Type 0 where
   pub opening : Result Opened OpenError
   pub fine : Bool
@@ -69,13 +71,15 @@ pub record IsServed (boot : Bool) (slice : Option ℕ) (told_before told_after :
   pub opens : Moves d between (Opens boot opening)
   pub follows : FollowsOpening boot slice fine opening outcome told_before told_after ran_before ran_after between d'
 
--- Memory was wanting before it began: no connection was accepted, and no program run.
-pub record HasNotBegun (told_before told_after : Option (List Exchange)) (ran_before ran_after : Option (List Run)) (outcome : Outcome) (d d' : Option History) : Type 0 where
+-- It ran out of memory before it began: no connection was accepted, and no program run.
+pub record HasNotBegun (told_before told_after : Option (List Exchange)) (ran_before ran_after : Option (List Run)) (outcome : Outcome)
+    (d d' : Option History) : Type 0 where
   pub outcome_is : outcome ≡ Err refused.Memory
   pub no_connections : told_after ≡ told_before
   pub no_runs : ran_after ≡ ran_before
   pub same : d' ≡ d
 
--- The store was opened and served, or memory was wanting before.
-abbrev pub HasServed : Bool → Option ℕ → Option (List Exchange) → Option (List Exchange) → Option (List Run) → Option (List Run) → Outcome → Option History → Option History → Type 0
+-- The store was opened and served, or it ran out of memory before.
+abbrev pub HasServed : Bool → Option ℕ → Option (List Exchange) → Option (List Exchange) → Option (List Run) → Option (List Run) → Outcome → Option History
+    → Option History → Type 0
 HasServed boot slice x x' r r' outcome d d' = IsServed boot slice x x' r r' outcome d d' ⊎ HasNotBegun x x' r r' outcome d d'

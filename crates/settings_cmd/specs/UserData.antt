@@ -59,6 +59,6 @@ IsOfData _ = ⊥
 
 -- ---- for private clauses
 
--- Want of memory is told as that, and any other fault under its word, at its place.
+-- Out of memory is reported as that, and any other fault under its word, at its place.
 abbrev pub TellsOfDataFault : UserDataError → Refusal → Type 0
 TellsOfDataFault error refusal = (refusal ≡ refused.Memory) ⊎ ((error.kind ≢ kind.Memory) × (refusal ≡ refused.UserData (data_word error.kind) error.at))

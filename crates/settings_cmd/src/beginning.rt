@@ -26,7 +26,7 @@ fn refusal_of(error: InitError) -> Result<Bytes, Refusal>
 /// Begins a store of this version, and answers the version and a line feed.
 ///
 /// `AlreadyThere` exactly where the links lead to a store; `BadLink` where a link of the chain is missing or bad; `Disk` where the
-/// disk failed; `Memory` where memory is wanting, and never once the store is begun.
+/// disk failed; `Memory` where it runs out of memory, and never once the store is begun.
 pub(crate) fn begin<D: Disk>(
     alloc: Global,
     disk: &mut D,

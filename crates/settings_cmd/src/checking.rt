@@ -43,8 +43,8 @@ fn report(alloc: Global, image: &Image) -> Result<Bytes, Refusal>
 /// Reads the image below `image/` and answers a line for each of its configuration files, by name, that says whether it is
 /// covered; where one isn't, they are those of the refusal `NotCovered`. It changes nothing.
 ///
-/// `BadImage` exactly where the files make no image, with the first fault; `Disk` where the disk failed; `Memory` where memory
-/// is wanting. It takes the time of `read_image` and of `check_files`.
+/// `BadImage` exactly where the files make no image, with the first fault; `Disk` where the disk failed; `Memory` where it
+/// runs out of memory. It takes the time of `read_image` and of `check_files`.
 pub(crate) fn check<D: Disk>(alloc: Global, disk: &mut D) -> Result<Bytes, Refusal>
     ensures same { D.told disk.new ≡ D.told disk.old }
     ensures tells { WhereTold (D.told disk.old) (λ h. TellsOfImage (sources_in (tree_of h)) result) }

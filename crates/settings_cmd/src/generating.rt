@@ -30,7 +30,7 @@ fn generate_tx(alloc: Global) -> Result<TxName, AllocError>
     }
 }
 
-// The program for the key could not be asked, or memory was wanting to tell.
+// The program for the key could not be asked, or it ran out of memory to tell.
 fn not_asked(key: &Key) -> Refusal
     ensures { HandsFailed key.now result }
 {
@@ -120,7 +120,7 @@ fn generate_in<D: Disk, S: Asker>(
 /// Why the store can't be opened comes first; then `BadImage` exactly where the generators file is there and has a fault, with the
 /// first; then, by the first command that gives no value, `GeneratorStatus`, `GeneratorOutput`, or `Spawn` with the printed key where it
 /// could not be asked; then `Refused` where the types refuse a value. Nothing is set after any of these. `Disk` where the disk failed;
-/// `Memory` where memory is wanting.
+/// `Memory` where it runs out of memory.
 pub(crate) fn generate<D: Disk, S: Asker>(
     alloc: Global,
     disk: &mut D,

@@ -24,7 +24,7 @@ fn generators_path(alloc: Global) -> Result<Path, AllocError>
     Ok(path)
 }
 
-// The word for a fault; want of memory has none.
+// The word for a fault; out of memory has none.
 fn generators_word(kind: GeneratorsKind) -> &'static str
     ensures { result.now ≡ generators_word kind }
 {
@@ -71,10 +71,10 @@ fn generators_of(alloc: Global, text: &[u8], types: &Types) -> Result<Generators
     }
 }
 
-/// Reads the generators of the image, `image/generators.toml`, beside its types; `None` where the file is missing. It changes nothing.
+/// Reads the generators of the image, `image/generators.toml`, with its types; `None` where the file is missing. It changes nothing.
 ///
-/// `BadImage` exactly where the file spells no generators, with the first fault; `Disk` where the disk failed; `Memory` where memory
-/// is wanting.
+/// `BadImage` exactly where the file spells no generators, with the first fault; `Disk` where the disk failed; `Memory` where it
+/// runs out of memory.
 pub(crate) fn read_generators<D: Disk>(
     alloc: Global,
     disk: &mut D,
@@ -82,7 +82,8 @@ pub(crate) fn read_generators<D: Disk>(
 ) -> Result<Option<Generators>, Refusal>
     ensures same { D.told disk.new ≡ D.told disk.old }
     ensures ok { IfOk result (λ found. WhereTold (D.told disk.old) (λ h. AreGeneratorsIn types.now (sources_in (tree_of h) generators_path) (given_of found))) }
-    ensures refused { IfErr result (λ refusal. WhereTold (D.told disk.old) (λ h. TellsOfGenerators types.now (sources_in (tree_of h) generators_path) refusal)) }
+    ensures refused { IfErr result (λ refusal. WhereTold (D.told disk.old)
+        (λ h. TellsOfGenerators types.now (sources_in (tree_of h) generators_path) refusal)) }
     ensures settings { IfOk result (λ found. BeginWithSettings (given_of found)) }
     ensures of_generators { IfErr result IsOfGenerators }
     ensures cause { HasCauseOf Refusal.Disk (D.faults disk.old) (D.faults disk.new) result }

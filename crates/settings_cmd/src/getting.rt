@@ -40,8 +40,8 @@ fn tree_of(alloc: Global, live: &Content, given: &[Key]) -> Result<Bytes, Refusa
 /// Opens the store, and answers the tree of the live values at the keys and below them, or of all settings where no key is
 /// given, as compact JSON (RFC 8259), and a line feed.
 ///
-/// Why the store can't be opened comes first; then `Refused` with `NoKey` for the first given key at and below which no value
-/// stands. `Disk` where the disk failed; `Memory` where memory is wanting. Besides the opening it takes one pass over all values.
+/// Why the store can't be opened comes first; then `Refused` with `NoKey` for the first given key at and below which there is
+/// no value. `Disk` where the disk failed; `Memory` where it runs out of memory. Besides the opening it takes one pass over all values.
 pub(crate) fn get<D: Disk>(alloc: Global, disk: &mut D, keys: &[Key]) -> Result<Bytes, Refusal>
     ensures got { IsGot keys.now result (D.told disk.old) (D.told disk.new) }
     ensures cause { HasCauseOf Refusal.Disk (D.faults disk.old) (D.faults disk.new) result }

@@ -38,7 +38,7 @@ fn refused(error: MoveError) -> Result<Bytes, Refusal>
 ///
 /// `BadImage` where the release is missing or has a fault comes first. Then, by `migrate_by`: `NoStore`, `BadLink`,
 /// `BadJournal`, `Damaged`, `Missing`, `Conflict`, `MigrationStatus` and `MigrationOutput` by what a program answered, `Spawn` where
-/// it could not be asked, and nothing was moved. `Disk` where the disk failed; `Memory` where memory is wanting, and never once the
+/// it could not be asked, and nothing was moved. `Disk` where the disk failed; `Memory` where it runs out of memory, and never once the
 /// store is moved.
 pub(crate) fn migrate_to<D: Disk, S: Asker>(
     alloc: Global,

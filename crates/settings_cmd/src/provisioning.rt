@@ -30,7 +30,7 @@ fn data_tx(alloc: Global) -> Result<TxName, AllocError>
     }
 }
 
-// The word for a fault; want of memory has none.
+// The word for a fault; out of memory has none.
 fn data_word(kind: UserDataKind) -> &'static str
     ensures { result.now ≡ data_word kind }
 {
@@ -121,8 +121,8 @@ fn provide<D: Disk>(
 /// there are none. No job is begun.
 ///
 /// Why the store can't be opened comes first; then `UserData` exactly where no file is at the path or it has a fault, with the first;
-/// then `Refused` where the types refuse a value, and nothing is set then. `Disk` where the disk failed; `Memory` where memory is
-/// wanting.
+/// then `Refused` where the types refuse a value, and nothing is set then. `Disk` where the disk failed; `Memory` where it runs
+/// out of memory.
 pub(crate) fn provision<D: Disk>(alloc: Global, disk: &mut D, path: &Path) -> Result<Bytes, Refusal>
     ensures provided { Carried (IsProvided path.now) result (D.told disk.old) (D.told disk.new) }
     ensures unspawned { (name : List ℕ) → IsErrOf result (Refusal.Spawn name) → ⊥ }

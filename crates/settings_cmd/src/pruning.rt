@@ -34,7 +34,7 @@ fn refused(error: PruneError) -> Result<Bytes, Refusal>
 /// Empties the data directories to which the links don't lead, and answers a line with the number of files that were removed.
 ///
 /// `NoStore` where `store/current` is no link, `BadLink` with the first path of the chain that is bad, `Disk` where the disk
-/// failed, `Memory` where memory is wanting, for the line too.
+/// failed, `Memory` where it runs out of memory, for the line too.
 pub(crate) fn prune_others<D: Disk>(alloc: Global, disk: &mut D) -> Result<Bytes, Refusal>
     ensures pruned { IsPruned result (D.told disk.old) (D.told disk.new) }
     ensures cause { HasCauseOf Refusal.Disk (D.faults disk.old) (D.faults disk.new) result }

@@ -21,7 +21,7 @@ fn release_path(alloc: Global) -> Result<Path, AllocError>
     Ok(path)
 }
 
-// The word for a fault; want of memory has none.
+// The word for a fault; out of memory has none.
 fn release_word(kind: ReleaseKind) -> &'static str
     ensures { result.now ≡ release_word kind }
 {
@@ -93,7 +93,7 @@ fn release_of(alloc: Global, text: &[u8]) -> Result<Release, Refusal>
 /// Reads the release of the image, `image/release.toml`. It changes nothing.
 ///
 /// `BadImage` exactly where the file is missing or is no release, with the first fault; `Disk` where the disk failed; `Memory`
-/// where memory is wanting.
+/// where it runs out of memory.
 pub(crate) fn read_release<D: Disk>(alloc: Global, disk: &mut D) -> Result<Release, Refusal>
     ensures same { D.told disk.new ≡ D.told disk.old }
     ensures ok { IfOk result (λ release. WhereTold (D.told disk.old) (λ h. IsReleaseIn (sources_in (tree_of h)) release)) }

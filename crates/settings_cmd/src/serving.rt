@@ -27,7 +27,7 @@ fn ended(alloc: Global, fine: bool) -> Result<Bytes, Refusal>
 /// Opens the store, with boot or without, and serves it: see [`serve`](api_server::serve). It prints nothing.
 ///
 /// Why the store can't be opened comes first. Once it is open, `Door` exactly where an accept failed: a running job is then left, and
-/// its keys stay owed. Failures of requests, of turns and of single connections don't end it, and are told to their clients alone.
+/// its keys stay owed. Failures of requests, of turns and of single connections don't end it, and are reported to their clients alone.
 pub(crate) fn serve_store<D: Disk, S: Spawner, N: Door>(
     alloc: Global,
     boot: bool,
@@ -39,7 +39,8 @@ pub(crate) fn serve_store<D: Disk, S: Spawner, N: Door>(
 ) -> Result<Bytes, Refusal>
     requires idle { (N.state door.old).busy ≡ false }
     requires unused { (N.state door.old).accepted ≡ 0 }
-    ensures served { IsServed boot slice (N.told door.old) (N.told door.new) (S.runs spawner.old) (S.runs spawner.new) result (D.told disk.old) (D.told disk.new) }
+    ensures served { IsServed boot slice (N.told door.old) (N.told door.new) (S.runs spawner.old) (S.runs spawner.new) result (D.told disk.old)
+        (D.told disk.new) }
     ensures idle { (N.state door.new).busy ≡ false }
     ensures accepted { HasAccepted connections result (N.state door.old) (N.state door.new) }
     ensures disk_fault { IsErrOf result Refusal.Disk → Rose (D.faults disk.old) (D.faults disk.new) }

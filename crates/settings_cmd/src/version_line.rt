@@ -6,7 +6,7 @@ use key_names::Bytes;
 use std::alloc::{AllocError, Global};
 use version_links::Version;
 
-/// The version and a line feed. The only error is want of memory.
+/// The version and a line feed. The only error is out of memory.
 pub(crate) fn version_line(alloc: Global, version: &Version) -> Result<Bytes, AllocError>
     ensures { IfOk result (λ line. line ≡ version_text version.now ++ 10 ∷ []) }
 {

@@ -13,9 +13,11 @@ use Rattle.metadata_links.specs.Links.{files_of}
 use Rattle.settings_machine.specs.declared.cause.Cause.TheVariants as cause
 use Rattle.settings_machine.specs.World.{Key, Among, Image, World, due}
 use Rattle.settings_machine.specs.Typed.{Wanted, first_wanted}
-use Rattle.settings_machine.specs.Requests.{Request, Root, OsNames, Settings, SettingsAt, SettingsBelow, Patch, Services, ConfigurationFiles, Affected, Pends, DropTx, TxList}
+use Rattle.settings_machine.specs.Requests.{Request, Root, OsNames, Settings, SettingsAt, SettingsBelow}
+use Rattle.settings_machine.specs.Requests.{Patch, Services, ConfigurationFiles, Affected, Pends, DropTx, TxList}
 use Rattle.settings_machine.specs.Requests.{Commit, Apply, CommitAndApply, JobNow}
-use Rattle.settings_machine.specs.Step.{Outcome, Answered, WithoutMemory, Unopened, Faulted, failing, patch_next, commit_next, commit_and_apply_next, answered, request_next}
+use Rattle.settings_machine.specs.Step.{Outcome, Answered, WithoutMemory, Unopened, Faulted}
+use Rattle.settings_machine.specs.Step.{failing, patch_next, commit_next, commit_and_apply_next, answered, request_next}
 use Rattle.settings_machine.specs.Paid.{IsDuePath}
 use Rattle.settings_machine.proofs.Reached.{owing_old}
 
@@ -28,9 +30,15 @@ pub record Keeps (I : Image) (W N : World) : Type 0 where
 
 module _ (I : Image) where
   same_due : (h k : Held) (path : Names) → k.image ≡ h.image → k.owed ≡ h.owed → IsDuePath I h path → IsDuePath I k path
-  same_due h k path image o due' = record { file = due'.file; due = subst (λ (x : Owed). Among (files_of I.manifest x) due'.file) same due'.due; path_is = due'.path_is } where
+  same_due h k path image o due' = record {
+    file = due'.file;
+    due = subst (λ (x : Owed). Among (files_of I.manifest x) due'.file) same due'.due;
+    path_is =
+        due'.path_is;
+  } where
     same : due I h ≡ due I k
-    same = sym (ap (λ (t : List ℕ). if bytes_eq t I.text then k.owed else owed.All) image ∙ ap (λ (x : Owed). if bytes_eq h.image I.text then x else owed.All) o)
+    same = sym (ap (λ (t : List ℕ). if bytes_eq t I.text then k.owed else owed.All) image ∙ ap (λ (x : Owed). if bytes_eq h.image I.text then x else owed.All)
+        o)
 
   commit_due : (h : Held) (tx : List ℕ) (path : Names) → IsDuePath I h path → IsDuePath I (committed h tx) path
   commit_due h tx path due' = record { file = due'.file; due = by (bytes_eq h.image I.text) due'.due; path_is = due'.path_is } where
@@ -41,7 +49,13 @@ module _ (I : Image) where
 
   keeps_all : (W N : World) → N.version ≡ W.version → N.format ≡ W.format → N.etc ≡ W.etc → N.held.image ≡ W.held.image → N.held.owed ≡ W.held.owed
       → Keeps I W N
-  keeps_all W N version format etc image o = record { version = version; format = format; etc = etc; due = λ path due'. same_due W.held N.held path image o due' }
+  keeps_all W N version format etc image o = record {
+    version = version;
+    format = format;
+    etc = etc;
+    due =
+        λ path due'. same_due W.held N.held path image o due';
+  }
 
   stays_all : (W : World) → Keeps I W W
   stays_all W = keeps_all W W refl refl refl refl refl

@@ -78,7 +78,8 @@ module _ {X Y : Type 0} where
 
   pub flat_among : (f : X → List Y) (xs : List X) (y : Y) → Among (flat_map f xs) y → (x : X) × Among xs x × Among (f x) y
   flat_among f [] y at = absurd at
-  flat_among f (x ∷ xs) y at = ⊎_elim (λ here. (x, inl refl, here)) (λ there. let t = flat_among f xs y there in (t.0, inr t.1, t.2)) (among_both (f x) (flat_map f xs) y at)
+  flat_among f (x ∷ xs) y at = ⊎_elim (λ here. (x, inl refl, here)) (λ there. let t = flat_among f xs y there in (t.0, inr t.1, t.2))
+      (among_both (f x) (flat_map f xs) y at)
 
 -- ---- keys and names
 
@@ -207,16 +208,16 @@ module _ {K X : Type 0} {R : K → K → Ordering} (same : IsAntisymmetric R) wh
     by true is rest found = inl (let p : q ≡ y.0 = same q y.0 (tied_by (R q y.0) is) in let v : x ≡ y.1 = cc in λ i. (p i, v i))
     by false is rest found = inr (rest found)
 
-  -- What stands at a key is among the entries.
+  -- What is at a key is among the entries.
   pub entry_among : (m : FinMap R X) (q : K) (x : X) → get m q ≡ Some x → Among (entries m) (q, x)
   entry_among m q x e = find_among (entries m) q x (sym (get-entries m q) ∙ e)
 
-  -- What is among the entries of a map stands there.
+  -- What is among the entries of a map is in it.
   pub entry_stands : (m : FinMap R X) (q : K) (x : X) → eq_by_cmp R q q ≡ true → Among (entries m) (q, x) → get m q ≡ Some x
   entry_stands m q x itself at = get-entries m q ∙ entry_found R same (entries m) q x itself (entries_rise m) at
 
 module _ {X : Type 0} where
-  -- A name at which something stands is among the keys.
+  -- A name at which there is something is among the keys.
   pub named_among : (m : FinMap bytes_cmp X) (q : List ℕ) → is_some (get m q) ≡ true → Among (keys m) q
   named_among m q e = name_among (keys m) q (sym (contains_key-keys m q) ∙ e)
 

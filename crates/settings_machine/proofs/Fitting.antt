@@ -73,7 +73,10 @@ module _ (table : List Row) (free : IsPrefixFree table) where
 
     -- What a transaction sets fits the live values.
     pub fit_live : (tx : List ℕ) → FitLive h tx
-    fit_live tx = record { fits = λ k v is. let m : MayPend table k (Put v) = typed.pending tx k (Put v) is in known_fits k m.setting (taken_known k (Put v) m.taken) }
+    fit_live tx = record {
+      fits = λ k v is. let m : MayPend table k (Put v) = typed.pending tx k (Put v) is in
+          known_fits k m.setting (taken_known k (Put v) m.taken);
+    }
 
     pending_known : (tx : List ℕ) (q : Key) → IsSome (get (pending_of h tx) q) → IsKnown table q
     pending_known tx q has = by (get (pending_of h tx) q) refl has where
@@ -88,7 +91,8 @@ module _ (table : List Row) (free : IsPrefixFree table) where
         longer = record { alone = λ q has begins. known_apart (get_or pairs i d).0 q k (pending_known tx q has) begins };
         shorter = record { alone = λ q has begins. known_apart q (get_or pairs i d).0 (pending_known tx q has) k begins };
       };
-      apart = λ i d low j e low' begins. known_apart (get_or pairs i d).0 (get_or pairs j e).0 (known _ (among_at pairs i d low)) (known _ (among_at pairs j e low')) begins;
+      apart = λ i d low j e low' begins. known_apart (get_or pairs i d).0 (get_or pairs j e).0 (known _ (among_at pairs i d low))
+          (known _ (among_at pairs j e low')) begins;
     } where
       known : (e : Key × Pending) → Among pairs e → IsKnown table e.0
       known e at = let m : MayPend table e.0 e.1 = all_may table pairs none e at in taken_known e.0 e.1 m.taken

@@ -12,7 +12,8 @@ use Rattle.std.proofs.lemmas.Bool.{cases_Bool, and_from, lt-ltb}
 use Rattle.outside.specs.Names.{path_cmp}
 use Rattle.key_names.specs.Order.{bytes_cmp-IsAntisymmetric}
 use Rattle.settings_tree.specs.Content.{Contents}
-use Rattle.metadata_links.specs.Faults.{faults, faults_in, values_in, names_of, pairs_of, is_same, same_paths, nested_paths, has_name, unknown_files, empty_commands}
+use Rattle.metadata_links.specs.Faults.{faults, faults_in, values_in, names_of, pairs_of}
+use Rattle.metadata_links.specs.Faults.{is_same, same_paths, nested_paths, has_name, unknown_files, empty_commands}
 use Rattle.metadata_links.specs.Faults.{service_faults}
 use Rattle.metadata_links.specs.Fields.{fields_below}
 use Rattle.metadata_links.specs.Files.{is_etc_path, is_template_path, passing, row_with, row_of, file_with, file_of, files_from, files_in}
@@ -89,7 +90,8 @@ row_etc : (name : List ℕ) (a b : Option (List (List ℕ))) (row : FileRow) →
     → row_with name a b ≡ Ok row → is_etc_path row.path ≡ true
 row_etc name None b row passes e = absurd (cc e)
 row_etc name (Some path) None row passes e = absurd (cc e)
-row_etc name (Some path) (Some template) row passes e = let same : path ≡ row.path = ap (λ (r : Result FileRow ManifestError). path_or path r) e in ap is_etc_path
+row_etc name (Some path) (Some template) row passes e = let same : path ≡ row.path = ap (λ (r : Result FileRow ManifestError). path_or path r) e in
+    ap is_etc_path
     (sym same) ∙ passes path refl
   where
     path_or : List (List ℕ) → Result FileRow ManifestError → List (List ℕ)
@@ -110,7 +112,8 @@ found_etc [] name row at = absurd at
 found_etc (x ∷ es) name row at = by (file_of x.0 x.1) refl (found_etc es name row) at where
   by : (o : Option (Result FileRow ManifestError)) → file_of x.0 x.1 ≡ o
       → (Among {X = List ℕ × Result FileRow ManifestError} (files_from es) (name, Ok row) → is_etc_path row.path ≡ true)
-      → Among {X = List ℕ × Result FileRow ManifestError} (cons_option (option_map (λ r. (x.0, r)) o) (files_from es)) (name, Ok row) → is_etc_path row.path ≡ true
+      → Among {X = List ℕ × Result FileRow ManifestError} (cons_option (option_map (λ r. (x.0, r)) o) (files_from es)) (name, Ok row)
+      → is_etc_path row.path ≡ true
   by None is rest at = rest at
   by (Some r) is rest (inl here) =
       let same : Ok row ≡ r = ap (λ (p : List ℕ × Result FileRow ManifestError). p.1) here in

@@ -27,7 +27,8 @@ match_all : (pattern : List Place) (key : Key) → length key ≡ length pattern
 match_all [] [] same fits = refl
 match_all [] (s ∷ key) same fits = absurd (omega arith)
 match_all (p ∷ pattern) [] same fits = absurd (omega arith)
-match_all (p ∷ pattern) (s ∷ key) same fits = and_from _ _ (fits_fit p s (fits 0 (omega arith))) (match_all pattern key (omega arith) (λ i low. fits (suc i) (omega arith)))
+match_all (p ∷ pattern) (s ∷ key) same fits = and_from _ _ (fits_fit p s (fits 0 (omega arith)))
+    (match_all pattern key (omega arith) (λ i low. fits (suc i) (omega arith)))
 
 pub matched : (pattern : List Place) (key : Key) → Matches pattern key → is_match pattern key ≡ true
 matched pattern key m = match_all pattern key m.same_length m.reaches.fits
@@ -52,7 +53,8 @@ module _ (table : List Row) (key : Key) (one : HasOneRow table key) where
   pub row_found : (row : Row) → HasRow table key row → row_for table key ≡ Some row
   row_found row has =
       let at : Contains table row = has.among in
-      let f = found_at (λ r. is_match r.pattern key) table at.0 row at.1 (ap (λ (r : Row). is_match r.pattern key) at.2 ∙ matched row.pattern key has.matches) in
+      let f = found_at (λ r. is_match r.pattern key) table at.0 row at.1 (ap (λ (r : Row). is_match r.pattern key) at.2 ∙ matched row.pattern key has.matches)
+      in
       let same : f.0 ≡ at.0 = one.one f.0 at.0 row f.1 at.1 (matches _ key f.3) (subst (λ (r : Row). Matches r.pattern key) (sym at.2) has.matches) in
       f.2 ∙ ap (λ n. Some (get_or table n row)) same ∙ ap (λ (r : Row). Some r) at.2
 

@@ -1,4 +1,4 @@
--- What an opening changes in the live values, and which files that concerns.
+-- What an opening changes in the live values, and which files that affects.
 use Rattle.std.proofs.Common.{◌≡◌, ⊎_elim, ℕ, zero, suc, Bool, true, false, not, ◌&&◌, cond, if◌then◌else◌, List, [], ◌∷◌, ◌++◌, map, filter}
 use Rattle.std.proofs.Common.{take, Option, Some, None, is_some, refl, sym, ◌∙◌, ap}
 use Rattle.std.specs.Prelude.{unwrap_or, codes}
@@ -19,7 +19,8 @@ use Rattle.settings_machine.specs.World.{Key, Among, Image}
 use Rattle.settings_machine.specs.Typed.{is_of_image, HasTypedSettings, IsTypedHeld}
 use Rattle.settings_machine.specs.Opening.{Values, is_of_store, filled, opened_values, added_keys, opened_held}
 use Rattle.settings_machine.specs.Paid.{IsGood}
-use Rattle.settings_machine.proofs.Elements.{key_tied, among_left, among_right, among_both, among_map, map_among, among_filter, filter_among, among_key, name_tied, entry_among}
+use Rattle.settings_machine.proofs.Elements.{key_tied, among_left, among_right, among_both, among_map}
+use Rattle.settings_machine.proofs.Elements.{map_among, among_filter, filter_among, among_key, name_tied, entry_among}
 use Rattle.settings_machine.proofs.Coverage.{DifferOnlyAt}
 use Rattle.settings_machine.proofs.Reached.{of_keys, keys_of}
 
@@ -57,7 +58,7 @@ get-filled (e ∷ es) m q =
     by false is false tie =
         ap (λ (o : Option Scalar). first_some o (find key_cmp q es)) (get-insert key_total m e.0 e.1 q ∙ ap (λ b. cond b (Some e.1) (get m q)) tie)
 
--- What stands at a key after an opening.
+-- What is at a key after an opening.
 abbrev opened_at : Values → Values → Key → Option Scalar
 opened_at defaults live q = if is_of_image q then get defaults q else first_some (get live q) (get defaults q)
 
@@ -65,7 +66,8 @@ pub get-opened : (defaults live : Values) (q : Key) → get (opened_values defau
 get-opened defaults live q =
     get-filled (entries defaults) (retain_keys live is_of_store) q
     ∙ ap (first_some (get (retain_keys live is_of_store) q)) (sym (get-entries defaults q))
-    ∙ ap (λ (o : Option Scalar). first_some o (get defaults q)) (get-retain_keys live is_of_store q (λ x tie. ap is_of_store (sym (key_cmp-IsAntisymmetric q x tie))))
+    ∙ ap (λ (o : Option Scalar). first_some o (get defaults q)) (get-retain_keys live is_of_store q
+    (λ x tie. ap is_of_store (sym (key_cmp-IsAntisymmetric q x tie))))
     ∙ by (is_of_image q) (get live q) (get defaults q)
   where
     by : (b : Bool) (l d : Option Scalar) → first_some (cond (not b) l None) d ≡ (if b then d else first_some l d)
@@ -74,9 +76,13 @@ get-opened defaults live q =
 
 -- ---- the settings stay typed
 
-pub opened_typed : (I : Image) (held : Held) (boot : Bool) → HasTypedSettings I.types I.defaults → IsTypedHeld I.types held → IsTypedHeld I.types (opened_held I held boot)
+pub opened_typed : (I : Image) (held : Held) (boot : Bool) → HasTypedSettings I.types I.defaults → IsTypedHeld I.types held
+    → IsTypedHeld I.types (opened_held I held boot)
 opened_typed I held boot defaults typed = record {
-  settings = record { typed = λ key value e not_image. by key value not_image (is_of_image key) not_image (sym (get-opened I.defaults.values held.live.values key) ∙ e) };
+  settings = record {
+    typed = λ key value e not_image. by key value not_image (is_of_image key) not_image
+        (sym (get-opened I.defaults.values held.live.values key) ∙ e);
+  };
   pending = typed.pending;
 } where
   of : (key : Key) (value : Scalar) → is_of_image key ≡ false → (l : Option Scalar) → get held.live.values key ≡ l
@@ -119,12 +125,18 @@ added_none defaults live q not_image not_added = by (get live q) (get defaults q
   by (Some v) d is_l is_d = refl
   by None None is_l is_d = refl
   by None (Some v) is_l is_d = absurd (not_added (among_map (λ (x : Key × Scalar). x.0) _ (q, v)
-      (filter_among (λ (x : Key × Scalar). is_of_store x.0 && not (contains_key live x.0)) (entries defaults) (q, v) (entry_among key_cmp-IsAntisymmetric defaults q v is_d)
+      (filter_among (λ (x : Key × Scalar). is_of_store x.0 && not (contains_key live x.0)) (entries defaults) (q, v)
+      (entry_among key_cmp-IsAntisymmetric defaults q v is_d)
       (ap (λ b. not b && not (contains_key live q)) not_image ∙ ap (λ (o : Option Scalar). not (is_some o)) is_l))))
 
-pub opened_differs : (I : Image) (held : Held) (boot : Bool) → DifferOnlyAt (opened_keys I.defaults.values held.live.values) held.live (opened_held I held boot).live
-opened_differs I held boot = record { same = λ q none. by q (not_among _ q none) (is_of_image q) refl ∙ sym (get-opened I.defaults.values held.live.values q) } where
-  by : (q : Key) → (Among (keys_in (image_entries held.live.values) ++ (keys_in (image_entries I.defaults.values) ++ added_keys I.defaults.values held.live.values)) q
+pub opened_differs : (I : Image) (held : Held) (boot : Bool) → DifferOnlyAt (opened_keys I.defaults.values held.live.values) held.live
+    (opened_held I held boot).live
+opened_differs I held boot = record {
+  same = λ q none. by q (not_among _ q none) (is_of_image q) refl
+      ∙ sym (get-opened I.defaults.values held.live.values q);
+} where
+  by : (q : Key) → (Among (keys_in (image_entries held.live.values) ++
+      (keys_in (image_entries I.defaults.values) ++ added_keys I.defaults.values held.live.values)) q
       → ⊥) → (b : Bool) → is_of_image q ≡ b
       → get held.live.values q ≡ opened_at I.defaults.values held.live.values q
   by q none true is =
@@ -136,7 +148,7 @@ opened_differs I held boot = record { same = λ q none. by q (not_among _ q none
       (λ at. none (among_right (keys_in (image_entries held.live.values)) _ q (among_right (keys_in (image_entries I.defaults.values)) _ q at))))
       ∙ sym (ap (λ b. if b then get I.defaults.values q else first_some (get held.live.values q) (get I.defaults.values q)) is)
 
--- ---- which files that concerns
+-- ---- which files that affects
 
 first_is : (s : List ℕ) (key : Key) → is_prefix (s ∷ []) key ≡ true → (rest : Key) × (key ≡ s ∷ rest)
 first_is s [] e = absurd (cc e)

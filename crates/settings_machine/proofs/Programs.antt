@@ -10,7 +10,8 @@ use Rattle.settings_tree.specs.declared.entry.Owed.{Owed}
 use Rattle.template_eval.specs.Rendered.{Rendered}
 use Rattle.settings_machine.specs.World.{Image, World, Work, Job, Idle, Failed, Running, is_running, rendered}
 use Rattle.settings_machine.specs.Typed.{Wanted, first_wanted}
-use Rattle.settings_machine.specs.Requests.{Request, Root, OsNames, Settings, SettingsAt, SettingsBelow, Patch, Services, ConfigurationFiles, Affected, Pends, DropTx, TxList}
+use Rattle.settings_machine.specs.Requests.{Request, Root, OsNames, Settings, SettingsAt, SettingsBelow}
+use Rattle.settings_machine.specs.Requests.{Patch, Services, ConfigurationFiles, Affected, Pends, DropTx, TxList}
 use Rattle.settings_machine.specs.Requests.{Commit, Apply, CommitAndApply, JobNow}
 use Rattle.settings_machine.specs.Step.{Outcome, Answered, WithoutMemory, Unopened, Faulted, Answer, Fine, NoRoom, FileFault, NoSpawn, SyncFault, OwedFault}
 use Rattle.settings_machine.specs.Step.{patch_next, commit_next, commit_and_apply_next, answered, request_next}
@@ -89,7 +90,8 @@ module _ (I : Image) where
   command_runs W w (OwedFault stored) [] no_file is = no_run W _ refl
   command_runs W w (OwedFault stored) (c ∷ rest) no_file is = no_run W _ refl
 
-  work_runs : (W : World) (w : Work) (a : Answer) (files : List (List ℕ)) → w.files ≡ files → (work_turn I W files w a).runs ≡ W.runs ++ run_of (Turned a) (Running w)
+  work_runs : (W : World) (w : Work) (a : Answer) (files : List (List ℕ)) → w.files ≡ files
+      → (work_turn I W files w a).runs ≡ W.runs ++ run_of (Turned a) (Running w)
   work_runs W w a [] is = command_runs W w a w.commands is refl
   work_runs W w (Fine status) (f ∷ fs) is = no_run W _ (wrote_runs W f fs w (rendered I f W.held.live))
       ∙ ap (λ (l : List Run). W.runs ++ l) (sym (ap (λ (l : List (List ℕ)). run_at status l w.commands) is))
@@ -155,7 +157,8 @@ module _ (I : Image) where
 
   next_of_all : (W : World) (e : Event) (cs : List Course) → IsHistoryOf I W.job cs → runs_in (next_courses I W e cs) ≡ runs_in cs ++ run_of e W.job
   next_of_all W e cs history =
-      begun_runs W.job (next I W e).job (is_last e W.job) (next I W e).held.owed (followed (is_running W.job) (run_of e W.job) (ending_of (is_last e W.job) (next I W e).job) cs)
+      begun_runs W.job (next I W e).job (is_last e W.job) (next I W e).held.owed
+      (followed (is_running W.job) (run_of e W.job) (ending_of (is_last e W.job) (next I W e).job) cs)
       ∙ followed_runs W.job (run_of e W.job) (ending_of (is_last e W.job) (next I W e).job) cs (none_of_rest e W.job) history
 
   pub after_runs : (W : World) (events : List Event) (cs : List Course) (before : List Run) → IsHistoryOf I W.job cs → W.runs ≡ before ++ runs_in cs

@@ -16,7 +16,8 @@ use Rattle.metadata_links.specs.declared.manifest.Manifest.{Manifest}
 use Rattle.metadata_links.specs.declared.service.Service.{Service}
 use Rattle.settings_machine.specs.World.{Key, Among}
 use Rattle.settings_machine.specs.Paid.{IsWithin}
-use Rattle.settings_machine.proofs.Elements.{among_left, among_both, among_filter, map_among, among_flat, flat_among, key_among, among_key, name_among, rising_among}
+use Rattle.settings_machine.proofs.Elements.{among_left, among_both, among_filter, map_among, among_flat}
+use Rattle.settings_machine.proofs.Elements.{flat_among, key_among, among_key, name_among, rising_among}
 use Rattle.settings_machine.proofs.Elements.{among_rising, firsts_among, among_firsts, named_among, entry_stands, name_itself}
 use Rattle.key_names.specs.Order.{bytes_cmp-IsAntisymmetric}
 
@@ -83,13 +84,15 @@ module _ (m : Manifest) where
     where
       by : (x : List ℕ × Service) → Among (entries m.services) x → has_name x.1.files f ≡ true → s ≡ x.0 → Among (service_named m s).files f
       by x among has is = subst (λ (n : List ℕ). Among (service_named m n).files f) (sym is)
-          (subst (λ (o : Option Service). Among (unwrap_or o no_service).files f) (sym (entry_stands bytes_cmp-IsAntisymmetric m.services x.0 x.1 (name_itself x.0) among))
+          (subst (λ (o : Option Service). Among (unwrap_or o no_service).files f)
+          (sym (entry_stands bytes_cmp-IsAntisymmetric m.services x.0 x.1 (name_itself x.0) among))
           (name_among x.1.files f has))
 
 -- Noted keys that are owed are owed with more keys.
 pub within_owing : (since ks : List Key) (o : Owed) → IsWithin since o → IsWithin (joined since ks) (owing o ks)
 within_owing since ks All within = tt
-within_owing since ks (Keys os) within = λ k is. has_key-merged k os ks ∙ by (has_key since k) (has_key os k) (has_key ks k) (within k) (sym (has_key-merged k since ks) ∙ is)
+within_owing since ks (Keys os) within = λ k is. has_key-merged k os ks ∙ by (has_key since k) (has_key os k) (has_key ks k) (within k)
+    (sym (has_key-merged k since ks) ∙ is)
   where
     by : (a b c : Bool) → (a ≡ true → b ≡ true) → (a || c) ≡ true → (b || c) ≡ true
     by true b c more e = ap (λ x. x || c) (more refl)

@@ -14,9 +14,11 @@ use Rattle.settings_machine.specs.declared.cause.Cause.{Cause}
 use Rattle.settings_machine.specs.declared.cause.Cause.TheVariants as cause
 use Rattle.settings_machine.specs.World.{Key, Image, World, Work, Job, Idle, Failed, Running, is_running, owes_none, rendered}
 use Rattle.settings_machine.specs.Typed.{Wanted, first_wanted}
-use Rattle.settings_machine.specs.Requests.{Request, Root, OsNames, Settings, SettingsAt, SettingsBelow, Patch, Services, ConfigurationFiles, Affected, Pends, DropTx, TxList}
+use Rattle.settings_machine.specs.Requests.{Request, Root, OsNames, Settings, SettingsAt, SettingsBelow}
+use Rattle.settings_machine.specs.Requests.{Patch, Services, ConfigurationFiles, Affected, Pends, DropTx, TxList}
 use Rattle.settings_machine.specs.Requests.{Commit, Apply, CommitAndApply, JobNow}
-use Rattle.settings_machine.specs.Step.{Outcome, Answered, WithoutMemory, Unopened, Faulted, Answer, Fine, NoRoom, FileFault, NoSpawn, SyncFault, OwedFault, noting, failing}
+use Rattle.settings_machine.specs.Step.{Outcome, Answered, WithoutMemory, Unopened, Faulted, Answer, Fine}
+use Rattle.settings_machine.specs.Step.{NoRoom, FileFault, NoSpawn, SyncFault, OwedFault, noting, failing}
 use Rattle.settings_machine.specs.Step.{patch_next, committed_world, commit_next, begun, asked_for, applied, commit_and_apply_next, answered, request_next}
 use Rattle.settings_machine.specs.Step.{wrote, file_turn, Command, ended, command_turn, last_turn, after_files_turn, work_turn, job_turn, turn_next, opened}
 use Rattle.settings_machine.specs.Events.{Event, Opening, Succeeded, Failing, Opened, Asked, Unread, Turned, Began, Moved, opening_next, next, after}
@@ -134,7 +136,8 @@ module _ (I : Image) where
   patch_leads W tx pairs None = same_leads W.job _
   patch_leads W tx pairs (Some wanted) = same_leads W.job _
 
-  commit_leads : (W : World) (tx : List ℕ) (o : Option (FinMap key_cmp Pending)) → Leads W.job (commit_next W tx o).world.held.owed (commit_next W tx o).world.job
+  commit_leads : (W : World) (tx : List ℕ) (o : Option (FinMap key_cmp Pending)) → Leads W.job (commit_next W tx o).world.held.owed
+      (commit_next W tx o).world.job
   commit_leads W tx None = same_leads W.job _
   commit_leads W tx (Some p) = noting_leads W.job _ _
 
@@ -185,13 +188,15 @@ module _ (I : Image) where
   -- ---- turns
 
   -- The programs that a turn runs, and whether it is the last, are as said.
-  history_with : (e : Event) (w : Work) (k : Job) (o : Owed) (cs : List Course) (rs : List Run) (b : Bool) → run_of e (Running w) ≡ rs → is_last e (Running w) ≡ b
+  history_with : (e : Event) (w : Work) (k : Job) (o : Owed) (cs : List Course) (rs : List Run) (b : Bool) → run_of e (Running w) ≡ rs
+      → is_last e (Running w) ≡ b
       → IsHistoryOf I k (begun_by (Running w) k b o (followed true rs (ending_of b k) cs)) → IsHistoryOf I k (courses_by e (Running w) k o cs)
   history_with e w k o cs rs b is_run is_b history =
-      subst (λ (l : List Run). IsHistoryOf I k (begun_by (Running w) k (is_last e (Running w)) o (followed true l (ending_of (is_last e (Running w)) k) cs))) (sym is_run)
+      subst (λ (l : List Run). IsHistoryOf I k (begun_by (Running w) k (is_last e (Running w)) o (followed true l (ending_of (is_last e (Running w)) k) cs)))
+      (sym is_run)
       (subst (λ c. IsHistoryOf I k (begun_by (Running w) k c o (followed true rs (ending_of c k) cs))) (sym is_b) history)
 
-  -- The job ran one program more, with status 0.
+  -- The job ran one program more, with exit status 0.
   ran_on : (w v : Work) (c : Command) (rest : List Command) (r : Run) (cs : List Course) → w.commands ≡ c ∷ rest → v.commands ≡ rest → r.words ≡ c.1.1
       → r.status ≡ 0 → IsHistoryOf I (Running w) cs
       → IsHistoryOf I (Running v) (followed true (r ∷ []) Going cs)
@@ -241,7 +246,8 @@ module _ (I : Image) where
       not_last : is_last (Turned (Fine status)) (Running w) ≡ false
       not_last = ap (λ (l : List (List ℕ)). has_none l w.commands) is
 
-      by : (r : Rendered) → IsHistoryOf I (wrote I W f fs w r).job (courses_by (Turned (Fine status)) (Running w) (wrote I W f fs w r).job (wrote I W f fs w r).held.owed cs)
+      by : (r : Rendered) → IsHistoryOf I (wrote I W f fs w r).job (courses_by (Turned (Fine status)) (Running w) (wrote I W f fs w r).job
+          (wrote I W f fs w r).held.owed cs)
       by (Ok bytes) = history_with (Turned (Fine status)) w (Running (record w { files = fs })) W.held.owed cs [] false none not_last
           (going_on w (record w { files = fs }) cs refl history)
       by (Err e) = breaks (Turned (Fine status)) (cause.Render f e) W.held.owed none not_last
@@ -252,7 +258,8 @@ module _ (I : Image) where
     file_left f fs (OwedFault stored) is = breaks (Turned (OwedFault stored)) cause.Disk W.held.owed refl refl
 
     command_left : (c : Command) (rest : List Command) (a : Answer) → w.files ≡ [] → w.commands ≡ c ∷ rest
-        → IsHistoryOf I (command_turn W c rest w a).job (courses_by (Turned a) (Running w) (command_turn W c rest w a).job (command_turn W c rest w a).held.owed cs)
+        → IsHistoryOf I (command_turn W c rest w a).job (courses_by (Turned a) (Running w) (command_turn W c rest w a).job (command_turn W c rest w a).held.owed
+        cs)
     command_left c rest (Fine status) no_file is = by status where
       runs_one : (n : ℕ) → run_of (Turned (Fine n)) (Running w) ≡ record { words = c.1.1; status = n } ∷ []
       runs_one n = ap (λ (l : List (List ℕ)). run_at n l w.commands) no_file ∙ ap (run_at n []) is
@@ -261,10 +268,12 @@ module _ (I : Image) where
       not_last n = ap (λ (l : List (List ℕ)). has_none l w.commands) no_file ∙ ap (has_none []) is
 
       by : (n : ℕ) → IsHistoryOf I (ended c rest w n) (courses_by (Turned (Fine n)) (Running w) (ended c rest w n) W.held.owed cs)
-      by zero = history_with (Turned (Fine 0)) w (Running (record w { commands = rest })) W.held.owed cs (record { words = c.1.1; status = 0 } ∷ []) false (runs_one 0)
+      by zero = history_with (Turned (Fine 0)) w (Running (record w { commands = rest })) W.held.owed cs (record { words = c.1.1; status = 0 } ∷ []) false
+          (runs_one 0)
           (not_last 0)
           (ran_on w (record w { commands = rest }) c rest (record { words = c.1.1; status = 0 }) cs is refl refl refl history)
-      by (suc n) = history_with (Turned (Fine (suc n))) w (Failed (cause.Status c.0 (suc n))) W.held.owed cs (record { words = c.1.1; status = suc n } ∷ []) false
+      by (suc n) = history_with (Turned (Fine (suc n))) w (Failed (cause.Status c.0 (suc n))) W.held.owed cs (record { words = c.1.1; status = suc n } ∷ [])
+          false
           (runs_one (suc n)) (not_last (suc n))
           (ran_last w c rest (record { words = c.1.1; status = suc n }) cs is refl (λ e. cc) history)
     command_left c rest NoRoom no_file is = breaks (Turned NoRoom) cause.Memory W.held.owed refl refl
@@ -291,7 +300,8 @@ module _ (I : Image) where
     none_left (FileFault left) no_file no_command = breaks (Turned (FileFault left)) cause.Disk W.held.owed refl refl
     none_left NoSpawn no_file no_command = breaks (Turned NoSpawn) cause.Disk W.held.owed refl refl
     none_left SyncFault no_file no_command = breaks (Turned SyncFault) cause.Disk W.held.owed refl refl
-    none_left (OwedFault stored) no_file no_command = breaks (Turned (OwedFault stored)) cause.Disk (if stored then owed.Keys w.since else W.held.owed) refl refl
+    none_left (OwedFault stored) no_file no_command = breaks (Turned (OwedFault stored)) cause.Disk (if stored then owed.Keys w.since else W.held.owed) refl
+        refl
 
     after_files : (commands : List Command) (a : Answer) → w.files ≡ [] → w.commands ≡ commands
         → IsHistoryOf I (after_files_turn I W commands w a).job
@@ -321,6 +331,7 @@ module _ (I : Image) where
   next_history W (Began version) cs history = led W.job Idle owed.All cs Rests history
   next_history W (Moved version held) cs history = led W.job Idle owed.All cs Rests history
 
-  pub after_history : (W : World) (events : List Event) (cs : List Course) → IsHistoryOf I W.job cs → IsHistoryOf I (after I W events).job (courses I W events cs)
+  pub after_history : (W : World) (events : List Event) (cs : List Course) → IsHistoryOf I W.job cs
+      → IsHistoryOf I (after I W events).job (courses I W events cs)
   after_history W [] cs history = history
   after_history W (e ∷ es) cs history = after_history (next I W e) es (next_courses I W e cs) (next_history W e cs history)

@@ -24,7 +24,8 @@ use Rattle.typed_settings.specs.declared.place.Place.{Place}
 use Rattle.typed_settings.specs.declared.place.Place.TheVariants.{Any, Plain}
 use Rattle.typed_settings.specs.declared.row.Row.{Row}
 use Rattle.settings_machine.specs.World.{Key, Among}
-use Rattle.settings_machine.specs.Typed.{is_fit, is_match, row_for, Wanted, wanted_unless, wanted_by, wanted_in, lesser, first_wanted, is_of_image, HasTypedSettings, IsTaken}
+use Rattle.settings_machine.specs.Typed.{is_fit, is_match, row_for, Wanted, wanted_unless, wanted_by}
+use Rattle.settings_machine.specs.Typed.{wanted_in, lesser, first_wanted, is_of_image, HasTypedSettings, IsTaken}
 use Rattle.settings_machine.specs.Typed.{MayPend, IsTypedHeld}
 use Rattle.settings_machine.proofs.Elements.{key_tied, name_tied}
 
@@ -112,16 +113,18 @@ inner-put m tx t i = ap (λ (o : Option (FinMap key_cmp Pending)). unwrap_or o e
   by false = refl
 
 -- What is pending after one more is put there is that, or was there before.
-put_or_old : (m : Maps) (tx t : List ℕ) (k q : Key) (v p : Pending) → value_at (with_value m tx k v) t q ≡ Some p → ((q ≡ k) × (p ≡ v)) ⊎ (value_at m t q ≡ Some p)
-put_or_old m tx t k q v p e = by (eq_by_cmp bytes_cmp t tx) refl (ap (λ (i : FinMap key_cmp Pending). get i q) (sym (inner-put m tx t (insert (inner m tx) k v))) ∙ e) where
-  here : (b : Bool) → eq_by_cmp key_cmp q k ≡ b → t ≡ tx → cond b (Some v) (get (inner m tx) q) ≡ Some p → ((q ≡ k) × (p ≡ v)) ⊎ (value_at m t q ≡ Some p)
-  here true is same e = inl (key_tied q k is, cc)
-  here false is same e = inr (ap (λ (n : List ℕ). get (inner m n) q) same ∙ e)
+put_or_old : (m : Maps) (tx t : List ℕ) (k q : Key) (v p : Pending) → value_at (with_value m tx k v) t q ≡ Some p
+    → ((q ≡ k) × (p ≡ v)) ⊎ (value_at m t q ≡ Some p)
+put_or_old m tx t k q v p e = by (eq_by_cmp bytes_cmp t tx) refl (ap (λ (i : FinMap key_cmp Pending). get i q)
+    (sym (inner-put m tx t (insert (inner m tx) k v))) ∙ e) where
+      here : (b : Bool) → eq_by_cmp key_cmp q k ≡ b → t ≡ tx → cond b (Some v) (get (inner m tx) q) ≡ Some p → ((q ≡ k) × (p ≡ v)) ⊎ (value_at m t q ≡ Some p)
+      here true is same e = inl (key_tied q k is, cc)
+      here false is same e = inr (ap (λ (n : List ℕ). get (inner m n) q) same ∙ e)
 
-  by : (b : Bool) → eq_by_cmp bytes_cmp t tx ≡ b → get (cond b (insert (inner m tx) k v) (inner m t)) q ≡ Some p → ((q ≡ k) × (p ≡ v))
-      ⊎ (value_at m t q ≡ Some p)
-  by true is e = here (eq_by_cmp key_cmp q k) refl (name_tied t tx is) (sym (get-insert key_total (inner m tx) k v q) ∙ e)
-  by false is e = inr e
+      by : (b : Bool) → eq_by_cmp bytes_cmp t tx ≡ b → get (cond b (insert (inner m tx) k v) (inner m t)) q ≡ Some p → ((q ≡ k) × (p ≡ v))
+          ⊎ (value_at m t q ≡ Some p)
+      by true is e = here (eq_by_cmp key_cmp q k) refl (name_tied t tx is) (sym (get-insert key_total (inner m tx) k v q) ∙ e)
+      by false is e = inr e
 
 AllMay : List Row → Maps → Type 0
 AllMay table m = (t : List ℕ) (q : Key) (p : Pending) → value_at m t q ≡ Some p → MayPend table q p
@@ -152,7 +155,9 @@ module _ (table : List Row) (h : Held) (typed : IsTypedHeld table h) where
   dropped_typed tx = record { settings = typed.settings; pending = removed_may tx }
 
   committed_settings : (tx : List ℕ) → HasTypedSettings table (committed h tx).live
-  committed_settings tx = record { typed = λ key value e not_image. by key value not_image (value_at h.pending tx key) refl (sym (value-committed h tx key) ∙ e) } where
+  committed_settings tx = record {
+    typed = λ key value e not_image. by key value not_image (value_at h.pending tx key) refl (sym (value-committed h tx key) ∙ e);
+  } where
     by : (key : Key) (value : Scalar) → is_of_image key ≡ false → (o : Option Pending) → value_at h.pending tx key ≡ o
         → over o (get h.live.values key) ≡ Some value → IsTyped table key value
     by key value not_image None is e = typed.settings.typed key value e not_image

@@ -29,31 +29,31 @@ settings_of values = entries_below values settings_key
 abbrev pub settings_where : (Key → Bool) → Values → List (Key × Scalar)
 settings_where test values = filter (λ e. test e.0) (settings_of values)
 
--- Whether a live setting stands at the key.
+-- Whether there is a live setting at the key.
 abbrev pub is_live_setting : Values → Key → Bool
 is_live_setting values key = is_prefix settings_key key && is_some (get values key)
 
--- The first of the keys at which no live setting stands.
+-- The first of the keys at which there is no live setting.
 abbrev pub missing_key : Values → List Key → Option Refusal
 missing_key values [] = None
 missing_key values (key ∷ keys) = if is_live_setting values key then missing_key values keys else Some (NoKey key)
 
 -- ---- services and configuration files
 
--- Whether a value stands below a first name and a name.
+-- Whether there is a value below a first name and a name.
 abbrev pub is_named : Values → List ℕ → List ℕ → Bool
 is_named values first name = list_any (λ e. is_prefix (first ∷ name ∷ []) e.0) (entries values)
 
--- The first of the names below which no value stands.
+-- The first of the names below which there is no value.
 abbrev pub missing_name : Values → List ℕ → List (List ℕ) → Option Refusal
 missing_name values first [] = None
 missing_name values first (name ∷ names) = if is_named values first name then missing_name values first names else Some (NoName name)
 
--- Whether the key stands below a first name and one of the names.
+-- Whether the key is below a first name and one of the names.
 abbrev pub is_below_one : List ℕ → List (List ℕ) → Key → Bool
 is_below_one first names key = list_any (λ name. is_prefix (first ∷ name ∷ []) key) names
 
--- All that stands below a first name, or what stands below one of the names there.
+-- All that is below a first name, or what is below one of the names there.
 abbrev pub below_names : Values → List ℕ → Option (List (List ℕ)) → Reply
 below_names values first None = Said (TreeOf 1 (entries_below values (first ∷ [])))
 below_names values first (Some names) =

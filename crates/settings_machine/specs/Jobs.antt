@@ -15,7 +15,7 @@ pub data Ending : Type 0 where
   Done : Ending
   Broken : Ending
 
--- A job: what was owed when it began, the programs that it ran, and how it stands.
+-- A job: what was owed when it began, the programs that it ran, and its state.
 pub record Course : Type 0 where
   pub owed : Owed
   pub ran : List Run
@@ -41,14 +41,14 @@ abbrev pub is_last : Event → Job → Bool
 is_last (Turned (Fine status)) (Running w) = has_none w.files w.commands
 is_last _ _ = false
 
--- How a job stands after an event that was its last turn or not, by the job that is there then.
+-- The state of a job after an event that was its last turn or not, by the job that is there then.
 abbrev pub ending_of : Bool → Job → Ending
 ending_of true job = Done
 ending_of false Idle = Broken
 ending_of false (Failed cause) = Broken
 ending_of false (Running w) = Going
 
--- The newest job, if one is running, has run these programs too, and stands so.
+-- The newest job, if one is running, has run these programs too, and is in this state.
 abbrev pub followed : Bool → List Run → Ending → List Course → List Course
 followed true runs ending (c ∷ cs) = record { owed = c.owed; ran = c.ran ++ runs; ending = ending } ∷ cs
 followed _ runs ending cs = cs
@@ -80,7 +80,7 @@ runs_in (c ∷ cs) = runs_in cs ++ c.ran
 
 -- ---- the law
 
--- Each command was run once, in this order, with status 0.
+-- Each command was run once, in this order, with exit status 0.
 abbrev pub RunsAll : List Command → List Run → Type 0
 RunsAll [] [] = Unit {0}
 RunsAll [] (r ∷ rs) = ⊥
@@ -123,7 +123,7 @@ IsHistoryOf I (Running w) [] = ⊥
 IsHistoryOf I (Running w) (c ∷ cs) = IsGoing I w c × HaveEnded I cs
 
 -- Over the run all programs that are run are those of its jobs, and each job runs the commands of the services that what was owed
--- when it began concerns, in order.
+-- when it began affects, in order.
 pub record RunInOrder (I : Image) (W : World) (events : List Event) : Type 0 where
   pub history : IsHistoryOf I (after I W events).job (courses I W events [])
   pub runs : (after I W events).runs ≡ W.runs ++ runs_in (courses I W events [])

@@ -16,17 +16,17 @@ use Rattle.settings_machine.specs.Typed.{is_of_image}
 abbrev pub Values : Type 0
 Values = FinMap key_cmp Scalar
 
--- The key is not that of a service or of a configuration file: the store says what stands there.
+-- The key is not that of a service or of a configuration file: the store says what is there.
 abbrev pub is_of_store : Key → Bool
 is_of_store key = not (is_of_image key)
 
--- The values, with each of these entries at a key where none stood.
+-- The values, with each of these entries at a key where there was none.
 abbrev pub filled : Values → List (Key × Scalar) → Values
 filled values [] = values
 filled values (e ∷ es) = filled (if contains_key values e.0 then values else insert values e.0 e.1) es
 
 -- The live settings, with the defaults at each key that has none: services and configuration files are those of the
--- defaults, and a default setting stands where no live one does.
+-- defaults, and there is a default setting where there is no live one.
 abbrev pub opened_values : Values → Values → Values
 opened_values defaults live = filled (retain_keys live is_of_store) (entries defaults)
 

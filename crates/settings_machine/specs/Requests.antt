@@ -56,7 +56,7 @@ is_reading Apply = false
 is_reading (CommitAndApply tx) = false
 is_reading _ = true
 
--- How a job stands, as a client is told.
+-- The status of a job, as a client sees it.
 abbrev pub job_status : Job → JobStatus
 job_status Idle = standing.Idle
 job_status (Failed cause) = standing.Failed cause
@@ -76,11 +76,11 @@ pub data Body : Type 0 where
   KeyList : List Key → Body
   -- names
   NameList : List (List ℕ) → Body
-  -- how the job stands, and what is owed
+  -- the status of the job, and what is owed
   JobIs : JobStatus → Owed → Body
 
--- What a request is answered: a body with status 200, status 204, a refusal, want of memory, a fault of the disk, or that
--- the store could not be opened again, for what stands there.
+-- What a request is answered: a body with HTTP status 200, HTTP status 204, a refusal, out of memory, a fault of the disk, or that
+-- the store could not be opened again, for what is there.
 pub data Reply : Type 0 where
   Said : Body → Reply
   Empty : Reply

@@ -18,7 +18,8 @@ pub record HoldsTemplates (I : Image) (templates : Templates) : Type 0 where
   pub trees : (f : List ℕ) (s : Source) → get I.templates f ≡ Some s → Parses s.text s.tree
 
 -- The parts are those of the image.
-pub record Holds (I : Image) (types : List Row) (os : List OsName) (defaults : Contents) (manifest : Manifest) (templates : Templates) (text : List ℕ) : Type 0 where
+pub record Holds (I : Image) (types : List Row) (os : List OsName) (defaults : Contents) (manifest : Manifest) (templates : Templates) (text : List ℕ) : Type
+    0 where
   pub types_are : types ≡ I.types
   pub os_is : os ≡ I.os
   pub defaults_are : defaults ≡ I.defaults

@@ -26,17 +26,17 @@ use Rattle.settings_machine.specs.Answers.{said_unless, settings_of, settings_wh
 
 -- ---- the free choices of the outside
 
--- What the outside let a request come to: it was answered, memory was wanting, the store could not be opened again for
--- what stands there, or a call of the disk failed and the request was taken or not.
+-- What the outside let a request come to: it was answered, it ran out of memory, the store could not be opened again for
+-- what is there, or a call of the disk failed and the request was taken or not.
 pub data Outcome : Type 0 where
   Answered : Outcome
   WithoutMemory : Outcome
   Unopened : List ℕ → Outcome
   Faulted : Bool → Outcome
 
--- What the outside let a turn come to: it went well, and a program ended with this status; memory was wanting; the write
--- of a file failed and left this at its path; a program could not be run; the sync before the end failed; or owed could
--- not be stored, and was stored or not.
+-- What the outside let a turn come to: it went well, and a program ended with this status; it ran out of memory; the write
+-- of a file failed and left this at its path; a program could not be run; the sync before the end failed, or the write of
+-- a file that changed nothing; or owed could not be stored, and was stored or not.
 pub data Answer : Type 0 where
   Fine : ℕ → Answer
   NoRoom : Answer
@@ -217,6 +217,23 @@ job_turn I W (Running w) a = work_turn I W w.files w a
 -- The world after one turn of the job.
 unfoldable pub turn_next : Image → World → Answer → World
 turn_next I W a = job_turn I W W.job a
+
+-- Whether the outside may answer so where these files and commands are to do: what may fail is the write of a file; else the
+-- run of a program; else the sync, or the storing of what is owed.
+abbrev pub fits_work : Answer → List (List ℕ) → List Command → Bool
+fits_work (Fine status) fs cs = true
+fits_work NoRoom fs cs = true
+fits_work (FileFault left) (f ∷ fs) cs = true
+fits_work SyncFault (f ∷ fs) cs = true
+fits_work SyncFault [] [] = true
+fits_work NoSpawn [] (c ∷ cs) = true
+fits_work (OwedFault stored) [] [] = true
+fits_work _ fs cs = false
+
+-- Whether the answer fits a turn of the job; one that doesn't run makes none.
+abbrev pub fits : Job → Answer → Bool
+fits (Running w) a = fits_work a w.files w.commands
+fits _ a = false
 
 -- ---- openings
 

@@ -35,7 +35,7 @@ pub enum Job {
     Running(Work),
 }
 
-/// How a job stands, as a client is told.
+/// The status of a job, as a client sees it.
 #[derive(Debug, Drop)]
 pub enum JobStatus {
     /// Nothing is to be done.
@@ -47,7 +47,7 @@ pub enum JobStatus {
 }
 
 impl Job {
-    /// How it stands. The only error is out of memory.
+    /// Its status. The only error is out of memory.
     pub fn status(&self) -> Result<JobStatus, AllocError>
         ensures { IfOk result (λ status. status ≡ job_status (job_seen self.now)) }
     {
@@ -70,7 +70,7 @@ pub fn owes_none(owed: &Owed) -> bool
 }
 
 /// A job that pays what is owed: it writes the files of the services that the owed keys affect, and then
-/// runs their commands. The only error is want of memory. It takes the time of `Manifest::files_of` and
+/// runs their commands. The only error is out of memory. It takes the time of `Manifest::files_of` and
 /// `Manifest::commands_of`.
 pub fn begun(alloc: Global, manifest: &Manifest, owed: &Owed) -> Result<Job, AllocError>
     ensures { IfOk result (λ job. (I : Image) → I.manifest ≡ manifest.now → begun I owed.now ≡ job_seen job) }
@@ -84,7 +84,7 @@ pub fn begun(alloc: Global, manifest: &Manifest, owed: &Owed) -> Result<Job, All
 }
 
 /// What is owed is to be paid: a job begins where none runs, and a running one is asked for again; where
-/// nothing is owed it is idle. The only error is want of memory, which leaves the job as it was; it comes
+/// nothing is owed it is idle. The only error is out of memory, which leaves the job as it was; it comes
 /// only where a job is to begin. It takes the time of `begun` there, and a step else.
 pub fn apply(
     alloc: Global,

@@ -33,7 +33,7 @@ pub enum Refusal {
 }
 
 impl Refusal {
-    /// The status by which a client is told of it: 400, 404 or 422 of HTTP (RFC 9110). It takes no memory.
+    /// The HTTP status by which it is reported to a client: 400, 404 or 422 (RFC 9110). It takes no memory.
     pub fn status(&self) -> u16
         ensures { result ≡ refusal_status self.now }
     {

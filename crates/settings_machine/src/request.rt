@@ -5,7 +5,7 @@ use settings_tree::{Pending, TxName};
 
 /// What a client asks of the machine.
 ///
-/// Lists stand as they were given: a key or a name that was given twice stands twice. Calls that take a request want each key of
+/// Lists are as they were given: a key or a name that was given twice is there twice. Calls that take a request want each key of
 /// a `Patch` to begin with `settings`.
 #[derive(Debug, Drop)]
 pub enum Request {
@@ -71,6 +71,6 @@ pub enum Request {
         /// The transaction.
         tx: TxName,
     },
-    /// How the job stands, and the keys that are owed.
+    /// The status of the job, and the keys that are owed.
     JobNow,
 }

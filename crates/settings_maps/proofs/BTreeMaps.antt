@@ -1,12 +1,14 @@
 -- A `BTreeMap` seen as a finite map.
-use Rattle.std.proofs.Common.{arith, ℕ, ◌<◌, length, ◌++◌, IsSome, is_some, ◌∷◌, ◌≡◌, List, [], Option, Some, None, Bool, true, false, cond, refl, sym, ◌∙◌, ap, subst}
+use Rattle.std.proofs.Common.{arith, ℕ, ◌<◌, length, ◌++◌, IsSome, is_some, ◌∷◌, ◌≡◌, List, []}
+use Rattle.std.proofs.Common.{Option, Some, None, Bool, true, false, cond, refl, sym, ◌∙◌, ap, subst}
 use Rattle.std.specs.Prelude.{◌↔◌, ◌==◌, IfSome, IfNone}
 use Rattle.std.specs.BTreeMap as tree
 use Rattle.std.specs.declared.cmp.Ordering.{Ordering}
 use Rattle.std.specs.declared.cmp.Ordering.TheVariants.{Less, Equal, Greater}
 use Rattle.std.specs.Ordering.{eq_by_cmp, is_lt, is_gt, ordering_reverse}
 use Rattle.std.specs.Cmp.{IsTotalOrder, eq_by_cmp_equiv}
-use Rattle.std.specs.FinMap.{FinMap, IsAntisymmetric, empty, get, insert, remove, from_entries, len-empty, get-empty, get-insert, get-remove, get-from_entries, same_map}
+use Rattle.std.specs.FinMap.{FinMap, IsAntisymmetric, empty, get, insert, remove}
+use Rattle.std.specs.FinMap.{from_entries, len-empty, get-empty, get-insert, get-remove, get-from_entries, same_map}
 use Rattle.std.specs.BTreeMap.Range.{IsRangeOf}
 use Rattle.std.specs.declared.ops.Bound.TheVariants.{Included, Excluded, Unbounded}
 use Rattle.key_names.specs.Order.{key_total, key_cmp-IsAntisymmetric, bytes_total, bytes_cmp-IsAntisymmetric}
@@ -23,7 +25,8 @@ pub seen-empty : {K X : Type 0} {R : K → K → Ordering} (m : tree.BTreeMap K 
 seen-empty {K} {X} {R} m none = ap (λ (es : List (K × X)). from_entries {R = R} es) none
 
 -- A map that stays as it was.
-pub seen-same : {K X : Type 0} {R : K → K → Ordering} (m n : tree.BTreeMap K X) (v : FinMap R X) → from_entries m.entries ≡ v → tree.IsUnchanged m n → from_entries n.entries ≡ v
+pub seen-same : {K X : Type 0} {R : K → K → Ordering} (m n : tree.BTreeMap K X) (v : FinMap R X) → from_entries m.entries ≡ v → tree.IsUnchanged m n
+    → from_entries n.entries ≡ v
 seen-same {K} {X} {R} m n v is same = ap (λ (es : List (K × X)). from_entries {R = R} es) same ∙ is
 
 -- What two clauses say of a value that is there.
@@ -42,7 +45,7 @@ module _ {K X : Type 0} {R : K → K → Ordering} (o : IsTotalOrder R) where
   at : (m : tree.BTreeMap K X) (v : FinMap R X) (q : K) → from_entries m.entries ≡ v → get v q ≡ tree.get R m q
   at m v q is = sym (ap (λ (w : FinMap R X). get w q) is) ∙ get-seen m q
 
-  -- What the tree finds is what stands in the map.
+  -- What the tree finds is what is in the map.
   pub seen-get : (m : tree.BTreeMap K X) (v : FinMap R X) (q : K) (r : Option X) → from_entries m.entries ≡ v → r ≡ tree.get R m q → r ≡ get v q
   seen-get m v q r is found = found ∙ sym (at m v q is)
 
@@ -50,7 +53,8 @@ module _ {K X : Type 0} {R : K → K → Ordering} (o : IsTotalOrder R) where
   seen-absent m v q is found = at m v q is ∙ found
 
   -- A key that the tree lacks.
-  pub seen-lacks : (m : tree.BTreeMap K X) (v : FinMap R X) (q : K) (b : Bool) → from_entries m.entries ≡ v → b ≡ is_some (tree.get R m q) → b ≡ false → get v q ≡ None
+  pub seen-lacks : (m : tree.BTreeMap K X) (v : FinMap R X) (q : K) (b : Bool) → from_entries m.entries ≡ v → b ≡ is_some (tree.get R m q) → b ≡ false
+      → get v q ≡ None
   seen-lacks m v q b is has lacks = at m v q is ∙ missing (tree.get R m q) (sym has ∙ lacks) where
     missing : (r : Option X) → is_some r ≡ false → r ≡ None
     missing None e = refl
@@ -59,14 +63,16 @@ module _ {K X : Type 0} {R : K → K → Ordering} (o : IsTotalOrder R) where
   empty_by : (es : List (K × X)) (b : Bool) → (b ≡ true ↔ (length es ≡ 0)) → b ≡ is_empty (from_entries {R = R} es)
   empty_by [] b is = is.1 refl ∙ sym (ap (λ (n : ℕ). n == 0) (len-empty R X))
   empty_by (e ∷ es) true is = absurd (omega (arith, is.0 refl))
-  empty_by (e ∷ es) false is = sym (not_empty (from_entries (e ∷ es)) e.0 e.1 (get-insert o (from_entries es) e.0 e.1 e.0 ∙ ap (λ b. cond b (Some e.1) (get (from_entries {R = R} es) e.0)) ((eq_by_cmp_equiv o).refl e.0)))
+  empty_by (e ∷ es) false is = sym (not_empty (from_entries (e ∷ es)) e.0 e.1
+      (get-insert o (from_entries es) e.0 e.1 e.0 ∙ ap (λ b. cond b (Some e.1) (get (from_entries {R = R} es) e.0)) ((eq_by_cmp_equiv o).refl e.0)))
 
   -- The test for no entry is the test for no key.
   pub seen-is_empty : (m : tree.BTreeMap K X) (v : FinMap R X) (b : Bool) → from_entries m.entries ≡ v → (b ≡ true ↔ (length m.entries ≡ 0)) → b ≡ is_empty v
   seen-is_empty m v b is test = empty_by m.entries b test ∙ ap is_empty is
 
   -- The first entry above a key.
-  pub least_above : (m : tree.BTreeMap K X) (a : K) (r t : List (K × X)) (e : K × X) → IsRangeOf R (Excluded a) Unbounded m r → r ≡ e ∷ t → IsLeastAfter {R = R} (from_entries m.entries) (Some a) e.0 e.1
+  pub least_above : (m : tree.BTreeMap K X) (a : K) (r t : List (K × X)) (e : K × X) → IsRangeOf R (Excluded a) Unbounded m r → r ≡ e ∷ t
+      → IsLeastAfter {R = R} (from_entries m.entries) (Some a) e.0 e.1
   least_above m a r t e range first =
       let whole : IsRangeOf R (Excluded a) Unbounded m (e ∷ t) = subst (IsRangeOf R (Excluded a) Unbounded m) first range in
       record {
@@ -75,11 +81,13 @@ module _ {K X : Type 0} {R : K → K → Ordering} (o : IsTotalOrder R) where
         least = λ q above has. whole.2 q (above, tt) (subst IsSome (get-seen m q) has);
       }
 
-  pub none_above : (m : tree.BTreeMap K X) (a : K) (r : List (K × X)) → IsRangeOf R (Excluded a) Unbounded m r → r ≡ [] → HasNoneAfter {R = R} (from_entries m.entries) (Some a)
+  pub none_above : (m : tree.BTreeMap K X) (a : K) (r : List (K × X)) → IsRangeOf R (Excluded a) Unbounded m r → r ≡ []
+      → HasNoneAfter {R = R} (from_entries m.entries) (Some a)
   none_above m a r range none = record { none = λ q above. get-seen m q ∙ range.5 none q (above, tt) }
 
   -- The first entry from a key on.
-  pub least_from : (m : tree.BTreeMap K X) (a : K) (r t : List (K × X)) (e : K × X) → IsRangeOf R (Included a) Unbounded m r → r ≡ e ∷ t → IsLeastFrom {R = R} (from_entries m.entries) a e.0 e.1
+  pub least_from : (m : tree.BTreeMap K X) (a : K) (r t : List (K × X)) (e : K × X) → IsRangeOf R (Included a) Unbounded m r → r ≡ e ∷ t
+      → IsLeastFrom {R = R} (from_entries m.entries) a e.0 e.1
   least_from m a r t e range first =
       let whole : IsRangeOf R (Included a) Unbounded m (e ∷ t) = subst (IsRangeOf R (Included a) Unbounded m) first range in
       record {
@@ -88,48 +96,59 @@ module _ {K X : Type 0} {R : K → K → Ordering} (o : IsTotalOrder R) where
         least = λ q above has. whole.2 q (above, tt) (subst IsSome (get-seen m q) has);
       }
 
-  pub none_from : (m : tree.BTreeMap K X) (a : K) (r : List (K × X)) → IsRangeOf R (Included a) Unbounded m r → r ≡ [] → HasNoneFrom {R = R} (from_entries m.entries) a
+  pub none_from : (m : tree.BTreeMap K X) (a : K) (r : List (K × X)) → IsRangeOf R (Included a) Unbounded m r → r ≡ []
+      → HasNoneFrom {R = R} (from_entries m.entries) a
   none_from m a r range none = record { none = λ q above. get-seen m q ∙ range.5 none q (above, tt) }
 
   -- The first entry of a whole map.
-  pub least_of_all : (m : tree.BTreeMap K X) (k : K) (x : X) → tree.get R m k ≡ Some x → tree.IsLowerBound R m k → IsLeastAfter {R = R} (from_entries m.entries) None k x
+  pub least_of_all : (m : tree.BTreeMap K X) (k : K) (x : X) → tree.get R m k ≡ Some x → tree.IsLowerBound R m k
+      → IsLeastAfter {R = R} (from_entries m.entries) None k x
   least_of_all m k x first least = record {
     stands = get-seen m k ∙ first;
     past = tt;
     least = λ q past has. least q (subst IsSome (get-seen m q) has);
   }
 
-  pub none_at_all : {A : Type 0} (m : tree.BTreeMap K X) (r : Option A) → (IsSome r ↔ (0 < length m.entries)) → IfNone r (HasNoneAfter {R = R} (from_entries m.entries) None)
+  pub none_at_all : {A : Type 0} (m : tree.BTreeMap K X) (r : Option A) → (IsSome r ↔ (0 < length m.entries))
+      → IfNone r (HasNoneAfter {R = R} (from_entries m.entries) None)
   none_at_all m (Some a) some = tt
-  none_at_all m None some = record { none = λ q past. ap (λ (w : FinMap R X). get w q) (seen-empty m (none_left m.entries (λ low. none (some.1 low)))) ∙ get-empty R q } where
+  none_at_all m None some = record {
+    none = λ q past. ap (λ (w : FinMap R X). get w q) (seen-empty m (none_left m.entries (λ low. none (some.1 low))))
+        ∙ get-empty R q;
+  } where
     none : false ≡ true → ⊥
     none e = grind arith
 
   -- The last entry below a key.
-  pub last_below : (m : tree.BTreeMap K X) (a : K) (r t : List (K × X)) (e : K × X) → IsRangeOf R Unbounded (Excluded a) m r → r ≡ t ++ e ∷ [] → IsLastBefore {R = R} (from_entries m.entries) a e.0 e.1
+  pub last_below : (m : tree.BTreeMap K X) (a : K) (r t : List (K × X)) (e : K × X) → IsRangeOf R Unbounded (Excluded a) m r → r ≡ t ++ e ∷ []
+      → IsLastBefore {R = R} (from_entries m.entries) a e.0 e.1
   last_below m a r t e range last = record {
     stands = get-seen m e.0 ∙ (range.3 e t last).1;
     below = (range.3 e t last).0.1;
     greatest = λ q below has. not_above (R e.0 q) (R q e.0) (o.antisymm q e.0) (range.4 e t last q (tt, below) (subst IsSome (get-seen m q) has));
   }
 
-  pub none_below : (m : tree.BTreeMap K X) (a : K) (r : List (K × X)) → IsRangeOf R Unbounded (Excluded a) m r → r ≡ [] → HasNoneBefore {R = R} (from_entries m.entries) a
+  pub none_below : (m : tree.BTreeMap K X) (a : K) (r : List (K × X)) → IsRangeOf R Unbounded (Excluded a) m r → r ≡ []
+      → HasNoneBefore {R = R} (from_entries m.entries) a
   none_below m a r range none = record { none = λ q below. get-seen m q ∙ range.5 none q (tt, below) }
 
   -- What is put into the tree is put into the map.
-  pub seen-insert : IsAntisymmetric R → (m n : tree.BTreeMap K X) (v : FinMap R X) (k : K) (x : X) → from_entries m.entries ≡ v → tree.Updates R m n k (Some x) → from_entries n.entries ≡ insert v k x
+  pub seen-insert : IsAntisymmetric R → (m n : tree.BTreeMap K X) (v : FinMap R X) (k : K) (x : X) → from_entries m.entries ≡ v → tree.Updates R m n k (Some x)
+      → from_entries n.entries ≡ insert v k x
   seen-insert same m n v k x is updates = same_map o same (from_entries n.entries) (insert v k x) (λ q.
       get-seen n q ∙ updates.0 q ∙ ap (λ b. cond b (Some x) (tree.get R m q)) ((eq_by_cmp_equiv o).symm k q)
       ∙ ap (cond (eq_by_cmp R q k) (Some x)) (sym (at m v q is)) ∙ sym (get-insert o v k x q))
 
   -- What is taken out of the tree is taken out of the map.
-  pub seen-remove : IsAntisymmetric R → (m n : tree.BTreeMap K X) (v : FinMap R X) (k : K) → from_entries m.entries ≡ v → tree.Updates R m n k None → from_entries n.entries ≡ remove v k
+  pub seen-remove : IsAntisymmetric R → (m n : tree.BTreeMap K X) (v : FinMap R X) (k : K) → from_entries m.entries ≡ v → tree.Updates R m n k None
+      → from_entries n.entries ≡ remove v k
   seen-remove same m n v k is updates = same_map o same (from_entries n.entries) (remove v k) (λ q.
       get-seen n q ∙ updates.0 q ∙ ap (λ b. cond b None (tree.get R m q)) ((eq_by_cmp_equiv o).symm k q)
       ∙ ap (cond (eq_by_cmp R q k) None) (sym (at m v q is)) ∙ sym (get-remove o v k q))
 
   -- What is written back as it was changes nothing.
-  pub seen-kept : IsAntisymmetric R → (m n : tree.BTreeMap K X) (v : FinMap R X) (k : K) (x y : X) → from_entries m.entries ≡ v → tree.get R m k ≡ Some y → x ≡ y → tree.Updates R m n k (Some x) → from_entries n.entries ≡ v
+  pub seen-kept : IsAntisymmetric R → (m n : tree.BTreeMap K X) (v : FinMap R X) (k : K) (x y : X) → from_entries m.entries ≡ v → tree.get R m k ≡ Some y
+      → x ≡ y → tree.Updates R m n k (Some x) → from_entries n.entries ≡ v
   seen-kept same m n v k x y is has one updates = seen-insert same m n v k x is updates ∙ insert-present o same v k x (at m v k is ∙ has ∙ ap Some (sym one))
 
 pub ruleset tree_maps = (seen-empty, seen-same, seen-get, seen-absent, seen-insert, seen-remove)

@@ -16,12 +16,14 @@ less Equal is = absurd (cc is)
 less Greater is = absurd (cc is)
 
 -- What is below a key is below all that the key is below.
-all_later : {K : Type 0} {R : K → K → Ordering} → IsTotalOrder R → (x y : K) (ks : List K) → R x y ≡ Less → AllByRecursion (λ z. R y z ≡ Less) ks → AllByRecursion (λ z. R x z ≡ Less) ks
+all_later : {K : Type 0} {R : K → K → Ordering} → IsTotalOrder R → (x y : K) (ks : List K) → R x y ≡ Less → AllByRecursion (λ z. R y z ≡ Less) ks
+    → AllByRecursion (λ z. R x z ≡ Less) ks
 all_later o x y [] low h = tt
 all_later o x y (k ∷ ks) low h = (o.trans x y k low h.0, all_later o x y ks low h.1)
 
 -- Keys of which each is below the next rise.
-rising_from : {K : Type 0} {R : K → K → Ordering} → IsTotalOrder R → (ks : List K) → AllAdjacentBelow (λ x y. true ≡ is_lt (R x y)) ks (length ks) → IsStrictlySortedBy R ks
+rising_from : {K : Type 0} {R : K → K → Ordering} → IsTotalOrder R → (ks : List K) → AllAdjacentBelow (λ x y. true ≡ is_lt (R x y)) ks (length ks)
+    → IsStrictlySortedBy R ks
 unfolding IsStrictlySortedBy
 rising_from o [] adjacent = tt
 rising_from o (x ∷ []) adjacent = (tt, tt)
@@ -46,5 +48,6 @@ tells_rising keys false h is = absurd (cc is)
 pub rising_told : (keys : List (List (List ℕ))) (b : Bool) → Tells keys b → IsRising keys → IsTrue b
 rising_told keys true h rises = refl
 rising_told keys false h rises =
-    let low : key_cmp (slice_index_or keys h.0 []) (slice_index_or keys (h.0 + 1) []) ≡ Less = Less-from_sorted key_cmp keys h.0 (h.0 + 1) [] rises (omega arith) h.1 in
+    let low : key_cmp (slice_index_or keys h.0 []) (slice_index_or keys (h.0 + 1) []) ≡ Less =
+    Less-from_sorted key_cmp keys h.0 (h.0 + 1) [] rises (omega arith) h.1 in
     absurd (cc (h.2 [], ap is_lt low))

@@ -10,7 +10,7 @@ abbrev pub IsPast : {K : Type 0} → (K → K → Ordering) → Option K → K �
 IsPast R None k = Unit {0}
 IsPast R (Some a) k = R a k ≡ Less
 
--- x stands at k, the least of the keys past the given one.
+-- x is at k, the least of the keys past the given one.
 pub record IsLeastAfter {K X : Type 0} {R : K → K → Ordering} (m : FinMap R X) (after : Option K) (k : K) (x : X) : Type 0 where
   pub stands : get m k ≡ Some x
   pub past : IsPast R after k
@@ -22,27 +22,27 @@ pub record IsLeastKeyAfter {K X : Type 0} {R : K → K → Ordering} (m : FinMap
   pub past : IsPast R after k
   pub least : (q : K) → IsPast R after q → IsSome (get m q) → IsLeBy R k q
 
--- Nothing stands past the given key.
+-- Nothing is past the given key.
 pub record HasNoneAfter {K X : Type 0} {R : K → K → Ordering} (m : FinMap R X) (after : Option K) : Type 0 where
   pub none : (q : K) → IsPast R after q → get m q ≡ None
 
--- x stands at k, the least of the keys from a on.
+-- x is at k, the least of the keys from a on.
 pub record IsLeastFrom {K X : Type 0} {R : K → K → Ordering} (m : FinMap R X) (a k : K) (x : X) : Type 0 where
   pub stands : get m k ≡ Some x
   pub from : IsLeBy R a k
   pub least : (q : K) → IsLeBy R a q → IsSome (get m q) → IsLeBy R k q
 
--- Nothing stands from a on.
+-- Nothing is from a on.
 pub record HasNoneFrom {K X : Type 0} {R : K → K → Ordering} (m : FinMap R X) (a : K) : Type 0 where
   pub none : (q : K) → IsLeBy R a q → get m q ≡ None
 
--- x stands at k, the greatest of the keys below a.
+-- x is at k, the greatest of the keys below a.
 pub record IsLastBefore {K X : Type 0} {R : K → K → Ordering} (m : FinMap R X) (a k : K) (x : X) : Type 0 where
   pub stands : get m k ≡ Some x
   pub below : R k a ≡ Less
   pub greatest : (q : K) → R q a ≡ Less → IsSome (get m q) → IsLeBy R q k
 
--- Nothing stands below a.
+-- Nothing is below a.
 pub record HasNoneBefore {K X : Type 0} {R : K → K → Ordering} (m : FinMap R X) (a : K) : Type 0 where
   pub none : (q : K) → R q a ≡ Less → get m q ≡ None
 
@@ -55,7 +55,7 @@ module _ {K N X : Type 0} {R : K → K → Ordering} {S : N → N → Ordering} 
   abbrev pub inner : FinMap R (FinMap S X) → K → FinMap S X
   inner m k = unwrap_or (get m k) empty
 
-  -- What stands at a key and a name.
+  -- What is at a key and a name.
   abbrev pub value_at : FinMap R (FinMap S X) → K → N → Option X
   value_at m k n = get (inner m k) n
 

@@ -12,7 +12,7 @@ use Rattle.json_trees.specs.declared.scalar.Scalar.{Scalar}
 abbrev pub RisesByName : List (List ℕ × Scalar) → Type 0
 RisesByName es = IsTrue (is_sorted bytes_cmp es)
 
--- The name stands at this index.
+-- The name is at this index.
 pub record IsNameAt (es : List (List ℕ × Scalar)) (name : List ℕ) (i : ℕ) : Type 0 where
   pub within : i < length es
   pub same : HoldsAt (λ e. e.0 ≡ name) es i

@@ -77,7 +77,7 @@ impl KeyList {
         &self.keys
     }
 
-    /// A copy with the same keys. The only error is want of memory.
+    /// A copy with the same keys. The only error is out of memory.
     pub fn copy(&self) -> Result<KeyList, AllocError>
         ensures { IfOk result (λ copy. copy ≡ self.now) }
     {

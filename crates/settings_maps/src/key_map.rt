@@ -56,8 +56,8 @@ impl<V: Drop> KeyMap<V> {
         self.map.is_empty()
     }
 
-    /// Puts the value at the key, over the one that stands there if there is one. It is logarithmic.
-    /// The only error is want of memory, which comes only at a key that the map lacks, and leaves the
+    /// Puts the value at the key, over the one that is there if there is one. It is logarithmic.
+    /// The only error is out of memory, which comes only at a key that the map lacks, and leaves the
     /// map unchanged.
     pub fn put(&mut self, key: Key, value: V) -> Result<(), AllocError>
         ensures ok { OnOk result (self.new ≡ map.insert self.old key value) }
@@ -67,7 +67,7 @@ impl<V: Drop> KeyMap<V> {
         tree_maps::put(&mut self.map, key, value)
     }
 
-    /// Puts the value over the one that stands at the key. It is logarithmic and takes no memory.
+    /// Puts the value over the one that is at the key. It is logarithmic and takes no memory.
     pub fn put_over(&mut self, key: Key, value: V)
         requires { IsSome (map.get self.old key) }
         ensures { self.new ≡ map.insert self.old key value }

@@ -42,7 +42,7 @@ fn push_joined(all: &mut Vec<Key>, one: &[Key], two: &[Key]) -> Result<(), Alloc
 
 impl KeyList {
     /// The keys that the other list lacks. It takes a step for each key, logarithmic in the other
-    /// list. The only error is want of memory.
+    /// list. The only error is out of memory.
     pub fn without(&self, others: &KeyList) -> Result<KeyList, AllocError>
         ensures { IfOk result (λ rest. rest ≡ without_keys self.now others.now) }
     {
@@ -55,7 +55,7 @@ impl KeyList {
         Ok(KeyList::of(rest))
     }
 
-    /// The keys of either list. It takes a step for each key of both. The only error is want of
+    /// The keys of either list. It takes a step for each key of both. The only error is out of
     /// memory.
     pub fn joined(&self, others: &KeyList) -> Result<KeyList, AllocError>
         ensures { IfOk result (λ all. all ≡ joined self.now others.now) }

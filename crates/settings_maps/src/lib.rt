@@ -1,6 +1,6 @@
 //! Finite maps of settings: by key, by key and name, and by transaction and key, with the lists of
 //! keys that rise and the names of transactions. Each is seen as the finite map, list or name that it
-//! stands for.
+//! represents.
 #![tactic(auto)]
 
 mod key_list;

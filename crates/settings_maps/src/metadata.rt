@@ -57,7 +57,7 @@ impl Metadata {
         }
     }
 
-    // Only a name that the key lacks can want memory.
+    // Memory can run out only at a name that the key lacks.
     fn put_in(&mut self, key: &Key, name: Text, value: Scalar) -> Result<(), AllocError>
         requires { IsSome (map.get self.old key.now) }
         ensures ok { OnOk result (self.new ≡ with_value self.old key.now name value) }
@@ -77,8 +77,8 @@ impl Metadata {
         tree_maps::put(&mut self.map, key, names)
     }
 
-    /// Puts the value at the key and the name, over the one that stands there if there is one. The
-    /// only error is want of memory, which comes only where nothing stands there, and leaves the
+    /// Puts the value at the key and the name, over the one that is there if there is one. The
+    /// only error is out of memory, which comes only where nothing is there, and leaves the
     /// metadata unchanged.
     pub fn put(&mut self, key: Key, name: Text, value: Scalar) -> Result<(), AllocError>
         ensures ok { OnOk result (self.new ≡ with_value self.old key name value) }
@@ -92,7 +92,7 @@ impl Metadata {
         }
     }
 
-    /// Puts the value over the one that stands at the key and the name. It takes no memory.
+    /// Puts the value over the one that is at the key and the name. It takes no memory.
     pub fn put_over(&mut self, key: &Key, name: Text, value: Scalar)
         requires { IsSome (value_at self.old key.now name) }
         ensures { self.new ≡ with_value self.old key.now name value }

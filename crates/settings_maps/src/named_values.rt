@@ -68,7 +68,7 @@ fn place_after(entries: &[(Text, Scalar)], after: Option<&[u8]>) -> usize
     }
 }
 
-// Puts the entry at the index, over the one that stands there.
+// Puts the entry at the index, over the one that is there.
 fn set_entry(entries: &mut Vec<(Text, Scalar)>, index: usize, name: Text, value: Scalar)
     requires { index < length entries.old.items }
     ensures { entries.new.items ≡ slice_set entries.old.items index (name, value) }
@@ -117,8 +117,8 @@ impl NamedValues {
         }
     }
 
-    /// Puts the value under the name, over the one that stands there if there is one. The only error
-    /// is want of memory, which comes only at a name that the map lacks, and leaves the map unchanged.
+    /// Puts the value under the name, over the one that is there if there is one. The only error
+    /// is out of memory, which comes only at a name that the map lacks, and leaves the map unchanged.
     #[tactic(auto, using(crate::proofs::SortedEntries::puts))]
     pub fn put(&mut self, name: Text, value: Scalar) -> Result<(), AllocError>
         ensures ok { OnOk result (self.new ≡ map.insert self.old name value) }
@@ -151,7 +151,7 @@ impl NamedValues {
         }
     }
 
-    /// Puts the value over the one that stands under the name. It takes no memory.
+    /// Puts the value over the one that is under the name. It takes no memory.
     #[tactic(auto, using(crate::proofs::SortedEntries::puts))]
     pub fn put_over(&mut self, name: Text, value: Scalar)
         requires { IsSome (map.get self.old name) }

@@ -66,7 +66,7 @@ impl Transactions {
         self.map.get(tx)
     }
 
-    // Only a key that the transaction lacks can want memory.
+    // Memory can run out only at a key that the transaction lacks.
     fn put_in(&mut self, tx: &TxName, key: Key, value: Pending) -> Result<(), AllocError>
         requires { IsSome (map.get self.old tx.now) }
         ensures ok { OnOk result (self.new ≡ with_value self.old tx.now key value) }
@@ -86,8 +86,8 @@ impl Transactions {
         tree_maps::put(&mut self.map, tx, pending)
     }
 
-    /// Puts what is pending in the transaction for the key, over what stands there if there is
-    /// something. The only error is want of memory, which comes only where nothing stands there, and
+    /// Puts what is pending in the transaction for the key, over what is there if there is
+    /// something. The only error is out of memory, which comes only where nothing is there, and
     /// leaves the map unchanged.
     pub fn put(&mut self, tx: TxName, key: Key, value: Pending) -> Result<(), AllocError>
         ensures ok { OnOk result (self.new ≡ with_value self.old tx key value) }
@@ -101,7 +101,7 @@ impl Transactions {
         }
     }
 
-    /// Puts what is pending over what stands in the transaction at the key. It takes no memory.
+    /// Puts what is pending over what is in the transaction at the key. It takes no memory.
     pub fn put_over(&mut self, tx: &TxName, key: Key, value: Pending)
         requires { IsSome (value_at self.old tx.now key) }
         ensures { self.new ≡ with_value self.old tx.now key value }
@@ -163,7 +163,7 @@ impl Transactions {
     }
 
     /// Makes this what the transaction has pending by key. A transaction that is to have no key goes.
-    /// It is logarithmic. The only error is want of memory, which leaves the map unchanged.
+    /// It is logarithmic. The only error is out of memory, which leaves the map unchanged.
     pub fn set_keys(&mut self, tx: TxName, keys: KeyMap<Pending>) -> Result<(), AllocError>
         ensures ok { OnOk result (self.new ≡ with_inner self.old tx keys) }
         ensures err { OnErr result (self.new ≡ self.old) }

@@ -14,7 +14,7 @@ use std::ops::Bound;
 
 /// A value of which a copy can be made. The copy is the value, as contracts see it.
 pub trait Copied: Drop {
-    /// A copy. The only error is want of memory.
+    /// A copy. The only error is out of memory.
     fn copied(&self) -> Result<Self, AllocError>
         ensures { IfOk result (λ copy. copy ≡ self.now) };
 }
@@ -64,7 +64,7 @@ pub(crate) fn last_before<'a, K: Ord, V>(map: &'a BTreeMap<K, V>, key: &K) -> Op
         .next_back()
 }
 
-/// Puts the value at the key, over the one that stands there if there is one. The only error is want
+/// Puts the value at the key, over the one that is there if there is one. The only error is out
 /// of memory, which comes only at a key that the map lacks, and leaves the map unchanged.
 pub(crate) fn put<K: Ord + Drop, V: Drop>(
     map: &mut BTreeMap<K, V>,

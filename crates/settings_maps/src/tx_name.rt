@@ -30,7 +30,7 @@ impl Model for TxName {
 #[tactic(auto, using(crate::proofs::BareNames::bare_names))]
 impl TxName {
     /// The name with these bytes; None exactly where they aren't 1 to 64 bare characters, which is
-    /// found before any memory is asked for. The only error is want of memory.
+    /// found before any memory is asked for. The only error is out of memory.
     pub fn read(alloc: Global, text: &[u8]) -> Result<Option<TxName>, AllocError>
         ensures some { IfOk result (λ o. IfSome o (λ name. name ≡ text.now × IsTrue (is_tx_name text.now))) }
         ensures none { IfOk result (λ o. IfNone o (is_tx_name text.now ≡ false)) }
@@ -54,7 +54,7 @@ impl TxName {
         self.name.as_str()
     }
 
-    /// A copy with the same name. The only error is want of memory.
+    /// A copy with the same name. The only error is out of memory.
     pub fn copy(&self) -> Result<TxName, AllocError>
         ensures { IfOk result (λ name. name ≡ self.now) }
     {

@@ -1,12 +1,13 @@
 -- A store is begun where none is.
 use Rattle.std.proofs.Common.{◌≡◌, inl, inr, Option, Result, Ok, Err, OnOk, sym, subst}
-use Rattle.outside.specs.History.{History}
+use Rattle.outside.specs.History.{History, tree_of}
 use Rattle.outside.specs.Told.{Moves}
 use Rattle.outside.proofs.Told.{moves_map, moves_same}
 use Rattle.settings_machine.specs.World.{Image, World}
 use Rattle.settings_machine.specs.Events.{Began, next}
 use Rattle.settings_machine.specs.Paid.{IsGood}
 use Rattle.version_links.specs.declared.version.Version.{Version}
+use Rattle.machine_disk.specs.Store.{bytes_at}
 use Rattle.store_open.specs.Beginning.{Begins}
 use Rattle.store_open.specs.declared.begin_error.InitError.{InitError}
 use Rattle.store_open.specs.declared.begin_error.InitError.TheVariants as beginning
@@ -19,22 +20,26 @@ use Rattle.settings_run.specs.Headline.{BeginsStore}
 
 module _ (version : Version) (outcome : Outcome) where
   begun : (result : Result (Unit {0}) InitError) (old new : History) → Begins version result old new → AnswersBeginning version result outcome
-      → (I : Image) → IsGood I → (W : World) → IsBare W old → OnOk outcome (HasBegun I (next I W (Began version)) new)
+      → (I : Image) → IsGood I → (W : World) → IsBare W old → OnOk outcome (HasBegun I (bytes_at (tree_of old)) (next I W (Began version)) new)
   begun (Ok done) old new begins answers I good W bare = by outcome where
-    by : (o : Outcome) → OnOk o (HasBegun I (next I W (Began version)) new)
+    by : (o : Outcome) → OnOk o (HasBegun I (bytes_at (tree_of old)) (next I W (Began version)) new)
     by (Ok line) = beginnings_begin I good W version done old new bare begins
     by (Err e) = tt
-  begun (Err (beginning.AlreadyThere other)) old new begins answers I good W bare = subst (λ (o : Outcome). OnOk o (HasBegun I (next I W (Began version)) new)) (sym answers) tt
-  begun (Err (beginning.BadLink path)) old new begins answers I good W bare = subst (λ (o : Outcome). OnOk o (HasBegun I (next I W (Began version)) new)) (sym answers) tt
-  begun (Err beginning.Failed) old new begins answers I good W bare = subst (λ (o : Outcome). OnOk o (HasBegun I (next I W (Began version)) new)) (sym answers) tt
-  begun (Err beginning.Memory) old new begins answers I good W bare = subst (λ (o : Outcome). OnOk o (HasBegun I (next I W (Began version)) new)) (sym answers) tt
+  begun (Err (beginning.AlreadyThere other)) old new begins answers I good W bare =
+      subst (λ (o : Outcome). OnOk o (HasBegun I (bytes_at (tree_of old)) (next I W (Began version)) new)) (sym answers) tt
+  begun (Err (beginning.BadLink path)) old new begins answers I good W bare =
+      subst (λ (o : Outcome). OnOk o (HasBegun I (bytes_at (tree_of old)) (next I W (Began version)) new)) (sym answers) tt
+  begun (Err beginning.Failed) old new begins answers I good W bare = subst
+      (λ (o : Outcome). OnOk o (HasBegun I (bytes_at (tree_of old)) (next I W (Began version)) new)) (sym answers) tt
+  begun (Err beginning.Memory) old new begins answers I good W bare = subst
+      (λ (o : Outcome). OnOk o (HasBegun I (bytes_at (tree_of old)) (next I W (Began version)) new)) (sym answers) tt
 
-  -- Memory was wanting: no store is there still.
+  -- It ran out of memory: there is still no store.
   unbegun : (h : History) → outcome ≡ Err refused.Memory → BeginsStore version outcome h h
   unbegun h told = record {
     each = λ I good W bare. (
       bare_stays I W version h bare,
-      subst (λ (o : Outcome). OnOk o (HasBegun I (next I W (Began version)) h)) (sym told) tt,
+      subst (λ (o : Outcome). OnOk o (HasBegun I (bytes_at (tree_of h)) (next I W (Began version)) h)) (sym told) tt,
     );
   }
 

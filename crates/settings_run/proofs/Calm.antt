@@ -1,15 +1,14 @@
 -- Where a command has ended well, no call of the disk has failed since its opening.
 use Rattle.std.proofs.Common.{◌≡◌, inl, inr, ℕ, Bool, true, false, List, [], ◌∷◌, ◌++◌, Ok, Err, OnOk, refl, ◌∙◌, ap}
-use Rattle.outside.specs.History.{History, EachImage}
 use Rattle.settings_machine.specs.World.{Image, World, Work, Job, Idle, Failed, Running, is_running}
 use Rattle.settings_machine.specs.Requests.{Request}
-use Rattle.settings_machine.specs.Step.{Answer, Fine, NoRoom, FileFault, NoSpawn, SyncFault, OwedFault, Command, after_files_turn, work_turn, job_turn, turn_next, opened}
+use Rattle.settings_machine.specs.Step.{Answer, Fine, NoRoom, FileFault, NoSpawn, SyncFault}
+use Rattle.settings_machine.specs.Step.{OwedFault, Command, after_files_turn, work_turn, job_turn, turn_next, opened}
 use Rattle.settings_machine.specs.Events.{Event, Opened, Asked, Unread, Turned, Began, Moved, is_disk_fault, after, faulted_after}
 use Rattle.settings_machine.specs.declared.cause.Cause.{Cause}
 use Rattle.settings_machine.specs.declared.cause.Cause.TheVariants as cause
 use Rattle.settings_machine.proofs.Sequences.{faulted-append}
 use Rattle.machine_disk.specs.Ran.{IsDriven}
-use Rattle.machine_disk.specs.Store.{Recovers}
 use Rattle.command_outcome.specs.Ends.{Outcome}
 use Rattle.core_commands.specs.Asking.{asked_all}
 use Rattle.core_commands.specs.Carried.{HasEnded}
@@ -67,11 +66,12 @@ module _ (I : Image) where
   -- Where the job is idle in the end, the disk failed in no turn.
   driven_calm : (W : World) (es : List Event) → IsDriven I W es → (after I W es).job ≡ Idle → faulted_after false es ≡ false
   driven_calm W [] driven idle = refl
-  driven_calm W (Turned a ∷ es) driven idle = by (driven_calm (turn_next I W a) es driven.1 idle) (is_disk_fault a) refl where
+  driven_calm W (Turned a ∷ es) driven idle = by (driven_calm (turn_next I W a) es driven.2 idle) (is_disk_fault a) refl where
     by : faulted_after false es ≡ false → (fault : Bool) → is_disk_fault a ≡ fault → faulted_after (is_disk_fault a) es ≡ false
     by calm false is = ap (λ (b : Bool). faulted_after b es) is ∙ calm
     by calm true is =
-        let failed : (after I (turn_next I W a) es).job ≡ Failed cause.Disk = stays_failed (turn_next I W a) cause.Disk es (turn_fails I W a driven.0 is) driven.1 in
+        let failed : (after I (turn_next I W a) es).job ≡ Failed cause.Disk =
+        stays_failed (turn_next I W a) cause.Disk es (turn_fails I W a driven.0 is) driven.2 in
         absurd (cc (failed, idle))
   driven_calm W (Opened boot o ∷ es) driven idle = absurd driven
   driven_calm W (Asked q o ∷ es) driven idle = absurd driven
@@ -85,7 +85,8 @@ pub asked_calm : (qs : List Request) → faulted_after false (asked_all qs) ≡ 
 asked_calm [] = refl
 asked_calm (q ∷ qs) = asked_calm qs
 
-ended_calm : (I : Image) (W : World) (qs : List Request) (asked turned : List Event) → HasEnded I W qs Idle asked turned → faulted_after false (asked ++ turned) ≡ false
+ended_calm : (I : Image) (W : World) (qs : List Request) (asked turned : List Event) → HasEnded I W qs Idle asked turned
+    → faulted_after false (asked ++ turned) ≡ false
 ended_calm I W qs asked turned ended =
     faulted-append false asked turned
     ∙ ap (λ (b : Bool). faulted_after b turned) (ap (faulted_after false) ended.succeeds.events_are ∙ asked_calm qs)
@@ -94,22 +95,22 @@ ended_calm I W qs asked turned ended =
 -- ---- commands that ended well
 
 pub requests_calm : (I : Image) (W : World) (qs : List Request) (Tells : World → List ℕ → Type 0) (said : List ℕ) (events : List Event)
-    → RequestEvents I W qs Tells (Ok said) events → faulted_after true events ≡ false
+    → RequestEvents I W qs Tells (Ok said) events → faulted_after false events ≡ false
 requests_calm I W qs Tells said events (inl (asked, turned, is, comes)) =
-    ap (faulted_after true) is ∙ ended_calm I (opened I W false) qs asked turned comes.0
+    ap (faulted_after false) is ∙ ended_calm I (opened I W false) qs asked turned comes.0
 requests_calm I W qs Tells said events (inr (inl (taken, is, inl told))) = absurd (cc told)
 requests_calm I W qs Tells said events (inr (inl (taken, is, inr told))) = absurd (cc told)
 requests_calm I W qs Tells said events (inr (inr (is, e, refusal, told))) = absurd (cc told)
 
 pub gets_calm : (I : Image) (W : World) (keys : List (List (List ℕ))) (said : List ℕ) (events : List Event)
-    → GetEvents I W keys (Ok said) events → faulted_after true events ≡ false
-gets_calm I W keys said events (inl (is, answers)) = ap (faulted_after true) is
+    → GetEvents I W keys (Ok said) events → faulted_after false events ≡ false
+gets_calm I W keys said events (inl (is, answers)) = ap (faulted_after false) is
 gets_calm I W keys said events (inr (inl (taken, is, inl told))) = absurd (cc told)
 gets_calm I W keys said events (inr (inl (taken, is, inr told))) = absurd (cc told)
 gets_calm I W keys said events (inr (inr (is, e, refusal, told))) = absurd (cc told)
 
--- A run that ended well recovers to its last world, where no call of the disk has failed since its opening.
-pub ends_calm : (I : Image) (W : World) (events : List Event) (outcome : Outcome) (new : History) → ((said : List ℕ) → outcome ≡ Ok said → faulted_after true events ≡ false)
-    → (faulted_after true events ≡ false → EachImage (Recovers I (after I W events)) new) → OnOk outcome (EachImage (Recovers I (after I W events)) new)
-ends_calm I W events (Ok said) new well calm = calm (well said refl)
-ends_calm I W events (Err e) new well calm = tt
+-- Of a run that ended well it holds that no call of the disk has failed since its opening.
+pub ends_calm : (events : List Event) (outcome : Outcome) → ((said : List ℕ) → outcome ≡ Ok said → faulted_after false events ≡ false)
+    → OnOk outcome (faulted_after false events ≡ false)
+ends_calm events (Ok said) well = well said refl
+ends_calm events (Err e) well = tt

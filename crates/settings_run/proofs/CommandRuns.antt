@@ -1,25 +1,25 @@
 -- The commands are runs of the machine.
-use Rattle.std.proofs.Common.{◌≡◌, inl, inr, ◌⊎◌, ℕ, Bool, true, false, List, [], ◌∷◌, ◌++◌, Option, Some, None, Result, Ok, Err, refl, sym, ◌∙◌, ap, subst}
+use Rattle.std.proofs.Common.{◌≡◌, inl, inr, ◌⊎◌, ⊎_elim, ℕ, Bool, true, false, List, [], ◌∷◌}
+use Rattle.std.proofs.Common.{◌++◌, Option, Some, None, Result, Ok, Err, refl, sym, ◌∙◌, ap, subst}
+use Rattle.std.proofs.lemmas.Bool.{or_cases}
 use Rattle.outside.specs.Exchange.{Exchange}
 use Rattle.outside.specs.History.{History}
 use Rattle.outside.specs.Spawner.{Run}
 use Rattle.outside.specs.Told.{Moves}
 use Rattle.outside.proofs.Told.{moves_same}
-use Rattle.outside.proofs.Crash.{settled_image}
-use Rattle.outside.specs.Tree.{file_in}
 use Rattle.settings_tree.specs.declared.held.Held.{Held}
 use Rattle.settings_machine.specs.World.{Image, World, Job, Idle, is_running}
 use Rattle.settings_machine.specs.Opening.{added_keys}
 use Rattle.settings_machine.specs.Requests.{Request}
 use Rattle.settings_machine.specs.Step.{noting, opened}
-use Rattle.settings_machine.specs.Events.{Event, Opened, Succeeded, Failing, after, next}
-use Rattle.settings_machine.specs.Paid.{Paid, IsGood}
-use Rattle.machine_disk.specs.Store.{HasStore}
-use Rattle.machine_disk.specs.Kept.{Folder, DiskAt, Kept}
-use Rattle.machine_disk.specs.Ran.{Before, OpensTo, OpensNot, RunsBy}
-use Rattle.machine_disk.proofs.Runs.{runs_to, ran_none, opens_kept}
+use Rattle.settings_machine.specs.Events.{Event, Opened, Succeeded, Failing, after, next, boots}
+use Rattle.settings_machine.specs.Paid.{IsGood}
+use Rattle.settings_machine.proofs.PaidLaws.{openings_pay, booted_paid}
+use Rattle.machine_disk.specs.Kept.{Folder, Kept}
+use Rattle.machine_disk.specs.Ran.{Before, StayPaid, OpensTo, OpensNot, RunsBy}
+use Rattle.machine_disk.proofs.Runs.{ran_none, opens_kept}
+use Rattle.machine_disk.proofs.Prefixes.{none_paid, one_paid, whole, runs_to}
 use Rattle.machine_disk.proofs.Meanings.{core_holds}
-use Rattle.machine_disk.proofs.Quiet.{calm_images}
 use Rattle.store_open.specs.Laws.{IsImageOfFolder, HoldsImage, IsKeptAt, IsRefusal}
 use Rattle.store_open.specs.Opening.{Opens}
 use Rattle.store_open.specs.declared.opened.Opened as answer
@@ -34,7 +34,6 @@ use Rattle.core_commands.specs.Handing.{not_opened}
 use Rattle.settings_cmd.specs.Gets.{Answers, AnswersOpening}
 use Rattle.settings_cmd.specs.Serving.{served, ServesOn, Serves, FollowsOpening as FollowsServing}
 use Rattle.settings_run.specs.Laws.{Begins, IsRun, IsUnopened, RequestEvents, RequestsRun, SetsRun, AppliesRun, ServeEvents, ServesRun, GetEvents, GetsRun}
-use Rattle.settings_run.proofs.Whole.{whole}
 use Rattle.settings_run.proofs.Served.{comes_served, all_served}
 
 -- An opening begins no job.
@@ -43,31 +42,22 @@ unfolding opened
 opened_job I W boot idle = sym (ap (λ (j : Job). noting j (added_keys I.defaults.values W.held.live.values)) idle)
 
 module _ (I : Image) (good : IsGood I) (folder : Folder) (is : IsImageOfFolder I folder) (W : World) (old new : History) (begins : Begins I folder W old) where
-  -- On a settled disk each image is the tree.
-  pub disk_at : DiskAt I folder W W old
-  disk_at = record {
-    paid = begins.starts.paid;
-    store = begins.starts.store;
-    etc = begins.starts.etc;
-    image = begins.image;
-    images = λ c left. inl (subst (HasStore W) (sym (settled_image old begins.starts.settled c left)) begins.starts.store);
-    same_etc = refl;
-    unsettled = λ path node etc may. inl (ap file_in (begins.starts.settled path node may) ∙ begins.starts.etc.each path etc);
-  }
-
   -- ---- a store that was not opened
 
-  failed_each : (boot taken : Bool) → Paid I (next I W (Opened boot (Failing taken))) → (first rest : List Event) → Opened boot (Failing taken) ∷ [] ≡ first ++ rest
-      → Paid I (after I W first)
-  failed_each boot taken last [] rest e = begins.starts.paid
-  failed_each boot taken last (f ∷ []) rest e = let head : Opened boot (Failing taken) ≡ f = cc in subst (λ (x : Event). Paid I (next I W x)) head last
-  failed_each boot taken last (f ∷ g ∷ first) rest e = absurd (cc e)
+  idle : is_running W.job ≡ false
+  idle = ap is_running begins.idle
 
-  none_each : (first rest : List Event) → [] ≡ first ++ rest → Paid I (after I W first)
-  none_each [] rest e = begins.starts.paid
-  none_each (f ∷ first) rest e = absurd (cc e)
+  -- A file stays paid where the opening was not taken, and where it was, as by one that succeeded.
+  failed_pays : (boot taken : Bool) → StayPaid I W (Opened boot (Failing taken) ∷ [])
+  failed_pays boot true f covered (inl paid) = openings_pay I good W boot idle f covered (inl paid)
+  failed_pays boot false f covered (inl paid) = paid
+  failed_pays boot taken f covered (inr booted) = ⊎_elim
+      (λ here. booted_paid I good f covered W (Opened boot (Failing taken)) here)
+      (λ none. absurd (cc none))
+      (or_cases (boots W (Opened boot (Failing taken))) false booted)
 
-  module _ (form : List Event → Type 0) (r r' : Option (List Run)) (boot : Bool) (outcome : Outcome) (formed : (events : List Event) → IsUnopened boot outcome events → form events) (same : r' ≡ r) where
+  module _ (form : List Event → Type 0) (r r' : Option (List Run)) (boot : Bool) (outcome : Outcome)
+      (formed : (events : List Event) → IsUnopened boot outcome events → form events) (same : r' ≡ r) where
     same_runs : (X Y : World) → Y.runs ≡ X.runs → Moves r r' (λ a b. a ≡ X.runs → b ≡ Y.runs)
     same_runs X Y e = moves_same same (λ s was. was ∙ sym e)
 
@@ -76,30 +66,29 @@ module _ (I : Image) (good : IsGood I) (folder : Folder) (is : IsImageOfFolder I
     failing_runs true = refl
     failing_runs false = refl
 
-    not_run : ((outcome ≡ Err refused.Disk) ⊎ (outcome ≡ Err refused.Memory)) → OpensNot I folder W W boot old new → IsRun I W form r r' old new
+    not_run : ((outcome ≡ Err refused.Disk) ⊎ (outcome ≡ Err refused.Memory)) → OpensNot I folder W W boot old new → IsRun I folder W form r r' old new
     not_run told not = record {
       events = Opened boot (Failing not.taken) ∷ [];
       form_is = formed _ (inl (not.taken, refl, told));
-      runs_to = whole I good folder W (Opened boot (Failing not.taken) ∷ []) old new not.other not.disk not.late (failed_each boot not.taken not.disk.paid) not.moments;
+      runs_to = whole I good folder W (Opened boot (Failing not.taken) ∷ []) old new not.other not.disk not.late
+          (one_paid I W (Opened boot (Failing not.taken)) (failed_pays boot not.taken)) not.moments (λ e. absurd (cc e));
       ran = same_runs W (after I W (Opened boot (Failing not.taken) ∷ [])) (failing_runs not.taken);
-      calm = λ e. absurd (cc e);
     }
 
-    kept_run : (e : OpenError) → IsRefusal e → outcome ≡ Err (not_opened e) → Opens boot (Err e) old new → IsRun I W form r r' old new
+    kept_run : (e : OpenError) → IsRefusal e → outcome ≡ Err (not_opened e) → Opens boot (Err e) old new → IsRun I folder W form r r' old new
     kept_run e refusal told opens =
-        let kept : IsKeptAt I folder W W old new = refusals_keep I folder W W boot e old new disk_at refusal opens in
+        let kept : IsKeptAt I folder W W old new = refusals_keep I folder W W boot e old new begins.disk refusal opens in
         record {
           events = [];
           form_is = formed [] (inr (refl, e, refusal, told));
-          runs_to = whole I good folder W [] old new W kept.disk (Before refl refl) none_each kept.moments;
+          runs_to = whole I good folder W [] old new W kept.disk (Before refl refl) (none_paid I W) kept.moments (λ e. kept.disk);
           ran = same_runs W W refl;
-          calm = λ e. absurd (cc e);
         }
 
     -- It is a run of the failed opening, or of no event.
-    pub unopened_run : (e : OpenError) → outcome ≡ Err (not_opened e) → Opens boot (Err e) old new → IsRun I W form r r' old new
-    unopened_run opening.Failed told opens = not_run (inl told) (openings_run I good folder is W W boot (Err opening.Failed) old new disk_at (ap is_running begins.idle) opens)
-    unopened_run opening.Memory told opens = not_run (inr told) (openings_run I good folder is W W boot (Err opening.Memory) old new disk_at (ap is_running begins.idle) opens)
+    pub unopened_run : (e : OpenError) → outcome ≡ Err (not_opened e) → Opens boot (Err e) old new → IsRun I folder W form r r' old new
+    unopened_run opening.Failed told opens = not_run (inl told) (openings_run I good folder is W W boot (Err opening.Failed) old new begins.disk idle opens)
+    unopened_run opening.Memory told opens = not_run (inr told) (openings_run I good folder is W W boot (Err opening.Memory) old new begins.disk idle opens)
     unopened_run opening.NoStore told opens = kept_run opening.NoStore tt told opens
     unopened_run (opening.BadLink path) told opens = kept_run (opening.BadLink path) tt told opens
     unopened_run (opening.BadJournal path) told opens = kept_run (opening.BadJournal path) tt told opens
@@ -119,7 +108,7 @@ module _ (I : Image) (good : IsGood I) (folder : Folder) (is : IsImageOfFolder I
   -- The store was opened as the machine opens it,
   pub opening_run : (boot : Bool) (store : answer.Opened) (between : History) → Opens boot (Ok store) old between
       → OpensTo I folder W W boot store.place store.held old between × HoldsImage I store.image
-  opening_run boot store between opens = openings_run I good folder is W W boot (Ok store) old between disk_at (ap is_running begins.idle) opens
+  opening_run boot store between opens = openings_run I good folder is W W boot (Ok store) old between begins.disk idle opens
 
   -- and the core over it is where the disk is.
   pub open_kept : (boot : Bool) (store : answer.Opened) (between : History) → OpensTo I folder W W boot store.place store.held old between
@@ -131,7 +120,7 @@ module _ (I : Image) (good : IsGood I) (folder : Folder) (is : IsImageOfFolder I
 
   module _ (qs : List Request) (Tells : World → List ℕ → Type 0) (outcome : Outcome) (r r' : Option (List Run)) where
     goes : (store : answer.Opened) (between : History) → Opens false (Ok store) old between → GoesOn qs Tells store outcome r r' between new
-        → IsRun I W (RequestEvents I W qs Tells outcome) r r' old new
+        → IsRun I folder W (RequestEvents I W qs Tells outcome) r r' old new
     goes store between opens on =
         let run = opening_run false store between opens in
         let f : Follows I folder (opened I W false) (opened I W false) qs Tells outcome (core_over store) r r' between new =
@@ -139,25 +128,26 @@ module _ (I : Image) (good : IsGood I) (folder : Folder) (is : IsImageOfFolder I
         record {
           events = Opened false Succeeded ∷ (f.asked ++ f.turned);
           form_is = inl (f.asked, f.turned, refl, f.comes);
-          runs_to = runs_to I good folder W false (f.asked ++ f.turned) old between new store.place store.held (core_over store) f.now begins.starts run.0
+          runs_to = runs_to I good folder W false (f.asked ++ f.turned) old between new store.place store.held (core_over store) f.now idle run.0 refl
               (comes_served I (opened I W false) qs Tells outcome f.asked f.turned f.comes) f.made;
           ran = runs_after false (f.asked ++ f.turned) r r' f.runs;
-          calm = λ e. calm_images I folder (after I (opened I W false) (f.asked ++ f.turned)) f.made.other new f.now (f.made.flag ∙ e) f.made.kept;
         }
 
     pub by_opening : (result : Result answer.Opened OpenError) (between : Option History) → Moves (Some old) between (Opens false result)
-        → FollowsOpening qs Tells result outcome r r' between (Some new) → IsRun I W (RequestEvents I W qs Tells outcome) r r' old new
+        → FollowsOpening qs Tells result outcome r r' between (Some new) → IsRun I folder W (RequestEvents I W qs Tells outcome) r r' old new
     by_opening (Ok store) None opens follows = absurd opens.told
     by_opening (Ok store) (Some mid) opens follows = goes store mid opens.told follows.told
     by_opening (Err e) between opens follows =
-        let here : Moves (Some old) (Some new) (Opens false (Err e)) = subst (λ (d : Option History). Moves (Some old) d (Opens false (Err e))) (sym follows.1) opens in
+        let here : Moves (Some old) (Some new) (Opens false (Err e)) =
+        subst (λ (d : Option History). Moves (Some old) d (Opens false (Err e))) (sym follows.1) opens in
         unopened_run (RequestEvents I W qs Tells outcome) r r' false outcome (λ events un. inr un) follows.2 e follows.0 here.told
 
   -- ---- serve
 
   module _ (boot : Bool) (slice : Option ℕ) (x x' : Option (List Exchange)) (outcome : Outcome) (r r' : Option (List Run)) (fine : Bool) where
-    serves_on : (store : answer.Opened) (between : History) → outcome ≡ served fine → Opens boot (Ok store) old between → Serves boot slice fine store x x' r r' between new
-        → IsRun I W (ServeEvents I W boot slice x x' outcome) r r' old new
+    serves_on : (store : answer.Opened) (between : History) → outcome ≡ served fine → Opens boot (Ok store) old between
+        → Serves boot slice fine store x x' r r' between new
+        → IsRun I folder W (ServeEvents I W boot slice x x' outcome) r r' old new
     serves_on store between told opens serves =
         let run = opening_run boot store between opens in
         let s : ServesOn I folder (opened I W boot) (opened I W boot) boot slice fine (core_over store) x x' r r' between new =
@@ -165,18 +155,18 @@ module _ (I : Image) (good : IsGood I) (folder : Folder) (is : IsImageOfFolder I
         record {
           events = Opened boot Succeeded ∷ s.events;
           form_is = inl (fine, s.rounds, s.events, refl, s.are, s.exchanged, told);
-          runs_to = runs_to I good folder W boot s.events old between new store.place store.held (core_over store) s.now begins.starts run.0
+          runs_to = runs_to I good folder W boot s.events old between new store.place store.held (core_over store) s.now idle run.0 refl
               (all_served I slice boot fine false (opened I W boot) s.rounds s.events s.are) s.made;
           ran = runs_after boot s.events r r' s.runs;
-          calm = λ e. calm_images I folder (after I (opened I W boot) s.events) s.made.other new s.now (s.made.flag ∙ e) s.made.kept;
         }
 
     pub by_serving : (result : Result answer.Opened OpenError) (between : Option History) → Moves (Some old) between (Opens boot result)
-        → FollowsServing boot slice fine result outcome x x' r r' between (Some new) → IsRun I W (ServeEvents I W boot slice x x' outcome) r r' old new
+        → FollowsServing boot slice fine result outcome x x' r r' between (Some new) → IsRun I folder W (ServeEvents I W boot slice x x' outcome) r r' old new
     by_serving (Ok store) None opens follows = absurd opens.told
     by_serving (Ok store) (Some mid) opens follows = serves_on store mid follows.0 opens.told follows.1.told
     by_serving (Err e) between opens follows =
-        let here : Moves (Some old) (Some new) (Opens boot (Err e)) = subst (λ (d : Option History). Moves (Some old) d (Opens boot (Err e))) (sym follows.1) opens in
+        let here : Moves (Some old) (Some new) (Opens boot (Err e)) = subst (λ (d : Option History). Moves (Some old) d (Opens boot (Err e))) (sym follows.1)
+        opens in
         unopened_run (ServeEvents I W boot slice x x' outcome) r r' boot outcome (λ events un. inr (un, follows.2)) follows.3 e follows.0 here.told
 
 pub requests_run : (qs : List Request) (Tells : World → List ℕ → Type 0) → RequestsRun qs Tells
@@ -197,20 +187,26 @@ serves_run I good folder is W boot slice x x' outcome r r' old new begins serves
 
 module _ (I : Image) (good : IsGood I) (folder : Folder) (is : IsImageOfFolder I folder) (W : World) (old new : History) (begins : Begins I folder W old)
     (keys : List (List (List ℕ))) (outcome : Outcome) (r : Option (List Run)) where
-  gets : (result : Result answer.Opened OpenError) → Opens false result old new → AnswersOpening keys result outcome → IsRun I W (GetEvents I W keys outcome) r r old new
+  gets : (result : Result answer.Opened OpenError) → Opens false result old new → AnswersOpening keys result outcome
+      → IsRun I folder W (GetEvents I W keys outcome) r r old new
   gets (Ok store) opens answers =
       let run = opening_run I good folder is W old new begins false store new opens in
       let kept : Kept I folder (opened I W false) (opened I W false) new (core_over store) =
       open_kept I good folder is W old new begins false store new run.0 in
       record {
         events = Opened false Succeeded ∷ [];
-        form_is = inl (refl, subst (λ (h : Held). Answers h.live.values keys outcome) (sym (core_holds I folder (opened I W false) (opened I W false) new (core_over store) kept refl)) answers);
-        runs_to = runs_to I good folder W false [] old new new store.place store.held (core_over store) (core_over store) begins.starts run.0 refl
+        form_is = inl (
+          refl,
+          subst (λ (h : Held). Answers h.live.values keys outcome)
+              (sym (core_holds I folder (opened I W false) (opened I W false) new (core_over store) kept refl)) answers,
+        );
+        runs_to = runs_to I good folder W false [] old new new store.place store.held (core_over store) (core_over store) (ap is_running begins.idle) run.0 refl
+            refl
             (ran_none I folder (opened I W false) (opened I W false) new (core_over store) kept);
         ran = moves_same refl (λ s was. was ∙ sym (opened_runs I good folder is W old new begins false));
-        calm = λ e. calm_images I folder (opened I W false) (opened I W false) new (core_over store) refl kept;
       }
-  gets (Err e) opens told = unopened_run I good folder is W old new begins (GetEvents I W keys outcome) r r false outcome (λ events un. inr un) refl e told opens
+  gets (Err e) opens told = unopened_run I good folder is W old new begins (GetEvents I W keys outcome) r r false outcome (λ events un. inr un) refl e told
+      opens
 
 pub gets_run : GetsRun
 gets_run I good folder is W keys outcome r old new begins got = gets I good folder is W old new begins keys outcome r got.result got.opens.told got.answers

@@ -33,18 +33,20 @@ use Rattle.settings_run.proofs.Calm.{ends_calm, requests_calm, gets_calm}
 
 module _ (x x' : Option (List Exchange)) (a a' : Option (List Question)) (r r' : Option (List Run)) (outcome : Outcome) where
   -- The disk is as before, and there is no event.
-  pub unmoved : (order : Order) (d d' : Option History) → d' ≡ d → r' ≡ r → ((I : Image) (folder : Folder) (W : World) (h : History) → Makes order I folder W x x' a a' outcome h [])
+  pub unmoved : (order : Order) (d d' : Option History) → d' ≡ d → r' ≡ r
+      → ((I : Image) (folder : Folder) (W : World) (h : History) → Makes order I folder W x x' a a' outcome h [])
       → Moves d d' (RunsOverAll order x x' a a' r r' outcome)
   unmoved order d d' same no_runs made =
       moves_same same (λ h I good folder image W at. inl (untouched order I good folder W x x' a a' r r' outcome h at (made I folder W h) no_runs))
 
   -- ---- commands that make no event
 
-  pub inits : (version : Version) (d d' : Option History) → r' ≡ r → Carried (IsBegun version) outcome d d' → Moves d d' (RunsOverAll (init version) x x' a a' r r' outcome)
+  pub inits : (version : Version) (d d' : Option History) → r' ≡ r → Carried (IsBegun version) outcome d d'
+      → Moves d d' (RunsOverAll (init version) x x' a a' r r' outcome)
   inits version d d' no_runs (inl is) = moves_map begun is.begins where
     begun : (old new : History) → Begins version is.result old new → RunsOverAll (init version) x x' a a' r r' outcome old new
     begun old new begins I good folder image W at =
-        let same : new ≡ old = begins.still W.version at.starts.store.directory at.starts.store.resolves in
+        let same : new ≡ old = begins.still W.version at.disk.store.directory at.disk.store.resolves in
         subst (λ (h : History). RunsOver (init version) I folder W x x' a a' r r' outcome old h) (sym same)
         (inl (untouched (init version) I good folder W x x' a a' r r' outcome old at refl no_runs))
   inits version d d' no_runs (inr none) = unmoved (init version) d d' none.1 no_runs (λ I folder W h. refl)
@@ -55,10 +57,12 @@ module _ (x x' : Option (List Exchange)) (a a' : Option (List Question)) (r r' :
 
   pub prunes : (d d' : Option History) → r' ≡ r → Carried IsPruned outcome d d' → Moves d d' (RunsOverAll prune x x' a a' r r' outcome)
   prunes d d' no_runs (inl is) = moves_map (λ old new pruned I good folder image W at.
-      inl (stays prune I good folder W x x' a a' r r' outcome old new at refl no_runs (prunings_stay I good W is.result old new at.starts pruned))) is.prunes
+      inl (stays prune I good folder W x x' a a' r r' outcome old new at refl no_runs (prunings_stay I good folder W is.result old new at.disk pruned)))
+      is.prunes
   prunes d d' no_runs (inr none) = unmoved prune d d' none.1 no_runs (λ I folder W h. refl)
 
-  pub loads : (count : ℕ) (d d' : Option History) → r' ≡ r → Carried (IsLoaded count) outcome d d' → Moves d d' (RunsOverAll (load count) x x' a a' r r' outcome)
+  pub loads : (count : ℕ) (d d' : Option History) → r' ≡ r → Carried (IsLoaded count) outcome d d'
+      → Moves d d' (RunsOverAll (load count) x x' a a' r r' outcome)
   loads count d d' no_runs (inl is) = unmoved (load count) d d' is.same no_runs (λ I folder W h. refl)
   loads count d d' no_runs (inr none) = unmoved (load count) d d' none.1 no_runs (λ I folder W h. refl)
 
@@ -70,19 +74,32 @@ module _ (x x' : Option (List Exchange)) (a a' : Option (List Question)) (r r' :
       (unbegun : outcome ≡ Err refused.Memory → (I : Image) (folder : Folder) (W : World) (h : History) → Makes order I folder W x x' a a' outcome h []) where
     requested : (old new : History) → CarriesOut qs Tells outcome r r' (Some old) (Some new) → RunsOverAll order x x' a a' r r' outcome old new
     requested old new carries I good folder image W at =
-        let run : runs.IsRun I W (RequestEvents I W qs Tells outcome) r r' old new = requests_run qs Tells I good folder image W outcome r r' old new at carries in
+        let run : runs.IsRun I folder W (RequestEvents I W qs Tells outcome) r r' old new =
+        requests_run qs Tells I good folder image W outcome r r' old new at carries in
         inl (run_of order I good folder W x x' a a' r r' outcome old new at run.events (form I folder W old run.events run.form_is) run.runs_to run.ran
-        (λ all. ends_calm I W run.events outcome new
-        (λ said is. requests_calm I W qs Tells said run.events (subst (λ (o : Outcome). RequestEvents I W qs Tells o run.events) is run.form_is)) run.calm))
+        (λ all. ends_calm run.events outcome
+        (λ said is. requests_calm I W qs Tells said run.events (subst (λ (o : Outcome). RequestEvents I W qs Tells o run.events) is run.form_is))))
 
     carries_out : (d d' : Option History) → CarriesOut qs Tells outcome r r' d d' → Moves d d' (RunsOverAll order x x' a a' r r' outcome)
     carries_out d d' carries = by carries.opening carries.between carries.opens carries.follows where
       by : (opening : Result Opened OpenError) (between : Option History) → Moves d between (Opens false opening)
           → FollowsOpening qs Tells opening outcome r r' between d' → Moves d d' (RunsOverAll order x x' a a' r r' outcome)
       by (Ok store) between opens follows =
-          moves_then (λ old mid new o f. requested old new (record { opening = Ok store; between = Some mid; opens = record { told = o }; follows = record { told = f } })) opens follows
+          moves_then (λ old mid new o f. requested old new (record {
+            opening = Ok store;
+            between = Some mid;
+            opens = record { told = o };
+            follows =
+                record { told = f };
+          })) opens follows
       by (Err e) between opens follows =
-          moves_map (λ old new o. requested old new (record { opening = Err e; between = Some new; opens = record { told = o }; follows = (follows.0, refl, follows.2) }))
+          moves_map (λ old new o. requested old new (record {
+            opening = Err e;
+            between = Some new;
+            opens = record { told = o };
+            follows =
+                (follows.0, refl, follows.2);
+          }))
           (subst (λ (t : Option History). Moves d t (Opens false (Err e))) (sym follows.1) opens)
 
     pub commanded : (d d' : Option History) → Commanded qs Tells outcome r r' d d' → Moves d d' (RunsOverAll order x x' a a' r r' outcome)
@@ -101,11 +118,12 @@ module _ (x x' : Option (List Exchange)) (a a' : Option (List Question)) (r r' :
   module _ (keys : List (List (List ℕ))) (no_runs : r' ≡ r) where
     got : (old new : History) → IsGot keys outcome (Some old) (Some new) → RunsOverAll (get keys) x x' a a' r r' outcome old new
     got old new is I good folder image W at =
-        let run : runs.IsRun I W (GetEvents I W keys outcome) r r' old new =
-        subst (λ (s : Option (List Run)). runs.IsRun I W (GetEvents I W keys outcome) r s old new) (sym no_runs) (gets_run I good folder image W keys outcome r old new at is) in
+        let run : runs.IsRun I folder W (GetEvents I W keys outcome) r r' old new =
+        subst (λ (s : Option (List Run)). runs.IsRun I folder W (GetEvents I W keys outcome) r s old new) (sym no_runs)
+        (gets_run I good folder image W keys outcome r old new at is) in
         inl (run_of (get keys) I good folder W x x' a a' r r' outcome old new at run.events (inl run.form_is) run.runs_to run.ran
-        (λ all. ends_calm I W run.events outcome new
-        (λ said told. gets_calm I W keys said run.events (subst (λ (o : Outcome). GetEvents I W keys o run.events) told run.form_is)) run.calm))
+        (λ all. ends_calm run.events outcome
+        (λ said told. gets_calm I W keys said run.events (subst (λ (o : Outcome). GetEvents I W keys o run.events) told run.form_is))))
 
     got_by : (d d' : Option History) → IsGot keys outcome d d' → Moves d d' (RunsOverAll (get keys) x x' a a' r r' outcome)
     got_by None None is = record { told = tt }
@@ -120,22 +138,43 @@ module _ (x x' : Option (List Exchange)) (a a' : Option (List Question)) (r r' :
   -- ---- serve
 
   module _ (boot : Bool) (slice connections : Option ℕ) where
-    served : (old new : History) → IsServed boot slice x x' r r' outcome (Some old) (Some new) → RunsOverAll (serve boot slice connections) x x' a a' r r' outcome old new
+    served : (old new : History) → IsServed boot slice x x' r r' outcome (Some old) (Some new)
+        → RunsOverAll (serve boot slice connections) x x' a a' r r' outcome old new
     served old new is I good folder image W at =
-        let run : runs.IsRun I W (ServeEvents I W boot slice x x' outcome) r r' old new = serves_run I good folder image W boot slice x x' outcome r r' old new at is in
-        inl (run_of (serve boot slice connections) I good folder W x x' a a' r r' outcome old new at run.events (inl run.form_is) run.runs_to run.ran (λ all. absurd (cc all)))
+        let run : runs.IsRun I folder W (ServeEvents I W boot slice x x' outcome) r r' old new =
+        serves_run I good folder image W boot slice x x' outcome r r' old new at is in
+        inl (run_of (serve boot slice connections) I good folder W x x' a a' r r' outcome old new at run.events (inl run.form_is) run.runs_to run.ran
+        (λ all. absurd (cc all)))
 
-    served_by : (d d' : Option History) → IsServed boot slice x x' r r' outcome d d' → Moves d d' (RunsOverAll (serve boot slice connections) x x' a a' r r' outcome)
+    served_by : (d d' : Option History) → IsServed boot slice x x' r r' outcome d d'
+        → Moves d d' (RunsOverAll (serve boot slice connections) x x' a a' r r' outcome)
     served_by d d' is = by is.opening is.between is.opens is.follows where
       by : (opening : Result Opened OpenError) (between : Option History) → Moves d between (Opens boot opening)
-          → FollowsServing boot slice is.fine opening outcome x x' r r' between d' → Moves d d' (RunsOverAll (serve boot slice connections) x x' a a' r r' outcome)
+          → FollowsServing boot slice is.fine opening outcome x x' r r' between d'
+          → Moves d d' (RunsOverAll (serve boot slice connections) x x' a a' r r' outcome)
       by (Ok store) between opens follows =
-          moves_then (λ old mid new o f. served old new (record { opening = Ok store; fine = is.fine; between = Some mid; opens = record { told = o }; follows = (follows.0, record { told = f }) }))
+          moves_then (λ old mid new o f. served old new (record {
+            opening = Ok store;
+            fine = is.fine;
+            between = Some mid;
+            opens = record { told = o };
+            follows =
+                (follows.0, record { told = f });
+          }))
           opens follows.1
       by (Err e) between opens follows =
-          moves_map (λ old new o. served old new (record { opening = Err e; fine = is.fine; between = Some new; opens = record { told = o }; follows = (follows.0, refl, follows.2, follows.3) }))
+          moves_map (λ old new o. served old new (record {
+            opening = Err e;
+            fine = is.fine;
+            between = Some new;
+            opens = record { told = o };
+            follows =
+                (follows.0, refl, follows.2, follows.3);
+          }))
           (subst (λ (t : Option History). Moves d t (Opens boot (Err e))) (sym follows.1) opens)
 
-    pub serves : (d d' : Option History) → HasServed boot slice x x' r r' outcome d d' → Moves d d' (RunsOverAll (serve boot slice connections) x x' a a' r r' outcome)
+    pub serves : (d d' : Option History) → HasServed boot slice x x' r r' outcome d d'
+        → Moves d d' (RunsOverAll (serve boot slice connections) x x' a a' r r' outcome)
     serves d d' (inl is) = served_by d d' is
-    serves d d' (inr none) = unmoved (serve boot slice connections) d d' none.same none.no_runs (λ I folder W h. inr ((none.outcome_is, refl), none.no_connections))
+    serves d d' (inr none) = unmoved (serve boot slice connections) d d' none.same none.no_runs
+        (λ I folder W h. inr ((none.outcome_is, refl), none.no_connections))

@@ -1,4 +1,4 @@
--- A failure of the disk is told exactly where one was met.
+-- A failure of the disk is reported exactly where one was met.
 use Rattle.std.proofs.Common.{arith, ◌≡◌, ◌≢◌, inl, inr, ℕ, List, Option, Ok, Err, refl, sym, ◌∙◌, ap}
 use Rattle.std.specs.Result.{IsErrOf}
 use Rattle.outside.specs.Faults.{HasCauseOf, Rose}
@@ -19,7 +19,8 @@ kept (Ok text) before now cause other = cause.kept
 kept (Err refusal) before now cause other = cause.other refl (λ is. by_disk refusal other (same_error refusal refused.Disk is))
 
 -- A run whose status tells of no failure has met none.
-pub unfaulted : (outcome : Outcome) (status before now : ℕ) (s s' : Option (List ℕ)) → HasCauseOf refused.Disk before now outcome → Ends outcome status s s' → status ≢ 1 → status ≢ 3 → status ≢ 12 → now ≡ before
+pub unfaulted : (outcome : Outcome) (status before now : ℕ) (s s' : Option (List ℕ)) → HasCauseOf refused.Disk before now outcome → Ends outcome status s s'
+    → status ≢ 1 → status ≢ 3 → status ≢ 12 → now ≡ before
 unfaulted outcome status before now s s' cause (inl (inl told)) not_1 not_3 not_12 = kept outcome before now cause (λ is. not_3 (told.0 ∙ is))
 unfaulted outcome status before now s s' cause (inl (inr told)) not_1 not_3 not_12 = absurd (not_12 told.0)
 unfaulted outcome status before now s s' cause (inr told) not_1 not_3 not_12 = absurd (not_1 told.0)
@@ -56,7 +57,8 @@ rose (Ok text) failed is = absurd (omega (arith, is))
 rose (Err refusal) failed is = failed (ap (λ (r : Refusal). Err r) (disk_alone refusal is))
 
 -- A run whose status tells of a failure of the disk has met one.
-pub faulted : (outcome : Outcome) (status before now : ℕ) (s s' : Option (List ℕ)) → (IsErrOf outcome refused.Disk → Rose before now) → Ends outcome status s s' → status ≡ 3
+pub faulted : (outcome : Outcome) (status before now : ℕ) (s s' : Option (List ℕ)) → (IsErrOf outcome refused.Disk → Rose before now) → Ends outcome status s s'
+    → status ≡ 3
     → Rose before now
 faulted outcome status before now s s' failed (inl (inl told)) is = rose outcome failed (sym told.0 ∙ is)
 faulted outcome status before now s s' failed (inl (inr told)) is = absurd (omega (arith, told.0, is))

@@ -39,7 +39,8 @@ rose (Ok text) failed is = absurd (omega (arith, is))
 rose (Err refusal) failed is = failed (ap (λ (r : Refusal). Err r) (door_alone refusal is))
 
 -- A run whose status tells of a failure of the door has met one.
-pub door_failed : (outcome : Outcome) (status before now : ℕ) (s s' : Option (List ℕ)) → (IsErrOf outcome refused.Door → Rose before now) → Ends outcome status s s' → status ≡ 4
+pub door_failed : (outcome : Outcome) (status before now : ℕ) (s s' : Option (List ℕ)) → (IsErrOf outcome refused.Door → Rose before now)
+    → Ends outcome status s s' → status ≡ 4
     → Rose before now
 door_failed outcome status before now s s' failed (inl (inl told)) is = rose outcome failed (sym told.0 ∙ is)
 door_failed outcome status before now s s' failed (inl (inr told)) is = absurd (omega (arith, told.0, is))
@@ -76,7 +77,7 @@ fine : (outcome : Outcome) → status_in outcome ≡ 0 → IsOk outcome
 fine (Ok text) is = refl
 fine (Err refusal) is = absurd (not_done refusal is)
 
--- A run of status 0 is one whose command was done.
+-- A run with exit status 0 is one whose command was done.
 pub ended_well : (outcome : Outcome) (status : ℕ) (s s' : Option (List ℕ)) → Ends outcome status s s' → status ≡ 0 → IsOk outcome
 ended_well outcome status s s' (inl (inl told)) is = fine outcome (sym told.0 ∙ is)
 ended_well outcome status s s' (inl (inr told)) is = absurd (omega (arith, told.0, is))

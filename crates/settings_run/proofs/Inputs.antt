@@ -1,5 +1,5 @@
 -- What generators and user data give is committed, which is a run of the machine, where a store is there.
-use Rattle.std.proofs.Common.{◌≡◌, inl, inr, ℕ, true, false, List, Option, Some, None, Result, Ok, Err, refl, sym, ◌∙◌, ap, subst}
+use Rattle.std.proofs.Common.{◌≡◌, inl, inr, ℕ, false, List, Option, Some, None, Result, Ok, Err, refl, sym, ◌∙◌, ap, subst}
 use Rattle.outside.specs.Exchange.{Exchange}
 use Rattle.outside.specs.History.{History}
 use Rattle.outside.specs.Names.{Names}
@@ -27,12 +27,13 @@ use Rattle.settings_run.proofs.Commands.{unmoved}
 
 -- ---- where it ended well no call of the disk has failed
 
-made_calm : (I : Image) (W : World) (tx : List ℕ) (made : Made) (said : List ℕ) (events : List Event) → MadeEvents I W tx made (Ok said) events → faulted_after true events ≡ false
+made_calm : (I : Image) (W : World) (tx : List ℕ) (made : Made) (said : List ℕ) (events : List Event) → MadeEvents I W tx made (Ok said) events
+    → faulted_after false events ≡ false
 made_calm I W tx (Ok pairs) said events (asked, is, comes) =
-    ap (faulted_after true) is ∙ ap (faulted_after false) comes.0.events_are ∙ asked_calm (commit_requests tx pairs)
+    ap (faulted_after false) is ∙ ap (faulted_after false) comes.0.events_are ∙ asked_calm (commit_requests tx pairs)
 made_calm I W tx (Err refusal) said events (is, told) = absurd (cc told)
 
-unopened_calm : (said : List ℕ) (events : List Event) → IsUnopened false (Ok said) events → faulted_after true events ≡ false
+unopened_calm : (said : List ℕ) (events : List Event) → IsUnopened false (Ok said) events → faulted_after false events ≡ false
 unopened_calm said events (inl (taken, is, inl told)) = absurd (cc told)
 unopened_calm said events (inl (taken, is, inr told)) = absurd (cc told)
 unopened_calm said events (inr (is, e, refusal, told)) = absurd (cc told)
@@ -40,7 +41,8 @@ unopened_calm said events (inr (is, e, refusal, told)) = absurd (cc told)
 -- ---- what the disk tells
 
 -- It tells before and after, or not at all.
-committed : (tx : List ℕ) (store : Opened) (made : Made) (outcome : Outcome) (d d' : Option History) → CommitsMade tx store made outcome d d' → Moves d d' (λ old new. Unit {0})
+committed : (tx : List ℕ) (store : Opened) (made : Made) (outcome : Outcome) (d d' : Option History) → CommitsMade tx store made outcome d d'
+    → Moves d d' (λ old new. Unit {0})
 committed tx store (Ok pairs) outcome d d' moves = moves_map (λ old new is. tt) moves
 committed tx store (Err refusal) outcome d d' is = moves_same is.1 (λ h. tt)
 
@@ -52,22 +54,24 @@ module _ (x x' : Option (List Exchange)) (a a' : Option (List Question)) (r r' :
 
   generated : (old new : History) → HasGenerated a a' outcome (Some old) (Some new) → RunsOverAll generate x x' a a' r r' outcome old new
   generated old new is I good folder image W at =
-      let run : runs.IsRun I W (GenerateEvents I folder W a a' outcome) r r' old new =
-      subst (λ (s : Option (List Run)). runs.IsRun I W (GenerateEvents I folder W a a' outcome) r s old new) (sym no_runs)
+      let run : runs.IsRun I folder W (GenerateEvents I folder W a a' outcome) r r' old new =
+      subst (λ (s : Option (List Run)). runs.IsRun I folder W (GenerateEvents I folder W a a' outcome) r s old new) (sym no_runs)
       (generates_run I good folder image W a a' outcome r old new at is) in
       inl (run_of generate I good folder W x x' a a' r r' outcome old new at run.events (inl run.form_is) run.runs_to run.ran
-      (λ all. ends_calm I W run.events outcome new
-      (λ said told. calm said run.events (subst (λ (o : Outcome). GenerateEvents I folder W a a' o run.events) told run.form_is)) run.calm))
+      (λ all. ends_calm run.events outcome
+      (λ said told. calm said run.events (subst (λ (o : Outcome). GenerateEvents I folder W a a' o run.events) told run.form_is))))
     where
-      calm : (said : List ℕ) (events : List Event) → GenerateEvents I folder W a a' (Ok said) events → faulted_after true events ≡ false
+      calm : (said : List ℕ) (events : List Event) → GenerateEvents I folder W a a' (Ok said) events → faulted_after false events ≡ false
       calm said events (inl (made, gives, ends, keeps)) = made_calm I W generate_tx made said events ends
       calm said events (inr un) = unopened_calm said events un.0
 
-  generates_told : (d between d' : Option History) (opening : Result Opened OpenError) → GeneratesAfter a a' opening outcome between d' → Moves between d' (λ old new. Unit {0})
+  generates_told : (d between d' : Option History) (opening : Result Opened OpenError) → GeneratesAfter a a' opening outcome between d'
+      → Moves between d' (λ old new. Unit {0})
   generates_told d between d' (Ok store) follows = committed generate_tx store follows.made outcome between d' follows.ends
   generates_told d between d' (Err e) follows = moves_same follows.1 (λ h. tt)
 
-  generated_by : (d d' : Option History) → HasGenerated a a' outcome d d' → Moves d d' (λ old new. Unit {0}) → Moves d d' (RunsOverAll generate x x' a a' r r' outcome)
+  generated_by : (d d' : Option History) → HasGenerated a a' outcome d d' → Moves d d' (λ old new. Unit {0})
+      → Moves d d' (RunsOverAll generate x x' a a' r r' outcome)
   generated_by None None is told = record { told = tt }
   generated_by (Some old) (Some new) is told = record { told = generated old new is }
   generated_by None (Some new) is told = absurd told.told
@@ -82,22 +86,24 @@ module _ (x x' : Option (List Exchange)) (a a' : Option (List Question)) (r r' :
   module _ (path : Names) where
     provided : (old new : History) → IsProvided path outcome (Some old) (Some new) → RunsOverAll (user_data path) x x' a a' r r' outcome old new
     provided old new is I good folder image W at =
-        let run : runs.IsRun I W (ProvisionEvents I W path outcome old) r r' old new =
-        subst (λ (s : Option (List Run)). runs.IsRun I W (ProvisionEvents I W path outcome old) r s old new) (sym no_runs)
+        let run : runs.IsRun I folder W (ProvisionEvents I W path outcome old) r r' old new =
+        subst (λ (s : Option (List Run)). runs.IsRun I folder W (ProvisionEvents I W path outcome old) r s old new) (sym no_runs)
         (provisions_run I good folder image W path outcome r old new at is) in
         inl (run_of (user_data path) I good folder W x x' a a' r r' outcome old new at run.events (inl run.form_is) run.runs_to run.ran
-        (λ all. ends_calm I W run.events outcome new
-        (λ said told. calm said run.events (subst (λ (o : Outcome). ProvisionEvents I W path o old run.events) told run.form_is)) run.calm))
+        (λ all. ends_calm run.events outcome
+        (λ said told. calm said run.events (subst (λ (o : Outcome). ProvisionEvents I W path o old run.events) told run.form_is))))
       where
-        calm : (said : List ℕ) (events : List Event) → ProvisionEvents I W path (Ok said) old events → faulted_after true events ≡ false
+        calm : (said : List ℕ) (events : List Event) → ProvisionEvents I W path (Ok said) old events → faulted_after false events ≡ false
         calm said events (inl is) = made_calm I W data_tx is.made said events is.ends
         calm said events (inr un) = unopened_calm said events un
 
-    provides_told : (between d' : Option History) (opening : Result Opened OpenError) → ProvidesAfter path opening outcome between d' → Moves between d' (λ old new. Unit {0})
+    provides_told : (between d' : Option History) (opening : Result Opened OpenError) → ProvidesAfter path opening outcome between d'
+        → Moves between d' (λ old new. Unit {0})
     provides_told between d' (Ok store) follows = committed data_tx store follows.made outcome between d' follows.ends
     provides_told between d' (Err e) follows = moves_same follows.1 (λ h. tt)
 
-    provided_by : (d d' : Option History) → IsProvided path outcome d d' → Moves d d' (λ old new. Unit {0}) → Moves d d' (RunsOverAll (user_data path) x x' a a' r r' outcome)
+    provided_by : (d d' : Option History) → IsProvided path outcome d d' → Moves d d' (λ old new. Unit {0})
+        → Moves d d' (RunsOverAll (user_data path) x x' a a' r r' outcome)
     provided_by None None is told = record { told = tt }
     provided_by (Some old) (Some new) is told = record { told = provided old new is }
     provided_by None (Some new) is told = absurd told.told

@@ -1,5 +1,6 @@
 -- A commit of generated pairs leaves each live value.
-use Rattle.std.proofs.Common.{◌≡◌, inl, inr, ℕ, Bool, true, false, cond, not, fold, is_some, List, [], ◌∷◌, Option, Some, None, Ok, Err, OnOk, refl, sym, ◌∙◌, ap, subst}
+use Rattle.std.proofs.Common.{◌≡◌, inl, inr, ℕ, Bool, true, false, cond, not, fold, is_some, List}
+use Rattle.std.proofs.Common.{[], ◌∷◌, Option, Some, None, Ok, Err, OnOk, refl, sym, ◌∙◌, ap, subst}
 use Rattle.std.specs.Cmp.{eq_by_cmp_equiv}
 use Rattle.std.specs.FinMap.{FinMap, empty, get, contains_key, get-empty, get_tied}
 use Rattle.std.specs.List.{AllByRecursion}
@@ -39,7 +40,8 @@ both_none : (b : Bool) (o : Option Pending) → o ≡ None → cond b o o ≡ No
 both_none true o none = none
 both_none false o none = none
 
-unpatched : (m : Pendings) (tx : List ℕ) (es : List (Key × Pending)) (q : Key) → value_at m tx q ≡ None → AllByRecursion (λ e. eq_by_cmp key_cmp q e.0 ≡ false) es
+unpatched : (m : Pendings) (tx : List ℕ) (es : List (Key × Pending)) (q : Key) → value_at m tx q ≡ None
+    → AllByRecursion (λ e. eq_by_cmp key_cmp q e.0 ≡ false) es
     → value_at (fold (λ n e. with_value n tx e.0 e.1) m es) tx q ≡ None
 unpatched m tx [] q none apart = none
 unpatched m tx (e ∷ es) q none apart = unpatched (with_value m tx e.0 e.1) tx es q here apart.1 where
@@ -63,7 +65,8 @@ module _ (I : Image) (X : World) (tx : List ℕ) (q : Key) where
         ∙ ap (λ (b : Bool). cond b empty (inner X.held.pending tx)) ((eq_by_cmp_equiv bytes_total).refl tx)) ∙ get-empty key_cmp q;
   }
 
-  patched_keeps : (Y : World) (puts : List (Key × Pending)) → Keeps Y → AllByRecursion (λ e. eq_by_cmp key_cmp q e.0 ≡ false) puts → Keeps (next I Y (Asked (Patch tx puts) Answered))
+  patched_keeps : (Y : World) (puts : List (Key × Pending)) → Keeps Y → AllByRecursion (λ e. eq_by_cmp key_cmp q e.0 ≡ false) puts
+      → Keeps (next I Y (Asked (Patch tx puts) Answered))
   unfolding request_next
   patched_keeps Y puts k apart = by (first_wanted I.types puts) where
     by : (o : Option Wanted) → Keeps (patch_next Y tx puts o).world
@@ -97,7 +100,8 @@ answered_rest : (key : Key) (value : Scalar) (pairs : List (Key × Scalar)) (res
 answered_rest key value pairs (Ok others) is = (others, refl, cc (sym is))
 answered_rest key value pairs (Err e) is = absurd (cc is)
 
-answered_new : (live : Contents) (given : List Given) (questions : List Question) (pairs : List (Key × Scalar)) → AllByRecursion (λ g. contains_key live.values g.0 ≡ false) given
+answered_new : (live : Contents) (given : List Given) (questions : List Question) (pairs : List (Key × Scalar))
+    → AllByRecursion (λ g. contains_key live.values g.0 ≡ false) given
     → AreAsked given questions (Ok pairs) → AreNew live pairs
 answered_new live [] questions pairs new asked = none_new live pairs (sym asked.1)
 answered_new live (g ∷ given) questions pairs new (inl on) =
@@ -109,7 +113,8 @@ not_true : (b : Bool) → not b ≡ true → b ≡ false
 not_true true is = absurd (cc is)
 not_true false is = refl
 
-all_not : (live : Contents) (given : List Given) → AllByRecursion (λ g. not (contains_key live.values g.0) ≡ true) given → AllByRecursion (λ g. contains_key live.values g.0 ≡ false) given
+all_not : (live : Contents) (given : List Given) → AllByRecursion (λ g. not (contains_key live.values g.0) ≡ true) given
+    → AllByRecursion (λ g. contains_key live.values g.0 ≡ false) given
 all_not live [] all = tt
 all_not live (g ∷ given) all = (not_true (contains_key live.values g.0) all.0, all_not live given all.1)
 
@@ -135,7 +140,8 @@ all_apart live q value has (p ∷ pairs) new = (apart live q p.0 value has new.0
 
 -- ---- what generators give
 
-given_new : (live : Contents) (given : List Given) (questions : List Question) (generated : Generated) (pairs : List (Key × Scalar)) → AreAsked (wanted live given) questions generated
+given_new : (live : Contents) (given : List Given) (questions : List Question) (generated : Generated) (pairs : List (Key × Scalar))
+    → AreAsked (wanted live given) questions generated
     → HandsAnswers generated (Ok pairs) → AreNew live pairs
 given_new live given questions (Ok own) pairs asked hands =
     let same : own ≡ pairs = cc (sym hands) in
@@ -148,7 +154,8 @@ module _ (I : Image) (folder : Folder) (W : World) (a a' : Option (List Question
   made_new pairs (inr is) = given_new (opened I W false).held.live is.0 is.2.asks.questions is.2.generated pairs is.2.asks.outcome is.2.hands
 
   -- A `generate` that answers leaves each live value.
-  pub keeps_live : (made : Made) (outcome : Outcome) (events : List Event) → GivenBy I folder (opened I W false) a a' made → MadeEvents I W generate_tx made outcome events
+  pub keeps_live : (made : Made) (outcome : Outcome) (events : List Event) → GivenBy I folder (opened I W false) a a' made
+      → MadeEvents I W generate_tx made outcome events
       → OnOk outcome (KeepsLive (opened I W false) (after I W events))
   keeps_live (Ok pairs) (Ok line) events given ends = λ key value has.
       ap (λ (es : List Event). get (after I W es).held.live.values key)

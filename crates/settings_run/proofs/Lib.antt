@@ -15,4 +15,3 @@ pub mod Keeping
 pub mod MoveRuns
 pub mod Pairs
 pub mod Served
-pub mod Whole

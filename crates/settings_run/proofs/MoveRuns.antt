@@ -1,11 +1,12 @@
 -- `init` and `migrate` are events of the machine.
 use Rattle.std.proofs.Common.{inl, inr, ℕ, List, [], Some, Result, Ok, Err}
-use Rattle.outside.specs.History.{History}
+use Rattle.outside.specs.History.{History, tree_of}
 use Rattle.version_links.specs.declared.version.Version.{Version}
 use Rattle.settings_machine.specs.World.{Image, World}
 use Rattle.settings_machine.specs.Events.{Began, next}
 use Rattle.settings_machine.specs.Paid.{IsGood}
-use Rattle.machine_disk.specs.Ran.{Starts}
+use Rattle.machine_disk.specs.Kept.{Folder, DiskAt}
+use Rattle.machine_disk.specs.Store.{bytes_at}
 use Rattle.store_open.specs.Beginning.{Begins}
 use Rattle.store_open.specs.declared.begin_error.InitError.{InitError}
 use Rattle.store_open.specs.declared.begin_error.InitError.TheVariants as beginning
@@ -23,8 +24,12 @@ use Rattle.settings_run.specs.Laws.{InitsRun, IsMoveBy, MigratesRun}
 
 module _ (I : Image) (good : IsGood I) (W : World) (version : Version) (line : List ℕ) (old new : History) (bare : IsBare W old) where
   begun : (result : Result (Unit {0}) InitError) → Begins version result old new → AnswersBeginning version result (Ok line)
-      → IsBeginning I (next I W (Began version)) old new × HasBegun I (next I W (Began version)) new
-  begun (Ok done) begins answers = (beginnings_are_whole I good W version (Ok done) old new bare begins, beginnings_begin I good W version done old new bare begins)
+      → IsBeginning I (next I W (Began version)) old new × HasBegun I (bytes_at (tree_of old)) (next I W (Began version)) new
+  begun (Ok done) begins answers = (
+    beginnings_are_whole I good W version (Ok done) old new bare begins,
+    beginnings_begin I good W version done old new bare
+        begins,
+  )
   begun (Err (beginning.AlreadyThere other)) begins answers = absurd (cc answers)
   begun (Err (beginning.BadLink path)) begins answers = absurd (cc answers)
   begun (Err beginning.Failed) begins answers = absurd (cc answers)
@@ -33,15 +38,17 @@ module _ (I : Image) (good : IsGood I) (W : World) (version : Version) (line : L
 pub inits_run : InitsRun
 inits_run I good W version line old new bare is = begun I good W version line old new bare is.result is.begins.told is.answers
 
-module _ (I : Image) (good : IsGood I) (W : World) (to : Version) (line : List ℕ) (old new : History) (starts : Starts I W old) (release : Release) (mapped : List Mapped)
+module _ (I : Image) (good : IsGood I) (folder : Folder) (W : World) (to : Version) (line : List ℕ) (old new : History) (disk_at : DiskAt I folder W W old)
+    (release : Release) (mapped : List Mapped)
     (refused : List Refused) where
   moved : (result : Result answer.Moved MoveError)
       → Migrates to release.transitions.items release.migrations.items (Some []) (Some mapped) (Some []) (Some refused) result old new
-      → AnswersMoving to result (Ok line) → IsMoveBy I W to old new
+      → AnswersMoving to result (Ok line) → IsMoveBy I folder W to old new
   moved (Ok done) migrates answers = record {
     release = release;
     mapped = mapped;
-    moved = moves_move I good W to release.transitions.items release.migrations.items [] (Some mapped) (Some []) (Some refused) done old new starts migrates;
+    moved = moves_move I good folder W to release.transitions.items release.migrations.items [] (Some mapped) (Some []) (Some refused) done old new disk_at
+        migrates;
   }
   moved (Err moving.NoStore) migrates answers = absurd (cc answers)
   moved (Err (moving.BadLink path)) migrates answers = absurd (cc answers)
@@ -56,6 +63,6 @@ module _ (I : Image) (good : IsGood I) (W : World) (to : Version) (line : List �
   moved (Err moving.Memory) migrates answers = absurd (cc answers)
 
 pub migrates_run : MigratesRun
-migrates_run I good W to a a' line old new starts (inl none) = absurd (cc none.answers)
-migrates_run I good W to a a' line old new starts (inr is) =
-    moved I good W to line old new starts is.release is.moves.mapped is.moves.refused is.result is.moves.migrates.told is.answers
+migrates_run I good folder W to a a' line old new disk_at (inl none) = absurd (cc none.answers)
+migrates_run I good folder W to a a' line old new disk_at (inr is) =
+    moved I good folder W to line old new disk_at is.release is.moves.mapped is.moves.refused is.result is.moves.migrates.told is.answers

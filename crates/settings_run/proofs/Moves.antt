@@ -1,5 +1,5 @@
 -- A move is one event of the machine, or none, where a store is there.
-use Rattle.std.proofs.Common.{◌≡◌, ◌≢◌, inl, inr, ⊎_elim, ◌++◌, List, [], ◌∷◌, codes, Option, Some, Result, Ok, Err, refl, sym, ◌∙◌, ap, subst}
+use Rattle.std.proofs.Common.{◌≡◌, ◌≢◌, inl, inr, ⊎_elim, ◌++◌, false, List, [], ◌∷◌, codes, Option, Some, Result, Ok, Err, refl, sym, ◌∙◌, ap, subst}
 use Rattle.outside.specs.Exchange.{Exchange}
 use Rattle.outside.specs.History.{History, tree_of}
 use Rattle.outside.specs.Spawner.{Run, Question}
@@ -7,7 +7,7 @@ use Rattle.outside.specs.Told.{Moves}
 use Rattle.outside.proofs.Since.{since_map}
 use Rattle.outside.proofs.Told.{moves_same, moves_map, moves_where}
 use Rattle.settings_machine.specs.World.{Image, World}
-use Rattle.settings_machine.specs.Events.{Event, Moved, after}
+use Rattle.settings_machine.specs.Events.{Event, Moved, after, faulted_after}
 use Rattle.settings_machine.specs.Paid.{IsGood}
 use Rattle.machine_disk.specs.Kept.{Folder}
 use Rattle.version_links.specs.Versions.{version_text}
@@ -32,9 +32,9 @@ use Rattle.settings_run.specs.Laws.{Begins}
 use Rattle.settings_run.specs.Events.{MovesBy}
 use Rattle.settings_run.specs.Headline.{RunsOver, RunsOverAll}
 use Rattle.settings_run.proofs.Answered.{run_of, stays, untouched}
-use Rattle.settings_run.proofs.PaidFiles.{images_paid}
+use Rattle.settings_run.proofs.PaidFiles.{leaves_files}
 
--- An error other than a failure of the disk is told as some refusal.
+-- An error other than a failure of the disk is reported as some refusal.
 told_as : (e : MoveError) (outcome : Outcome) → HandsMoving e outcome → (refusal : Refusal) × (outcome ≡ Err refusal)
 told_as moving.NoStore outcome told = (_, told)
 told_as (moving.BadLink path) outcome told = (_, told)
@@ -51,57 +51,73 @@ told_as moving.Memory outcome told = (_, told)
 module _ (x x' : Option (List Exchange)) (a a' : Option (List Question)) (r r' : Option (List Run)) (no_runs : r' ≡ r) (to : Version) where
   module _ (I : Image) (good : IsGood I) (folder : Folder) (W : World) (old new : History) (at : Begins I folder W old) where
     -- A refusal of a disk that stayed is no event.
-    stayed_as : (outcome : Outcome) (refusal : Refusal) → outcome ≡ Err refusal → HasStayed I W old new → RunsOver (migrate to) I folder W x x' a a' r r' outcome old new
+    stayed_as : (outcome : Outcome) (refusal : Refusal) → outcome ≡ Err refusal → HasStayed I folder W old new
+        → RunsOver (migrate to) I folder W x x' a a' r r' outcome old new
     stayed_as outcome refusal told stayed = subst (λ (o : Outcome). RunsOver (migrate to) I folder W x x' a a' r r' o old new) (sym told)
         (inl (stays (migrate to) I good folder W x x' a a' r r' (Err refusal) old new at refl no_runs stayed))
 
     module _ (release : Release) (read : IsReleaseIn (sources_in (tree_of old)) release) (mapped : List Mapped) (p q : Option (List Refused)) where
       -- The release of the tree is that of the folder.
-      moves_by : (events : List Event) → MoveEvents W to release.transitions.items release.migrations.items (Some []) (Some mapped) events → MovesBy folder W to events
+      moves_by : (events : List Event) → MoveEvents W to release.transitions.items release.migrations.items (Some []) (Some mapped) events
+          → MovesBy folder W to events
       moves_by events form = record {
         release = release;
-        read = record { text = read.text; there = sym (at.image (codes "image" ∷ release_path) refl) ∙ read.there; spelled = read.spelled };
+        read = record { text = read.text; there = sym (at.disk.image (codes "image" ∷ release_path) refl) ∙ read.there; spelled = read.spelled };
         mapped = mapped;
         events_are = form;
       }
 
-      no_program : (events : List Event) → MoveEvents W to release.transitions.items release.migrations.items (Some []) (Some mapped) events → (after I W events).runs ≡ W.runs
+      no_program : (events : List Event) → MoveEvents W to release.transitions.items release.migrations.items (Some []) (Some mapped) events
+          → (after I W events).runs ≡ W.runs
       no_program events (inl is) = ap (λ (es : List Event). (after I W es).runs) is.2
       no_program events (inr is) = ap (λ (es : List Event). (after I W es).runs) is.2
+
+      -- No call of the disk failed.
+      quiet : (events : List Event) → MoveEvents W to release.transitions.items release.migrations.items (Some []) (Some mapped) events
+          → faulted_after false events ≡ false
+      quiet events (inl is) = ap (faulted_after false) is.2
+      quiet events (inr is) = ap (faulted_after false) is.2
 
       module _ (outcome : Outcome) where
         answered : (done : answer.Moved) → Migrates to release.transitions.items release.migrations.items (Some []) (Some mapped) p q (Ok done) old new
             → outcome ≡ Ok (version_text to ++ 10 ∷ []) → RunsOver (migrate to) I folder W x x' a a' r r' outcome old new
         answered done migrates told =
-            let has : HasMoved I W to release.transitions.items release.migrations.items (Some []) (Some mapped) old new =
-            moves_move I good W to release.transitions.items release.migrations.items [] (Some mapped) p q done old new at.starts migrates in
+            let has : HasMoved I folder W to release.transitions.items release.migrations.items (Some []) (Some mapped) old new =
+            moves_move I good folder W to release.transitions.items release.migrations.items [] (Some mapped) p q done old new at.disk migrates in
             subst (λ (o : Outcome). RunsOver (migrate to) I folder W x x' a a' r r' o old new) (sym told)
-            (inl (run_of (migrate to) I good folder W x x' a a' r r' (Ok (version_text to ++ 10 ∷ [])) old new at has.events (refl, moves_by has.events has.form) has.runs
-            (moves_same no_runs (λ s was. was ∙ sym (no_program has.events has.form))) (λ all. has.recovers)))
+            (inl (run_of (migrate to) I good folder W x x' a a' r r' (Ok (version_text to ++ 10 ∷ [])) old new at has.events
+            (refl, moves_by has.events has.form) has.runs
+            (moves_same no_runs (λ s was. was ∙ sym (no_program has.events has.form))) (λ all. quiet has.events has.form)))
 
-        stopped : (e : MoveError) → e ≢ moving.Failed → Migrates to release.transitions.items release.migrations.items (Some []) (Some mapped) p q (Err e) old new
+        stopped : (e : MoveError) → e ≢ moving.Failed → Migrates to release.transitions.items release.migrations.items (Some []) (Some mapped) p q (Err e) old
+            new
             → HandsMoving e outcome → RunsOver (migrate to) I folder W x x' a a' r r' outcome old new
         stopped e other migrates told =
             let refusal = told_as e outcome told in
             stayed_as outcome refusal.0 refusal.1
-            (refused_moves_stay I good W to release.transitions.items release.migrations.items (Some []) (Some mapped) p q e old new other at.starts migrates)
+            (refused_moves_stay I good folder W to release.transitions.items release.migrations.items (Some []) (Some mapped) p q e old new other at.disk
+            migrates)
 
-        failed : Migrates to release.transitions.items release.migrations.items (Some []) (Some mapped) p q (Err moving.Failed) old new → outcome ≡ Err refused.Disk
+        failed : Migrates to release.transitions.items release.migrations.items (Some []) (Some mapped) p q (Err moving.Failed) old new
+            → outcome ≡ Err refused.Disk
             → RunsOver (migrate to) I folder W x x' a a' r r' outcome old new
         failed migrates told =
             let moves : IsMoving I W to release.transitions.items release.migrations.items (Some []) (Some mapped) old new =
-            moves_are_whole I good W to release.transitions.items release.migrations.items (Some []) (Some mapped) p q (Err moving.Failed) old new at.starts migrates in
+            moves_are_whole I good folder W to release.transitions.items release.migrations.items (Some []) (Some mapped) p q (Err moving.Failed) old new
+            at.disk migrates in
             inr (record {
               to = to;
               order_is = refl;
               outcome_is = told;
-              any_moment = since_map _ _ old new (λ c either. ⊎_elim (λ r. inl r) (λ m. inr (Moved to m.0 ∷ [], moves_by (Moved to m.0 ∷ []) (inr (m.0, m.1, refl)), m.2)) either)
+              any_moment = since_map _ _ old new (λ c either. ⊎_elim
+                  (λ was. inl (leaves_files I W [] c was))
+                  (λ m. inr (Moved to m.0 ∷ [], moves_by (Moved to m.0 ∷ []) (inr (m.0, m.1, refl)), leaves_files I W (Moved to m.0 ∷ []) c m.2)) either)
                   moves.any_moment;
-              paid_files = images_paid I old new moves.image_paid;
               no_runs = no_runs;
             })
 
-        by_result : (result : Result answer.Moved MoveError) → Migrates to release.transitions.items release.migrations.items (Some []) (Some mapped) p q result old new
+        by_result : (result : Result answer.Moved MoveError) → Migrates to release.transitions.items release.migrations.items (Some []) (Some mapped) p q result
+            old new
             → AnswersMoving to result outcome → RunsOver (migrate to) I folder W x x' a a' r r' outcome old new
         by_result (Ok done) migrates told = answered done migrates told
         by_result (Err moving.Failed) migrates told = failed migrates told

@@ -1,21 +1,20 @@
 -- `generate` and `user-data` are runs of the machine.
-use Rattle.std.proofs.Common.{◌≡◌, inl, inr, true, false, codes, ℕ, List, [], ◌∷◌, Option, Some, None, Result, Ok, Err, refl, sym, ◌∙◌, subst}
-use Rattle.outside.specs.History.{History, tree_of, EachImage}
+use Rattle.std.proofs.Common.{◌≡◌, inl, inr, false, codes, ℕ, List, [], ◌∷◌, Option, Some, None, Result, Ok, Err, refl, sym, ◌∙◌, ap, subst}
+use Rattle.outside.specs.History.{History, tree_of}
 use Rattle.outside.specs.Names.{Names}
 use Rattle.outside.specs.Spawner.{Run, Question}
 use Rattle.outside.specs.Told.{Moves}
 use Rattle.outside.proofs.Told.{moves_same}
 use Rattle.settings_tree.specs.declared.held.Held.{Held}
-use Rattle.settings_machine.specs.World.{Image, World}
+use Rattle.settings_machine.specs.World.{Image, World, is_running}
 use Rattle.settings_machine.specs.Step.{opened}
-use Rattle.settings_machine.specs.Events.{Event, Opened, Succeeded, after, faulted_after}
+use Rattle.settings_machine.specs.Events.{Event, Opened, Succeeded, after}
 use Rattle.settings_machine.specs.Paid.{IsGood}
-use Rattle.machine_disk.specs.Store.{Recovers}
 use Rattle.machine_disk.specs.Kept.{Folder, Kept}
 use Rattle.machine_disk.specs.Ran.{RunsTo, OpensTo}
-use Rattle.machine_disk.proofs.Runs.{runs_to, ran_none}
+use Rattle.machine_disk.proofs.Runs.{ran_none}
+use Rattle.machine_disk.proofs.Prefixes.{runs_to}
 use Rattle.machine_disk.proofs.Meanings.{core_holds}
-use Rattle.machine_disk.proofs.Quiet.{calm_images}
 use Rattle.store_image.specs.Paths.{sources_in}
 use Rattle.typed_settings.specs.declared.row.Row.{Row}
 use Rattle.store_open.specs.Laws.{IsImageOfFolder, HoldsImage}
@@ -53,18 +52,19 @@ module _ (I : Image) (good : IsGood I) (folder : Folder) (is : IsImageOfFolder I
   pub record Ended (tx : List ℕ) (made : Made) (outcome : Outcome) (new : History) : Type 0 where
     pub events : List Event
     pub form_is : MadeEvents I W tx made outcome events
-    pub runs_to : RunsTo I W events old new
+    pub runs_to : RunsTo I folder W events old new
     pub runs : (after I W events).runs ≡ W.runs
-    pub calm : faulted_after true events ≡ false → EachImage (Recovers I (after I W events)) new
 
   opened_same : (opened I W false).runs ≡ W.runs
   opened_same = opened_runs I good folder is W old between begins false
 
-  opening_alone : RunsTo I W (Opened false Succeeded ∷ []) old between
-  opening_alone = runs_to I good folder W false [] old between between store.place store.held (core_over store) (core_over store) begins.starts run.0 refl
+  opening_alone : RunsTo I folder W (Opened false Succeeded ∷ []) old between
+  opening_alone = runs_to I good folder W false [] old between between store.place store.held (core_over store) (core_over store) (ap is_running begins.idle)
+      run.0 refl refl
       (ran_none I folder (opened I W false) (opened I W false) between (core_over store) kept)
 
-  pub made_ends : (tx : List ℕ) (made : Made) (outcome : Outcome) (new : History) → CommitsMade tx store made outcome (Some between) (Some new) → Ended tx made outcome new
+  pub made_ends : (tx : List ℕ) (made : Made) (outcome : Outcome) (new : History) → CommitsMade tx store made outcome (Some between) (Some new)
+      → Ended tx made outcome new
   made_ends tx (Ok pairs) outcome new commits =
       let told : Commits tx pairs store outcome between new = commits.told in
       let c : IsCommitted I folder (opened I W false) (opened I W false) tx pairs outcome (core_over store) between new =
@@ -73,18 +73,17 @@ module _ (I : Image) (good : IsGood I) (folder : Folder) (is : IsImageOfFolder I
       record {
         events = Opened false Succeeded ∷ c.events;
         form_is = (c.events, refl, c.comes);
-        runs_to = runs_to I good folder W false c.events old between new store.place store.held (core_over store) c.now begins.starts run.0 plain.served c.made;
+        runs_to = runs_to I good folder W false c.events old between new store.place store.held (core_over store) c.now (ap is_running begins.idle) run.0 refl
+            plain.served c.made;
         runs = plain.runs ∙ opened_same;
-        calm = λ e. calm_images I folder (after I (opened I W false) c.events) c.made.other new c.now (c.made.flag ∙ e) c.made.kept;
       }
   made_ends tx (Err refusal) outcome new ends =
       let same : between ≡ new = cc (sym ends.1) in
       record {
         events = Opened false Succeeded ∷ [];
         form_is = (refl, ends.0);
-        runs_to = subst (λ (h : History). RunsTo I W (Opened false Succeeded ∷ []) old h) same opening_alone;
+        runs_to = subst (λ (h : History). RunsTo I folder W (Opened false Succeeded ∷ []) old h) same opening_alone;
         runs = opened_same;
-        calm = λ e. subst (EachImage (Recovers I (opened I W false))) same (calm_images I folder (opened I W false) (opened I W false) between (core_over store) refl kept);
       }
 
   -- ---- what generators give
@@ -115,36 +114,40 @@ module _ (I : Image) (good : IsGood I) (folder : Folder) (is : IsImageOfFolder I
 
 -- ---- generate
 
-module _ (I : Image) (good : IsGood I) (folder : Folder) (is : IsImageOfFolder I folder) (W : World) (a a' : Option (List Question)) (outcome : Outcome) (r : Option (List Run))
+module _ (I : Image) (good : IsGood I) (folder : Folder) (is : IsImageOfFolder I folder) (W : World) (a a' : Option (List Question)) (outcome : Outcome)
+    (r : Option (List Run))
     (old new : History) (begins : Begins I folder W old) where
   generated : (result : Result answer.Opened OpenError) (between : Option History) → Moves (Some old) between (Opens false result)
-      → GeneratesAfter a a' result outcome between (Some new) → IsRun I W (GenerateEvents I folder W a a' outcome) r r old new
+      → GeneratesAfter a a' result outcome between (Some new) → IsRun I folder W (GenerateEvents I folder W a a' outcome) r r old new
   generated result None opens follows = absurd opens.told
   generated (Ok store) (Some between) opens follows =
       let e : Ended I good folder is W old between begins store opens.told generate_tx follows.made outcome new =
       made_ends I good folder is W old between begins store opens.told generate_tx follows.made outcome new follows.ends in
-      let given : GivenBy I folder (opened I W false) a a' follows.made = given_by I good folder is W old between begins store opens.told a a' follows.made follows.gives in
+      let given : GivenBy I folder (opened I W false) a a' follows.made =
+      given_by I good folder is W old between begins store opens.told a a' follows.made follows.gives in
       record {
         events = e.events;
         form_is = inl (follows.made, given, e.form_is, keeps_live I folder W a a' follows.made outcome e.events given e.form_is);
         runs_to = e.runs_to;
         ran = moves_same refl (λ s was. was ∙ sym e.runs);
-        calm = e.calm;
       }
   generated (Err e) (Some between) opens follows =
       let same : between ≡ new = cc (sym follows.1) in
-      unopened_run I good folder is W old new begins (GenerateEvents I folder W a a' outcome) r r false outcome (λ events un. inr (un, follows.2)) refl e follows.0
+      unopened_run I good folder is W old new begins (GenerateEvents I folder W a a' outcome) r r false outcome (λ events un. inr (un, follows.2)) refl e
+      follows.0
       (subst (λ (h : History). Opens false (Err e) old h) same opens.told)
 
 pub generates_run : GeneratesRun
-generates_run I good folder is W a a' outcome r old new begins generates = generated I good folder is W a a' outcome r old new begins generates.opening generates.between generates.opens generates.follows
+generates_run I good folder is W a a' outcome r old new begins generates =
+    generated I good folder is W a a' outcome r old new begins generates.opening generates.between generates.opens generates.follows
 
 -- ---- user-data
 
 module _ (I : Image) (good : IsGood I) (folder : Folder) (is : IsImageOfFolder I folder) (W : World) (path : Names) (outcome : Outcome) (r : Option (List Run))
     (old new : History) (begins : Begins I folder W old) where
-  provided : (result : Result answer.Opened OpenError) (between : Option History) → Moves (Some old) between (Opens false result) → ProvidesAfter path result outcome between (Some new)
-      → IsRun I W (ProvisionEvents I W path outcome old) r r old new
+  provided : (result : Result answer.Opened OpenError) (between : Option History) → Moves (Some old) between (Opens false result)
+      → ProvidesAfter path result outcome between (Some new)
+      → IsRun I folder W (ProvisionEvents I W path outcome old) r r old new
   provided result None opens follows = absurd opens.told
   provided (Ok store) (Some between) opens follows =
       let e : Ended I good folder is W old between begins store opens.told data_tx follows.made outcome new =
@@ -161,7 +164,6 @@ module _ (I : Image) (good : IsGood I) (folder : Folder) (is : IsImageOfFolder I
         });
         runs_to = e.runs_to;
         ran = moves_same refl (λ s was. was ∙ sym e.runs);
-        calm = e.calm;
       }
   provided (Err e) (Some between) opens follows =
       let same : between ≡ new = cc (sym follows.1) in
@@ -169,4 +171,5 @@ module _ (I : Image) (good : IsGood I) (folder : Folder) (is : IsImageOfFolder I
       (subst (λ (h : History). Opens false (Err e) old h) same opens.told)
 
 pub provisions_run : ProvisionsRun
-provisions_run I good folder is W path outcome r old new begins provides = provided I good folder is W path outcome r old new begins provides.opening provides.between provides.opens provides.follows
+provisions_run I good folder is W path outcome r old new begins provides =
+    provided I good folder is W path outcome r old new begins provides.opening provides.between provides.opens provides.follows

@@ -44,7 +44,8 @@ module _ (I : Image) (W : World) (qs : List Request) where
   ended job asked turned is = both asked turned (succeeds_served I W qs asked is.succeeds) (driven_served I (after I W asked) turned is.driven)
 
   -- What a command comes to.
-  pub comes_served : {T : Type 0} (Tells : World → T → Type 0) (result : Result T Refusal) (asked turned : List Event) → Comes I W qs Tells result asked turned → are_served (asked ++ turned) ≡ true
+  pub comes_served : {T : Type 0} (Tells : World → T → Type 0) (result : Result T Refusal) (asked turned : List Event) → Comes I W qs Tells result asked turned
+      → are_served (asked ++ turned) ≡ true
   comes_served Tells (Ok said) asked turned comes = ended _ asked turned comes.0
   comes_served Tells (Err (refused.Refused refusal)) asked turned comes = stopped _ asked turned comes
   comes_served Tells (Err (refused.Spawn name)) asked turned comes = ended _ asked turned comes
@@ -128,8 +129,10 @@ reopens_served true Answered first is = ap are_served is
 reopens_served true WithoutMemory first is = ap are_served is.1
 reopens_served true (Faulted taken) first is = ap are_served is.1
 
-handled_served : (I : Image) (faulted : Bool) (W : World) (q : Request) (reply : Reply) (es : List Event) → Handled I faulted W q reply es → are_served es ≡ true
-handled_served I faulted W q reply es is = ap are_served is.made ∙ both is.first (Asked q is.outcome ∷ []) (reopens_served faulted is.outcome is.first is.reopens) refl
+handled_served : (I : Image) (faulted : Bool) (W : World) (q : Request) (reply : Reply) (es : List Event) → Handled I faulted W q reply es
+    → are_served es ≡ true
+handled_served I faulted W q reply es is = ap are_served is.made ∙ both is.first (Asked q is.outcome ∷ [])
+    (reopens_served faulted is.outcome is.first is.reopens) refl
 
 turns_served : (I : Image) (slice : Option ℕ) (W : World) (es : List Event) → AreTurns I slice W es → are_served es ≡ true
 turns_served I None W es are = driven_served I W es are
@@ -152,15 +155,18 @@ module _ (I : Image) (slice : Option ℕ) where
   booted_served : (boot faulted : Bool) (W : World) (es : List Event) → AreBooted boot I slice faulted W es → are_served es ≡ true
   booted_served false faulted W es is = ap are_served is
   booted_served true faulted W es is =
-      ap are_served is.whole ∙ both is.asked is.turned (handled_served I faulted W _ is.reply is.asked is.request.handled) (turns_served I slice (after I W is.asked) is.turned is.turns)
+      ap are_served is.whole ∙ both is.asked is.turned (handled_served I faulted W _ is.reply is.asked is.request.handled)
+      (turns_served I slice (after I W is.asked) is.turned is.turns)
 
   last_served : (fine : Bool) (W : World) (es : List Event) → AreLast fine I W es → are_served es ≡ true
   last_served true W es is = driven_served I W es is
   last_served false W es is = ap are_served is
 
   -- What is served.
-  pub all_served : (boot fine faulted : Bool) (W : World) (rounds : List Round) (es : List Event) → AreServed I slice boot fine faulted W rounds es → are_served es ≡ true
+  pub all_served : (boot fine faulted : Bool) (W : World) (rounds : List Round) (es : List Event) → AreServed I slice boot fine faulted W rounds es
+      → are_served es ≡ true
   all_served boot fine faulted W rounds es is =
       ap are_served is.whole
       ∙ both is.booted (events_of rounds ++ is.last) (booted_served boot faulted W is.booted is.boots)
-      (both (events_of rounds) is.last (rounds_served (faulted_after faulted is.booted) (after I W is.booted) rounds is.are) (last_served fine _ is.last is.ends))
+      (both (events_of rounds) is.last (rounds_served (faulted_after faulted is.booted) (after I W is.booted) rounds is.are)
+      (last_served fine _ is.last is.ends))

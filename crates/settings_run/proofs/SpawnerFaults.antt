@@ -1,4 +1,4 @@
--- A failure of the spawner is told exactly where one was met.
+-- A failure of the spawner is reported exactly where one was met.
 use Rattle.std.proofs.Common.{arith, ◌≡◌, ◌≢◌, inl, inr, ℕ, List, Option, Ok, Err, refl, sym, ◌∙◌, ap}
 use Rattle.std.specs.Result.{IsErrOf}
 use Rattle.outside.specs.Faults.{Rose}
@@ -21,9 +21,11 @@ kept (Err refusal) before now cause other serves =
     cause.kept (λ name is. other (ap status_of (same_error refusal (refused.Spawn name) is))) (λ is. serves (memory_status (Err refusal) is))
 
 -- A run whose status tells of no failure of the spawner has met none.
-pub unspawned : (outcome : Outcome) (status before now : ℕ) (s s' : Option (List ℕ)) → HasSpawnCause before now outcome → Ends outcome status s s' → status ≢ 1 → status ≢ 5
+pub unspawned : (outcome : Outcome) (status before now : ℕ) (s s' : Option (List ℕ)) → HasSpawnCause before now outcome → Ends outcome status s s' → status ≢ 1
+    → status ≢ 5
     → status ≢ 12 → now ≡ before
-unspawned outcome status before now s s' cause (inl (inl told)) not_1 not_5 not_12 = kept outcome before now cause (λ is. not_5 (told.0 ∙ is)) (λ is. not_1 (told.0 ∙ is))
+unspawned outcome status before now s s' cause (inl (inl told)) not_1 not_5 not_12 =
+    kept outcome before now cause (λ is. not_5 (told.0 ∙ is)) (λ is. not_1 (told.0 ∙ is))
 unspawned outcome status before now s s' cause (inl (inr told)) not_1 not_5 not_12 = absurd (not_12 told.0)
 unspawned outcome status before now s s' cause (inr told) not_1 not_5 not_12 = absurd (not_1 told.0)
 

@@ -32,16 +32,18 @@ abbrev pub MigrateEvents : Folder → World → Version → Outcome → List Eve
 MigrateEvents folder W to (Ok line) events = (line ≡ version_text to ++ 10 ∷ []) × MovesBy folder W to events
 MigrateEvents folder W to (Err refusal) events = events ≡ []
 
--- Memory was wanting before anything was done.
+-- It ran out of memory before anything was done.
 abbrev pub IsUnbegun : Outcome → List Event → Type 0
 IsUnbegun outcome events = (outcome ≡ Err refused.Memory) × (events ≡ [])
 
 -- What each command makes of W, where a store is there, on a disk with this history. `init`, `check`, `prune` and `load` make no event. The connections
 -- that the door has accepted, and the programs that were asked, are those before and after.
-abbrev pub Makes : Order → Image → Folder → World → Option (List Exchange) → Option (List Exchange) → Option (List Question) → Option (List Question) → Outcome → History
+abbrev pub Makes : Order → Image → Folder → World → Option (List Exchange) → Option (List Exchange) → Option (List Question) → Option (List Question) → Outcome
+    → History
     → List Event → Type 0
 Makes (init version) I folder W x x' a a' outcome old events = events ≡ []
-Makes (serve boot slice connections) I folder W x x' a a' outcome old events = ServeEvents I W boot slice x x' outcome events ⊎ (IsUnbegun outcome events × (x' ≡ x))
+Makes (serve boot slice connections) I folder W x x' a a' outcome old events = ServeEvents I W boot slice x x' outcome events
+    ⊎ (IsUnbegun outcome events × (x' ≡ x))
 Makes (set pairs) I folder W x x' a a' outcome old events = RequestEvents I W (set_requests pairs) IsSettingsLine outcome events ⊎ IsUnbegun outcome events
 Makes (get keys) I folder W x x' a a' outcome old events = GetEvents I W keys outcome events ⊎ IsUnbegun outcome events
 Makes apply I folder W x x' a a' outcome old events = RequestEvents I W apply_requests IsJobLine outcome events ⊎ IsUnbegun outcome events

@@ -1,19 +1,21 @@
 -- The headline: what every run of the program is, said of the map machine.
-use Rattle.std.specs.Prelude.{◌≡◌, ◌⊎◌, ◌++◌, ℕ, Bool, true, false, List, Option, Err, OnOk}
+use Rattle.std.specs.Prelude.{◌≡◌, ◌⊎◌, ◌++◌, ℕ, Bool, true, false, List, [], Option, Err, OnOk}
 use Rattle.outside.specs.Exchange.{Exchange}
 use Rattle.outside.specs.Faults.{HasCauseOf, Rose}
 use Rattle.outside.specs.History.{History, tree_of, EachImage}
 use Rattle.outside.specs.Since.{EachSince}
 use Rattle.outside.specs.Spawner.{Run, Question}
 use Rattle.outside.specs.Told.{Moves}
-use Rattle.settings_machine.specs.World.{Image, World, owes_none, due}
+use Rattle.outside.specs.Tree.{Tree}
+use Rattle.settings_machine.specs.World.{Image, World, Idle, owes_none, due}
 use Rattle.settings_machine.specs.Covered.{IsCovered}
-use Rattle.settings_machine.specs.Events.{Event, Began, next, after}
+use Rattle.settings_machine.specs.Step.{with_job}
+use Rattle.settings_machine.specs.Events.{Event, Began, next, after, faulted_after}
 use Rattle.settings_machine.specs.Jobs.{RunInOrder}
-use Rattle.settings_machine.specs.Paid.{IsCurrent, Paid, IsGood}
+use Rattle.settings_machine.specs.Paid.{IsCurrent, IsPaid, WasPaid, IsGood}
 use Rattle.machine_disk.specs.Kept.{Folder}
 use Rattle.machine_disk.specs.Ran.{AtPrefix, AtLatePrefix, IsWorldOf, RunsBy}
-use Rattle.machine_disk.specs.Store.{HasStore, HasFiles, Recovers}
+use Rattle.machine_disk.specs.Store.{bytes_at, HasStore, HasFiles, Recovers}
 use Rattle.store_open.specs.Laws.{IsImageOfFolder}
 use Rattle.store_events.specs.Laws.{IsBare, IsBeginning, HasBegun}
 use Rattle.version_links.specs.declared.version.Version.{Version}
@@ -38,10 +40,11 @@ pub record Faults : Type 0 where
 abbrev pub faults : ℕ → ℕ → ℕ → Faults
 faults disk door spawner = record { disk = disk; door = door; spawner = spawner }
 
--- ---- the five points
+-- ---- the six points
 
 -- The replies and lines are those of the machine after the events, and so are the settings and the configuration files of the disk.
-pub record IsMachines (order : Order) (I : Image) (folder : Folder) (W : World) (x x' : Option (List Exchange)) (a a' : Option (List Question)) (outcome : Outcome)
+pub record IsMachines (order : Order) (I : Image) (folder : Folder) (W : World) (x x' : Option (List Exchange)) (a a' : Option (List Question))
+    (outcome : Outcome)
     (events : List Event) (old new : History) : Type 0 where
   pub made : Makes order I folder W x x' a a' outcome old events
   pub settings : HasStore (after I W events) (tree_of new)
@@ -52,22 +55,31 @@ abbrev pub acknowledges_all : Order → Bool
 acknowledges_all (serve boot slice connections) = false
 acknowledges_all _ = true
 
--- A crash at any moment recovers to a prefix of the events, and at the end to one behind which no event is acknowledged: to all of them where a
+-- A crash at any moment recovers to a prefix of the events, and at the end to one after which no event is acknowledged: to all of them where a
 -- command other than `serve` has ended well.
 pub record RecoversToPrefix (order : Order) (I : Image) (W : World) (outcome : Outcome) (events : List Event) (old new : History) : Type 0 where
   pub any_moment : EachSince (AtPrefix I W events) old new
   pub at_exit : EachImage (AtLatePrefix I W events) new
   pub ended_well : acknowledges_all order ≡ true → OnOk outcome (EachImage (Recovers I (after I W events)) new)
 
--- Each covered file is what its template renders to from scratch, or it is due; so where no key is owed, each is.
-pub record ArePaid (I : Image) (X : World) : Type 0 where
-  pub paid : Paid I X
-  pub current : owes_none (due I X.held) ≡ true → (file : List ℕ) → IsCovered I file → IsCurrent I X file
+-- The file is what its template renders to from scratch, or it is due; so where no key is owed, it is the former.
+pub record StandsPaid (I : Image) (X : World) (file : List ℕ) : Type 0 where
+  pub paid : IsPaid I X file
+  pub current : owes_none (due I X.held) ≡ true → IsCurrent I X file
 
--- So it is after each prefix of the events, and of what a crash at any moment leaves.
+-- So is each covered file after the events that was so before them; and after a boot each is, whatever it was before.
+abbrev pub FilesStay : Image → World → List Event → Type 0
+FilesStay I W events = (file : List ℕ) → IsCovered I file → WasPaid I W events file → StandsPaid I (after I W events) file
+
+-- A crash that leaves this image recovers to the world after the events, and in each world of the image the same files are so.
+pub record LeavesFiles (I : Image) (W : World) (events : List Event) (image : Tree) : Type 0 where
+  pub recovers : Recovers I (after I W events) image
+  pub stand : (file : List ℕ) → IsCovered I file → WasPaid I W events file → (X : World) → IsWorldOf image X → StandsPaid I X file
+
+-- It is so after each prefix of the events, and by a prefix of them in what a crash at any moment leaves.
 pub record FilesArePaid (I : Image) (W : World) (events : List Event) (old new : History) : Type 0 where
-  pub any_prefix : (first rest : List Event) → events ≡ first ++ rest → ArePaid I (after I W first)
-  pub any_moment : EachSince (λ image. (X : World) → IsWorldOf image X → ArePaid I X) old new
+  pub any_prefix : (first rest : List Event) → events ≡ first ++ rest → FilesStay I W first
+  pub any_moment : EachSince (λ image. (first : List Event) × (rest : List Event) × (events ≡ first ++ rest) × LeavesFiles I W first image) old new
 
 -- The programs that were run are those of the events' jobs, and each job ran the commands of the services that what was owed when it began affects,
 -- in order, up to the first that failed.
@@ -75,47 +87,59 @@ pub record RestartsAffected (I : Image) (W : World) (events : List Event) (ran_b
   pub restarts : RunInOrder I W events
   pub ran : RunsBy I W events ran_before ran_after
 
+-- Where no call of the disk has failed in the run, or none since an opening that succeeded, and where a command other than `serve` has ended well,
+-- the next run may begin at the last world, with an idle job.
+pub record GoesOn (order : Order) (I : Image) (folder : Folder) (W : World) (outcome : Outcome) (events : List Event) (new : History) : Type 0 where
+  pub calm : faulted_after false events ≡ false → Begins I folder (with_job (after I W events) Idle) new
+  pub ended_well : acknowledges_all order ≡ true → OnOk outcome (Begins I folder (with_job (after I W events) Idle) new)
+
 -- ---- a run where a store is there
 
 -- It is these events of the machine.
-pub record IsRun (order : Order) (I : Image) (folder : Folder) (W : World) (x x' : Option (List Exchange)) (a a' : Option (List Question)) (r r' : Option (List Run)) (outcome : Outcome) (old new : History)
+pub record IsRun (order : Order) (I : Image) (folder : Folder) (W : World) (x x' : Option (List Exchange)) (a a' : Option (List Question))
+    (r r' : Option (List Run)) (outcome : Outcome) (old new : History)
     : Type 0 where
   pub events : List Event
   pub machine : IsMachines order I folder W x x' a a' outcome events old new
   pub crashes : RecoversToPrefix order I W outcome events old new
   pub paid_files : FilesArePaid I W events old new
   pub restarts : RestartsAffected I W events r r'
+  pub goes_on : GoesOn order I folder W outcome events new
 
 -- The disk failed a move, and it happened or not: a crash recovers to the world before it, or to the one after it.
-pub record FailsToMove (order : Order) (I : Image) (folder : Folder) (W : World) (r r' : Option (List Run)) (outcome : Outcome) (old new : History) : Type 0 where
+pub record FailsToMove (order : Order) (I : Image) (folder : Folder) (W : World) (r r' : Option (List Run)) (outcome : Outcome) (old new : History) : Type
+    0 where
   pub to : Version
   pub order_is : order ≡ migrate to
   pub outcome_is : outcome ≡ Err refused.Disk
-  pub any_moment : EachSince (λ image. Recovers I W image ⊎ ((events : List Event) × MovesBy folder W to events × Recovers I (after I W events) image)) old new
-  pub paid_files : EachSince (λ image. (X : World) → IsWorldOf image X → ArePaid I X) old new
+  pub any_moment : EachSince (λ image. LeavesFiles I W [] image ⊎ ((events : List Event) × MovesBy folder W to events × LeavesFiles I W events image)) old new
   pub no_runs : r' ≡ r
 
 -- A run is a list of events; but where the disk failed a move, that happened or not.
-abbrev pub RunsOver : Order → Image → Folder → World → Option (List Exchange) → Option (List Exchange) → Option (List Question) → Option (List Question) → Option (List Run)
+abbrev pub RunsOver : Order → Image → Folder → World → Option (List Exchange) → Option (List Exchange) → Option (List Question) → Option (List Question)
+    → Option (List Run)
     → Option (List Run) → Outcome → History → History → Type 0
-RunsOver order I folder W x x' a a' r r' outcome old new = IsRun order I folder W x x' a a' r r' outcome old new ⊎ FailsToMove order I folder W r r' outcome old new
+RunsOver order I folder W x x' a a' r r' outcome old new = IsRun order I folder W x x' a a' r r' outcome old new
+    ⊎ FailsToMove order I folder W r r' outcome old new
 
--- By each image that the folder makes, and each world that the disk begins at, settled and paid.
-abbrev pub RunsOverAll : Order → Option (List Exchange) → Option (List Exchange) → Option (List Question) → Option (List Question) → Option (List Run) → Option (List Run)
+-- By each image that the folder makes, and each world that the disk begins at.
+abbrev pub RunsOverAll : Order → Option (List Exchange) → Option (List Exchange) → Option (List Question) → Option (List Question) → Option (List Run)
+    → Option (List Run)
     → Outcome → History → History → Type 0
 RunsOverAll order x x' a a' r r' outcome old new = (I : Image) → IsGood I → (folder : Folder) → IsImageOfFolder I folder → (W : World) → Begins I folder W old
     → RunsOver order I folder W x x' a a' r r' outcome old new
 
 -- ---- a run where no store is there
 
--- A store of the version is begun, which is one event: a crash at any moment leaves none, or it, whole; and where the command ended well, it.
+-- A store of the version is begun, which is one event: a crash at any moment leaves none, or it, whole; and where the command ended well, it, and the
+-- next run may begin there.
 pub record BeginsStore (version : Version) (outcome : Outcome) (old new : History) : Type 0 where
   pub each : (I : Image) → IsGood I → (W : World) → IsBare W old
-      → IsBeginning I (next I W (Began version)) old new × OnOk outcome (HasBegun I (next I W (Began version)) new)
+      → IsBeginning I (next I W (Began version)) old new × OnOk outcome (HasBegun I (bytes_at (tree_of old)) (next I W (Began version)) new)
 
 -- ---- the headline
 
--- Want of memory is told by status 1 and no other. That a device failed is what a command came to only where its count of faults rose,
+-- Out of memory is reported by exit status 1 and no other. That a device failed is what a command came to only where its count of faults rose,
 -- whatever the status is; and, but by `serve`, which tells its clients alone, no fault of disk or spawner is passed over.
 pub record HasCauses (words : List (List ℕ)) (outcome : Outcome) (status : ℕ) (before now : Faults) : Type 0 where
   pub memory : outcome ≡ Err refused.Memory → status ≡ 1
@@ -125,9 +149,10 @@ pub record HasCauses (words : List (List ℕ)) (outcome : Outcome) (status : ℕ
   pub disk_told : ServesNot words → HasCauseOf refused.Disk before.disk now.disk outcome
   pub spawner_told : ServesNot words → HasSpawnCause before.spawner now.spawner outcome
 
--- There is one thing that the run came to. The status and the text are of it, or the text could not be written, or memory was wanting; it
+-- There is one thing that the run came to. The status and the text are of it, or the text could not be written, or it ran out of memory; it
 -- has its cause; it is what the words order, done as they order it; and that is a run of the machine, crash included.
-pub record Headline (words : List (List ℕ)) (status : ℕ) (before now : Devices) (output_before output_now : Option (List ℕ)) (failed_before failed_now : Faults) : Type 0 where
+pub record Headline (words : List (List ℕ)) (status : ℕ) (before now : Devices) (output_before output_now : Option (List ℕ))
+    (failed_before failed_now : Faults) : Type 0 where
   pub outcome : Outcome
   pub ends : Ends outcome status output_before output_now
   pub causes : HasCauses words outcome status failed_before failed_now

@@ -1,8 +1,8 @@
 -- Laws of commands: the run of the machine that each makes, crash included.
-use Rattle.std.specs.Prelude.{◌≡◌, ◌⊎◌, ℕ, Bool, true, false, List, [], ◌∷◌, ◌++◌, Option, Some, Ok, Err, OnOk, codes}
+use Rattle.std.specs.Prelude.{◌≡◌, ◌⊎◌, ℕ, Bool, false, List, [], ◌∷◌, ◌++◌, Option, Some, Ok, Err, OnOk, codes}
 use Rattle.std.specs.FinMap.{get}
 use Rattle.outside.specs.Exchange.{Exchange}
-use Rattle.outside.specs.History.{History, tree_of, EachImage}
+use Rattle.outside.specs.History.{History, tree_of}
 use Rattle.outside.specs.Names.{Names}
 use Rattle.outside.specs.Spawner.{Run, Question}
 use Rattle.outside.specs.Told.{Moves}
@@ -11,11 +11,11 @@ use Rattle.json_trees.specs.declared.scalar.Scalar.{Scalar}
 use Rattle.settings_machine.specs.World.{Key, Image, World, Idle}
 use Rattle.settings_machine.specs.Requests.{Request}
 use Rattle.settings_machine.specs.Step.{opened}
-use Rattle.settings_machine.specs.Events.{Event, Opened, Succeeded, Failing, Began, next, after, faulted_after}
+use Rattle.settings_machine.specs.Events.{Event, Opened, Succeeded, Failing, Began, next, after}
 use Rattle.settings_machine.specs.Paid.{IsGood}
-use Rattle.machine_disk.specs.Kept.{Folder}
-use Rattle.machine_disk.specs.Ran.{RunsTo, Starts, RunsBy}
-use Rattle.machine_disk.specs.Store.{is_image, bytes_at, Recovers}
+use Rattle.machine_disk.specs.Kept.{Folder, DiskAt}
+use Rattle.machine_disk.specs.Ran.{RunsTo, RunsBy}
+use Rattle.machine_disk.specs.Store.{bytes_at}
 use Rattle.store_open.specs.Laws.{IsImageOfFolder, IsRefusal}
 use Rattle.store_open.specs.Opening.{Opens}
 use Rattle.store_open.specs.declared.open_error.OpenError.{OpenError}
@@ -42,22 +42,20 @@ use Rattle.settings_cmd.specs.Gets.{Answers}
 use Rattle.settings_cmd.specs.Serving.{served, IsServed}
 use Rattle.settings_cmd.specs.UserData.{data_tx, TellsOfData}
 
--- Before a run: the disk is settled and at W, which is paid; the job is idle; and the files of the image's folder are these.
+-- Before a run: the disk is at W alone, by the files of the image's folder, and the job is idle.
 pub record Begins (I : Image) (folder : Folder) (W : World) (h : History) : Type 0 where
-  pub starts : Starts I W h
+  pub disk : DiskAt I folder W W h
   pub idle : W.job ≡ Idle
-  pub image : (path : Names) → is_image path ≡ true → bytes_at (tree_of h) path ≡ folder path
 
--- Events of this form were made, crash included, and the programs that were run are those of the events. Where an opening has succeeded, and no
--- call of the disk has failed since, a crash now recovers to the last world alone.
-pub record IsRun (I : Image) (W : World) (form : List Event → Type 0) (ran_before ran_after : Option (List Run)) (old new : History) : Type 0 where
+-- Events of this form were made, crash included, and the programs that were run are those of the events.
+pub record IsRun (I : Image) (folder : Folder) (W : World) (form : List Event → Type 0) (ran_before ran_after : Option (List Run)) (old new : History) : Type
+    0 where
   pub events : List Event
   pub form_is : form events
-  pub runs_to : RunsTo I W events old new
+  pub runs_to : RunsTo I folder W events old new
   pub ran : RunsBy I W events ran_before ran_after
-  pub calm : faulted_after true events ≡ false → EachImage (Recovers I (after I W events)) new
 
--- The store was not opened: the disk failed or memory was wanting, and the opening was taken or not; or what stands there was refused,
+-- The store was not opened: the disk failed or it ran out of memory, and the opening was taken or not; or what is there was refused,
 -- and there is no event.
 abbrev pub IsUnopened : Bool → Outcome → List Event → Type 0
 IsUnopened boot outcome events =
@@ -74,9 +72,10 @@ RequestEvents I W qs Tells outcome events =
 
 -- A command that opens the store, asks these requests, drives the job to its end and tells this of the last world is a run of these events.
 abbrev pub RequestsRun : List Request → (World → List ℕ → Type 0) → Type 0
-RequestsRun qs Tells = (I : Image) → IsGood I → (folder : Folder) → IsImageOfFolder I folder → (W : World) (outcome : Outcome) (ran_before ran_after : Option (List Run))
+RequestsRun qs Tells = (I : Image) → IsGood I → (folder : Folder) → IsImageOfFolder I folder
+    → (W : World) (outcome : Outcome) (ran_before ran_after : Option (List Run))
     (old new : History) → Begins I folder W old → CarriesOut qs Tells outcome ran_before ran_after (Some old) (Some new)
-    → IsRun I W (RequestEvents I W qs Tells outcome) ran_before ran_after old new
+    → IsRun I folder W (RequestEvents I W qs Tells outcome) ran_before ran_after old new
 
 -- So a `set` is, with the tree of the live settings of the last world,
 abbrev pub SetsRun : Type 0
@@ -91,15 +90,18 @@ AppliesRun = RequestsRun apply_requests IsJobLine
 -- The opening, and what is served from the opened world on, with the bytes of each connection; or the store was not opened, and no connection accepted.
 abbrev pub ServeEvents : Image → World → Bool → Option ℕ → Option (List Exchange) → Option (List Exchange) → Outcome → List Event → Type 0
 ServeEvents I W boot slice x x' outcome events =
-    ((fine : Bool) × (rounds : List Round) × (later : List Event) × (events ≡ Opened boot Succeeded ∷ later) × AreServed I slice boot fine false (opened I W boot) rounds later
+    ((fine : Bool) × (rounds : List Round) × (later : List Event) × (events ≡ Opened boot Succeeded ∷ later)
+    × AreServed I slice boot fine false (opened I W boot) rounds later
     × Moves x x' (AreExchanged rounds) × (outcome ≡ served fine))
     ⊎ (IsUnopened boot outcome events × (x' ≡ x))
 
 -- A `serve` is a run of these events.
 abbrev pub ServesRun : Type 0
-ServesRun = (I : Image) → IsGood I → (folder : Folder) → IsImageOfFolder I folder → (W : World) (boot : Bool) (slice : Option ℕ) (x x' : Option (List Exchange)) (outcome : Outcome)
+ServesRun = (I : Image) → IsGood I → (folder : Folder) → IsImageOfFolder I folder → (W : World) (boot : Bool) (slice : Option ℕ) (x x' : Option (List Exchange))
+    (outcome : Outcome)
     (ran_before ran_after : Option (List Run)) (old new : History) → Begins I folder W old
-    → IsServed boot slice x x' ran_before ran_after outcome (Some old) (Some new) → IsRun I W (ServeEvents I W boot slice x x' outcome) ran_before ran_after old new
+    → IsServed boot slice x x' ran_before ran_after outcome (Some old) (Some new) → IsRun I folder W (ServeEvents I W boot slice x x' outcome) ran_before
+    ran_after old new
 
 -- ---- get
 
@@ -110,14 +112,16 @@ GetEvents I W keys outcome events =
 
 -- A `get` is a run of these events.
 abbrev pub GetsRun : Type 0
-GetsRun = (I : Image) → IsGood I → (folder : Folder) → IsImageOfFolder I folder → (W : World) (keys : List (List (List ℕ))) (outcome : Outcome) (r : Option (List Run))
-    (old new : History) → Begins I folder W old → IsGot keys outcome (Some old) (Some new) → IsRun I W (GetEvents I W keys outcome) r r old new
+GetsRun = (I : Image) → IsGood I → (folder : Folder) → IsImageOfFolder I folder → (W : World) (keys : List (List (List ℕ))) (outcome : Outcome)
+    (r : Option (List Run))
+    (old new : History) → Begins I folder W old → IsGot keys outcome (Some old) (Some new) → IsRun I folder W (GetEvents I W keys outcome) r r old new
 
 -- ---- generate and user-data
 
--- The opening, and a commit of the pairs to the opened world; where there are none, the opening alone, and that is told.
+-- The opening, and a commit of the pairs to the opened world; where there are none, the opening alone, and that is reported.
 abbrev pub MadeEvents : Image → World → List ℕ → Made → Outcome → List Event → Type 0
-MadeEvents I W tx (Ok pairs) outcome events = (asked : List Event) × (events ≡ Opened false Succeeded ∷ asked) × ComesTo I (opened I W false) tx pairs outcome asked
+MadeEvents I W tx (Ok pairs) outcome events = (asked : List Event) × (events ≡ Opened false Succeeded ∷ asked)
+    × ComesTo I (opened I W false) tx pairs outcome asked
 MadeEvents I W tx (Err refusal) outcome events = (events ≡ Opened false Succeeded ∷ []) × (outcome ≡ Err refusal)
 
 -- What the generators of the image's folder give to a world, with what was asked before and after: they can't be read; or those whose
@@ -141,8 +145,10 @@ GenerateEvents I folder W a a' outcome events =
 
 -- A `generate` is a run of these events.
 abbrev pub GeneratesRun : Type 0
-GeneratesRun = (I : Image) → IsGood I → (folder : Folder) → IsImageOfFolder I folder → (W : World) (a a' : Option (List Question)) (outcome : Outcome) (r : Option (List Run))
-    (old new : History) → Begins I folder W old → HasGenerated a a' outcome (Some old) (Some new) → IsRun I W (GenerateEvents I folder W a a' outcome) r r old new
+GeneratesRun = (I : Image) → IsGood I → (folder : Folder) → IsImageOfFolder I folder → (W : World) (a a' : Option (List Question)) (outcome : Outcome)
+    (r : Option (List Run))
+    (old new : History) → Begins I folder W old → HasGenerated a a' outcome (Some old) (Some new)
+    → IsRun I folder W (GenerateEvents I folder W a a' outcome) r r old new
 
 -- The pairs of the file that is at the path once the store is open are committed to the opened world.
 pub record IsProvision (I : Image) (W : World) (path : Names) (outcome : Outcome) (events : List Event) (old : History) : Type 0 where
@@ -160,23 +166,26 @@ ProvisionEvents I W path outcome old events = IsProvision I W path outcome event
 -- A `user-data` is a run of these events.
 abbrev pub ProvisionsRun : Type 0
 ProvisionsRun = (I : Image) → IsGood I → (folder : Folder) → IsImageOfFolder I folder → (W : World) (path : Names) (outcome : Outcome) (r : Option (List Run))
-    (old new : History) → Begins I folder W old → IsProvided path outcome (Some old) (Some new) → IsRun I W (ProvisionEvents I W path outcome old) r r old new
+    (old new : History) → Begins I folder W old → IsProvided path outcome (Some old) (Some new)
+    → IsRun I folder W (ProvisionEvents I W path outcome old) r r old new
 
 -- ---- init and migrate
 
--- An `init` that answers is the event `Began`: the disk has the world after it, which is paid, and so has what a crash at the end leaves; a crash at any moment
--- leaves no store, or what recovers to that world.
+-- An `init` that answers is the event `Began`: the disk is at the world after it, which is paid, and what a crash at the end leaves recovers to it; a
+-- crash at any
+-- moment leaves no store, or what recovers to that world.
 abbrev pub InitsRun : Type 0
-InitsRun = (I : Image) → IsGood I → (W : World) (version : Version) (line : List ℕ) (old new : History) → IsBare W old → IsBegun version (Ok line) (Some old) (Some new)
-    → IsBeginning I (next I W (Began version)) old new × HasBegun I (next I W (Began version)) new
+InitsRun = (I : Image) → IsGood I → (W : World) (version : Version) (line : List ℕ) (old new : History) → IsBare W old
+    → IsBegun version (Ok line) (Some old) (Some new)
+    → IsBeginning I (next I W (Began version)) old new × HasBegun I (bytes_at (tree_of old)) (next I W (Began version)) new
 
 -- What a `migrate` has moved by: the release of the image, and what its mapper kept.
-pub record IsMoveBy (I : Image) (W : World) (to : Version) (old new : History) : Type 0 where
+pub record IsMoveBy (I : Image) (folder : Folder) (W : World) (to : Version) (old new : History) : Type 0 where
   pub release : Release
   pub mapped : List Mapped
-  pub moved : HasMoved I W to release.transitions.items release.migrations.items (Some []) (Some mapped) old new
+  pub moved : HasMoved I folder W to release.transitions.items release.migrations.items (Some []) (Some mapped) old new
 
 -- A `migrate` that answers is one event of the machine, or none where the store was at the version in format 2, crash included.
 abbrev pub MigratesRun : Type 0
-MigratesRun = (I : Image) → IsGood I → (W : World) (to : Version) (a a' : Option (List Question)) (line : List ℕ) (old new : History) → Starts I W old
-    → IsMigrated to a a' (Ok line) (Some old) (Some new) → IsMoveBy I W to old new
+MigratesRun = (I : Image) → IsGood I → (folder : Folder) (W : World) (to : Version) (a a' : Option (List Question)) (line : List ℕ) (old new : History)
+    → DiskAt I folder W W old → IsMigrated to a a' (Ok line) (Some old) (Some new) → IsMoveBy I folder W to old new

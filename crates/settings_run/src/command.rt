@@ -19,7 +19,7 @@ use std::alloc::Global;
 /// Runs one command, from its words to the devices and the output, and answers the exit status.
 ///
 /// The command was carried out, and the run printed what it came to and ended with the status of that; or the output failed, and the
-/// status is 12 and the text was written in part; or memory was wanting, and the status is 1.
+/// status is 12 and the text was written in part; or it ran out of memory, and the status is 1.
 ///
 /// The door is not busy, and has accepted no connection yet; it is not busy afterwards.
 pub fn run<D: Disk, S: Asker, N: Door, O: Sink>(
@@ -33,8 +33,8 @@ pub fn run<D: Disk, S: Asker, N: Door, O: Sink>(
     requires idle { (N.state door.old).busy ≡ false }
     requires unused { (N.state door.old).accepted ≡ 0 }
 
-    // The run came to what the words order, done as they order it on any disk; and where the disk tells, was settled at the start and had a
-    // paid store, or none, that is a run of the map machine.
+    // The run came to what the words order, done as they order it on any disk; and where the disk tells, and was at one world at the start or had
+    // no store, that is a run of the map machine.
     ensures headline { Headline (texts words.now) result
         (devices (D.told disk.old) (N.state door.old) (N.told door.old) (S.asked spawner.old) (S.runs spawner.old))
         (devices (D.told disk.new) (N.state door.new) (N.told door.new) (S.asked spawner.new) (S.runs spawner.new))
@@ -51,7 +51,7 @@ pub fn run<D: Disk, S: Asker, N: Door, O: Sink>(
     ensures shut { ServesNot (texts words.now) → N.told door.new ≡ N.told door.old }
     ensures idle { (N.state door.new).busy ≡ false }
 
-    // No failure is told that did not happen, and, but by `serve`, which tells its clients alone, none is passed over.
+    // No failure is reported that did not happen, and, but by `serve`, which tells its clients alone, none is passed over.
     ensures disk_fault { result ≡ 3 → Rose (D.faults disk.old) (D.faults disk.new) }
     ensures disk_faults { ServesNot (texts words.now) → result ≢ 1 → result ≢ 3 → result ≢ 12 → D.faults disk.new ≡ D.faults disk.old }
     ensures door_fault { result ≡ 4 → Rose (N.faults door.old) (N.faults door.new) }
@@ -59,7 +59,8 @@ pub fn run<D: Disk, S: Asker, N: Door, O: Sink>(
     ensures spawn_faults { ServesNot (texts words.now) → result ≢ 1 → result ≢ 5 → result ≢ 12 → S.faults spawner.new ≡ S.faults spawner.old }
     ensures sink_fault { result ≡ 12 → Rose (O.faults out.old) (O.faults out.new) }
     ensures sink_faults { result ≢ 1 → result ≢ 12 → O.faults out.new ≡ O.faults out.old }
-    ensures memory_line { result ≡ 1 → Moves (O.told out.old) (O.told out.new) (IsSaid (codes "settings: memory\n")) ⊎ Rose (O.faults out.old) (O.faults out.new) }
+    ensures memory_line { result ≡ 1 → Moves (O.told out.old) (O.told out.new) (IsSaid (codes "settings: memory\n"))
+        ⊎ Rose (O.faults out.old) (O.faults out.new) }
 {
     let outcome = carry_out(alloc, words, disk, spawner, door);
     tell(alloc, out, &outcome)

@@ -1,13 +1,13 @@
 //! The runs of commands.
 ghost use Rattle.settings_run.specs.Laws.{InitsRun, ServesRun, SetsRun, GetsRun, AppliesRun, MigratesRun, GeneratesRun, ProvisionsRun};
 
-/// Where the disk is settled, its world is paid, and no job runs, each command that opens the store is a run of the
-/// machine: of the opening, and of its requests and turns. At its end the tree is that of the last world. Each world on the way
-/// is paid. A crash at any moment leaves what recovers to one of them, and a crash at the end what recovers to one after which
-/// nothing is acknowledged. The programs that were run are those of the events. A `generate` and a `user-data` are the opening and the
-/// commit of what generators or a file give to the opened world, where they give it; a `generate` that answers leaves each live value.
-/// An `init` and a `migrate` that answer are one event each, or none where the store is at the version. It does nothing: its clauses are
-/// the law.
+/// Where the disk is at one world, whose job is idle, each command that opens the store is a run of the machine: of the
+/// opening, and of its requests and turns. At its end the tree is that of the last world. On the way each covered file is paid
+/// that was, and after a boot each is. A crash at any moment leaves what recovers to a world on the way, with these files paid, and a
+/// crash at the end what recovers to one after which nothing is acknowledged. The programs that were run are those of the events. Where
+/// no call of the disk has failed, the disk is at the last world alone. A `generate` and a `user-data` are the opening and the commit of
+/// what generators or a file give to the opened world, where they give it; a `generate` that answers leaves each live value. An `init`
+/// and a `migrate` that answer are one event each, or none where the store is at the version. It does nothing: its clauses are the law.
 pub fn laws()
     ensures init { InitsRun }
     ensures serve { ServesRun }

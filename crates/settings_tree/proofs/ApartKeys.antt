@@ -1,5 +1,6 @@
 -- The keys of a map that keeps the prefix rule are apart, and those below a prefix share its segments.
-use Rattle.std.proofs.Common.{arith, ◌≡◌, ℕ, ◌<◌, ◌≤◌, List, [], ◌∷◌, ◌++◌, ◌||◌, Bool, true, false, cond, filter, take, length, length-append, append-nil, slice_index_or, IsSome, IsTrue, refl, sym, ◌∙◌, ap, subst}
+use Rattle.std.proofs.Common.{arith, ◌≡◌, ℕ, ◌<◌, ◌≤◌, List, [], ◌∷◌, ◌++◌, ◌||◌, Bool, true, false}
+use Rattle.std.proofs.Common.{cond, filter, take, length, length-append, append-nil, slice_index_or, IsSome, IsTrue, refl, sym, ◌∙◌, ap, subst}
 use Rattle.std.specs.declared.cmp.Ordering.TheVariants.{Less}
 use Rattle.std.specs.Ordering.{eq_by_cmp}
 use Rattle.std.specs.Cmp.{eq_by_cmp_equiv}
@@ -26,10 +27,12 @@ Key = List (List ℕ)
 
 module _ {X : Type 0} (m : FinMap key_cmp X) where
   -- Each key of some entries of the map has a value in it.
-  some_stand : (p : Key × X → Bool) (es : List (Key × X)) → ((q : Key) → list_any (eq_by_cmp key_cmp q) (keys_of es) ≡ true → IsSome (get m q)) → AllByRecursion (λ k. IsSome (get m k)) (keys_of (filter p es))
+  some_stand : (p : Key × X → Bool) (es : List (Key × X)) → ((q : Key) → list_any (eq_by_cmp key_cmp q) (keys_of es) ≡ true → IsSome (get m q))
+      → AllByRecursion (λ k. IsSome (get m k)) (keys_of (filter p es))
   some_stand p [] h = tt
   some_stand p (e ∷ es) h = by (p e) (some_stand p es (λ q has. h q (or_right (eq_by_cmp key_cmp q e.0) _ has))) where
-    by : (b : Bool) → AllByRecursion (λ k. IsSome (get m k)) (keys_of (filter p es)) → AllByRecursion (λ k. IsSome (get m k)) (keys_of (cond b (e ∷ filter p es) (filter p es)))
+    by : (b : Bool) → AllByRecursion (λ k. IsSome (get m k)) (keys_of (filter p es))
+        → AllByRecursion (λ k. IsSome (get m k)) (keys_of (cond b (e ∷ filter p es) (filter p es)))
     by true rest = (h e.0 (ap (λ b. b || list_any (eq_by_cmp key_cmp e.0) (keys_of es)) ((eq_by_cmp_equiv key_total).refl e.0)), rest)
     by false rest = rest
 
@@ -54,7 +57,8 @@ module _ {X : Type 0} (m : FinMap key_cmp X) where
     some_apart p list is = subst (λ (l : List (Key × X)). AreApart (keys_of l)) (sym is) (record {
       rising = rising;
       no_prefix = λ i j d before within.
-          two_apart _ _ (tested_stand p i d (omega arith)) (tested_stand p j d within) (Less-from_sorted key_cmp (keys_of (filter p (entries m))) i j d rising before within);
+          two_apart _ _ (tested_stand p i d (omega arith)) (tested_stand p j d within)
+          (Less-from_sorted key_cmp (keys_of (filter p (entries m))) i j d rising before within);
     }) where
       rising : IsStrictlySortedBy key_cmp (keys_of (filter p (entries m)))
       rising = some_rise m p _ refl
@@ -85,10 +89,12 @@ share_fewer n prefix keys begin few = record {
 }
 
 -- Those that are not the prefix go on beyond it.
-pub share_all : (prefix : Key) (keys : List Key) → All (λ key. IsTrue (is_prefix prefix key)) keys → All (λ key. key ≡ prefix → ⊥) keys → ShareFirst (length prefix) keys
+pub share_all : (prefix : Key) (keys : List Key) → All (λ key. IsTrue (is_prefix prefix key)) keys → All (λ key. key ≡ prefix → ⊥) keys
+    → ShareFirst (length prefix) keys
 share_all prefix keys begin others = record {
   longer = λ i d within. longer (slice_index_or keys i d) (begin i d within) (others i d within);
-  alike = λ i j d before within. take_begun (length prefix) prefix _ (begin i d (omega arith)) (omega arith) ∙ sym (take_begun (length prefix) prefix _ (begin j d within) (omega arith));
+  alike = λ i j d before within. take_begun (length prefix) prefix _ (begin i d (omega arith)) (omega arith)
+      ∙ sym (take_begun (length prefix) prefix _ (begin j d within) (omega arith));
 } where
   longer : (key : Key) → IsTrue (is_prefix prefix key) → (key ≡ prefix → ⊥) → length prefix < length key
   longer key begins other = let r = prefix_splits prefix key begins in by r.0 r.1 where

@@ -1,4 +1,4 @@
--- The entries below a prefix stand together, from the prefix on.
+-- The entries below a prefix are together, from the prefix on.
 use Rattle.std.proofs.Common.{arith, ◌≡◌, ℕ, List, Option, Some, None, true, false, ◌⊎◌, inl, inr, refl, sym, ◌∙◌, ap, IsSome, IsTrue}
 use Rattle.std.specs.declared.cmp.Ordering.{Ordering}
 use Rattle.std.specs.declared.cmp.Ordering.TheVariants.{Less, Equal, Greater}
@@ -54,18 +54,29 @@ module _ {X : Type 0} (m : FinMap key_cmp X) (p k : List (List ℕ)) (x : X) whe
   first_least next begins = record { stands = next.stands; past = tt; begins = begins; least = λ q past longer has. next.least q (prefix_le p q longer) has }
 
   pub first_none : IsLeastFrom m p k x → is_prefix p k ≡ false → HasNoneBelow m p None
-  first_none next ends = record { none = λ q past longer. missing (get m q) (λ has. both_ways (is_prefix p k) ends (between p k q longer next.from (next.least q (prefix_le p q longer) has))) }
+  first_none next ends = record {
+    none = λ q past longer. missing (get m q)
+        (λ has. both_ways (is_prefix p k) ends (between p k q longer next.from (next.least q (prefix_le p q longer) has)));
+  }
 
   -- Above a key that is not below the prefix.
   pub later_least : (a : List (List ℕ)) → IsLeastAfter m (Some a) k x → is_prefix p k ≡ true → IsLeastBelow m p (Some a) k x
   later_least a next begins = record { stands = next.stands; past = next.past; begins = begins; least = λ q past longer has. next.least q past has }
 
   pub later_none : (a : List (List ℕ)) → IsLeBy key_cmp p a → IsLeastAfter m (Some a) k x → is_prefix p k ≡ false → HasNoneBelow m p (Some a)
-  later_none a low next ends = record { none = λ q past longer. missing (get m q) (λ has. both_ways (is_prefix p k) ends (between p k q longer (not_gt _ (le_lt p a k low next.past)) (next.least q past has))) }
+  later_none a low next ends = record {
+    none = λ q past longer. missing (get m q)
+        (λ has. both_ways (is_prefix p k) ends (between p k q longer (not_gt _ (le_lt p a k low next.past)) (next.least q past has)));
+  }
 
   -- The first below a prefix is past each key below the prefix.
   pub first_past : (a : List (List ℕ)) → key_cmp p a ≡ Greater → IsLeastBelow m p None k x → IsLeastBelow m p (Some a) k x
-  first_past a high first = record { stands = first.stands; past = lt_le a p k (key_total.antisymm a p ∙ ap ordering_reverse high) (prefix_le p k first.begins); begins = first.begins; least = λ q past longer has. first.least q tt longer has }
+  first_past a high first = record {
+    stands = first.stands;
+    past = lt_le a p k (key_total.antisymm a p ∙ ap ordering_reverse high) (prefix_le p k first.begins);
+    begins = first.begins;
+    least = λ q past longer has. first.least q tt longer has;
+  }
 
 module _ {X : Type 0} (m : FinMap key_cmp X) (p : List (List ℕ)) where
   pub none_from_prefix : HasNoneFrom m p → HasNoneBelow m p None

@@ -12,14 +12,16 @@ abbrev Key : Type 0
 Key = List (List ℕ)
 
 module _ (values : Values) (keys : List (List (List ℕ))) where
-  -- Some value stands below each of the keys so far, and of this one too.
-  pub one_more : (i : ℕ) (key k : List (List ℕ)) (value : Scalar) → i < length keys → key ≡ get_or keys i key → All (HasBelow values) (take i keys) → IsLeastBelow values key None k value → All (HasBelow values) (take (i + 1) keys)
+  -- There is some value below each of the keys so far, and of this one too.
+  pub one_more : (i : ℕ) (key k : List (List ℕ)) (value : Scalar) → i < length keys → key ≡ get_or keys i key → All (HasBelow values) (take i keys)
+      → IsLeastBelow values key None k value → All (HasBelow values) (take (i + 1) keys)
   one_more i key k value within read before least =
       subst (All (HasBelow values)) (sym (take_more keys i key within ∙ ap (λ (z : Key). take i keys ++ z ∷ []) (sym read)))
       (All-push (HasBelow values) (take i keys) key before (record { key = k; begins = least.begins; there = ap is_some least.stands }))
 
-  -- None stands below this one.
-  pub first : (i : ℕ) (key : List (List ℕ)) → i < length keys → key ≡ get_or keys i key → All (HasBelow values) (take i keys) → HasNoneBelow values key None → IsFirstWithout values keys key
+  -- There is none below this one.
+  pub first : (i : ℕ) (key : List (List ℕ)) → i < length keys → key ≡ get_or keys i key → All (HasBelow values) (take i keys) → HasNoneBelow values key None
+      → IsFirstWithout values keys key
   first i key within read before none = record {
     before = take i keys;
     after = drop (suc i) keys;
@@ -28,6 +30,6 @@ module _ (values : Values) (keys : List (List (List ℕ))) where
     none = none;
   }
 
-  -- At the end some value stands below each.
+  -- At the end there is some value below each.
   pub everywhere : (i : ℕ) → length keys ≤ i → All (HasBelow values) (take i keys) → All (HasBelow values) keys
   everywhere i through before = subst (All (HasBelow values)) (take_all i keys through) before

@@ -72,11 +72,13 @@ may_laid h es k may unnamed = record { stands = subst IsSome (sym (value_unnamed
 weak_all : (h : Held) (es : List Entry) → IsContent h.live → NamesWeak h es → TellsWeak h es → All (MayBeWeak (laid h es).live.values) (laid h es).live.weak
 weak_all h es content names tells = by (weakness h es) where
   by : Weakness h es → All (MayBeWeak (laid h es).live.values) (laid h es).live.weak
-  by (Stays unnamed is) = subst (All (MayBeWeak (laid h es).live.values)) (sym is) (λ i d low. may_laid h es (slice_index_or h.live.weak i d) (content.weak i d low) (tells.told unnamed i d low))
+  by (Stays unnamed is) = subst (All (MayBeWeak (laid h es).live.values)) (sym is)
+      (λ i d low. may_laid h es (slice_index_or h.live.weak i d) (content.weak i d low) (tells.told unnamed i d low))
   by (Given w has is) = subst (All (MayBeWeak (laid h es).live.values)) (sym is) (names.may w has)
 
 -- A change that may be laid keeps the rules of the content and of the pending maps.
-content_laid : (h : Held) (es : List Entry) → IsContent h.live → IsPending h.pending → IsTrue (list_all has_bare_name es) → KeepsPrefixRule (laid h es) → NamesWeak h es → TellsWeak h es → IsContent (laid h es).live
+content_laid : (h : Held) (es : List Entry) → IsContent h.live → IsPending h.pending → IsTrue (list_all has_bare_name es) → KeepsPrefixRule (laid h es)
+    → NamesWeak h es → TellsWeak h es → IsContent (laid h es).live
 content_laid h es content pending bare rule names tells = record {
   rule = rule.live;
   full = let all : IsFullHeld (laid h es) = full_all h es (held_full h content pending) in all.metadata;
@@ -91,7 +93,8 @@ pending_laid h es content pending rule = record {
 }
 
 -- What laying the entries in the parts g of h leaves, whether it finds memory or not.
-module _ {T E : Type 0} (r : Result T E) (h g n : Held) (es fs : List Entry) (parts : g ≡ h) (entries : fs ≡ es) (ok : OnOk r (n ≡ laid g fs)) (err : OnErr r (n ≡ g)) (content : IsContent h.live) (pending : IsPending h.pending) (rule : KeepsPrefixRule (laid h es)) where
+module _ {T E : Type 0} (r : Result T E) (h g n : Held) (es fs : List Entry) (parts : g ≡ h) (entries : fs ≡ es) (ok : OnOk r (n ≡ laid g fs))
+    (err : OnErr r (n ≡ g)) (content : IsContent h.live) (pending : IsPending h.pending) (rule : KeepsPrefixRule (laid h es)) where
   laid_same : laid g fs ≡ laid h es
   laid_same = ap (λ (x : Held). laid x fs) parts ∙ ap (laid h) entries
 

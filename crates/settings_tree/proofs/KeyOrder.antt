@@ -21,7 +21,11 @@ second_of false b e = grind arith
 
 -- The first segments are one.
 heads : (p k : List ℕ) (ps ks : List (List ℕ)) → IsTrue (is_prefix (p ∷ ps) (k ∷ ks)) → (p ≡ k) × IsTrue (is_prefix ps ks)
-heads p k ps ks is = (bytes_cmp-IsAntisymmetric p k (tied_by' (bytes_cmp p k) (first_of (eq_by_cmp bytes_cmp p k) _ is)), second_of (eq_by_cmp bytes_cmp p k) _ is)
+heads p k ps ks is = (
+  bytes_cmp-IsAntisymmetric p k (tied_by' (bytes_cmp p k) (first_of (eq_by_cmp bytes_cmp p k) _ is)),
+  second_of (eq_by_cmp bytes_cmp p k) _
+      is,
+)
 
 no_more : (p : List ℕ) (ps : List (List ℕ)) → IsTrue (is_prefix (p ∷ ps) []) → ⊥
 no_more p ps is = grind arith
@@ -29,7 +33,8 @@ no_more p ps is = grind arith
 with_head : (p x : List ℕ) (ps xs : List (List ℕ)) → bytes_cmp p x ≡ Equal → IsTrue (is_prefix ps xs) → IsTrue (is_prefix (p ∷ ps) (x ∷ xs))
 with_head p x ps xs same is = ap (λ r. is_eq r && is_prefix ps xs) same ∙ is
 
-between_heads : (r : Ordering) (p x : List ℕ) (ps xs ks : List (List ℕ)) → bytes_cmp p x ≡ r → is_gt (ordering_then r (key_cmp ps xs)) ≡ false → is_gt (ordering_then (ordering_reverse r) (key_cmp xs ks)) ≡ false
+between_heads : (r : Ordering) (p x : List ℕ) (ps xs ks : List (List ℕ)) → bytes_cmp p x ≡ r → is_gt (ordering_then r (key_cmp ps xs)) ≡ false
+    → is_gt (ordering_then (ordering_reverse r) (key_cmp xs ks)) ≡ false
     → ((is_gt (key_cmp ps xs) ≡ false) → (is_gt (key_cmp xs ks) ≡ false) → IsTrue (is_prefix ps xs)) → IsTrue (is_prefix (p ∷ ps) (x ∷ xs))
 between_heads Less p x ps xs ks is low high rest = absurd (grind arith)
 between_heads Equal p x ps xs ks is low high rest = with_head p x ps xs is (rest low high)
@@ -43,14 +48,16 @@ between (p ∷ ps) (x ∷ xs) [] is low high = absurd (no_more p ps is)
 between (p ∷ ps) (x ∷ xs) (k ∷ ks) is low high =
     let parts : (p ≡ k) × IsTrue (is_prefix ps ks) = heads p k ps ks is in
     between_heads (bytes_cmp p x) p x ps xs ks refl low
-    (subst (λ r. is_gt (ordering_then r (key_cmp xs ks)) ≡ false) (bytes_total.antisymm x p) (subst (λ c. is_gt (ordering_then (bytes_cmp x c) (key_cmp xs ks)) ≡ false) (sym parts.0) high))
+    (subst (λ r. is_gt (ordering_then r (key_cmp xs ks)) ≡ false) (bytes_total.antisymm x p)
+    (subst (λ c. is_gt (ordering_then (bytes_cmp x c) (key_cmp xs ks)) ≡ false) (sym parts.0) high))
     (λ l h. between ps xs ks parts.1 l h)
 
-both_heads : (p k : List ℕ) (ps ks : List (List ℕ)) → IsTrue (is_prefix (p ∷ ps) (k ∷ ks)) → (ps ≡ ks) ⊎ (key_cmp ps ks ≡ Less) → (p ∷ ps ≡ k ∷ ks) ⊎ (key_cmp (p ∷ ps) (k ∷ ks) ≡ Less)
+both_heads : (p k : List ℕ) (ps ks : List (List ℕ)) → IsTrue (is_prefix (p ∷ ps) (k ∷ ks)) → (ps ≡ ks) ⊎ (key_cmp ps ks ≡ Less)
+    → (p ∷ ps ≡ k ∷ ks) ⊎ (key_cmp (p ∷ ps) (k ∷ ks) ≡ Less)
 both_heads p k ps ks is (inl e) = inl (ap (λ (h : List ℕ). h ∷ ps) ((heads p k ps ks is).0) ∙ ap (λ (t : List (List ℕ)). k ∷ t) e)
 both_heads p k ps ks is (inr l) = inr (ap (λ r. ordering_then r (key_cmp ps ks)) (tied_by' (bytes_cmp p k) (first_of (eq_by_cmp bytes_cmp p k) _ is)) ∙ l)
 
--- A key that another begins with is that one, or stands below it.
+-- A key that another begins with is that one, or comes before it.
 pub prefix_order : (p k : List (List ℕ)) → IsTrue (is_prefix p k) → (p ≡ k) ⊎ (key_cmp p k ≡ Less)
 prefix_order [] [] is = inl refl
 prefix_order [] (k ∷ ks) is = inr refl

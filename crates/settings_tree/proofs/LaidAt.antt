@@ -1,5 +1,6 @@
--- What stands where after a change is laid: laws for the crates above.
-use Rattle.std.proofs.Common.{arith, ◌≡◌, ◌<◌, ◌++◌, ◌&&◌, ℕ, zero, suc, List, [], ◌∷◌, length, slice_index_or, None, Bool, true, false, cond, not, IsTrue, refl, ◌∙◌, ap, subst}
+-- What is where after a change is laid: laws for the crates above.
+use Rattle.std.proofs.Common.{arith, ◌≡◌, ◌<◌, ◌++◌, ◌&&◌, ℕ, zero, suc, List, [], ◌∷◌, length}
+use Rattle.std.proofs.Common.{slice_index_or, None, Bool, true, false, cond, not, IsTrue, refl, ◌∙◌, ap, subst}
 use Rattle.std.specs.Prelude.{Contains}
 use Rattle.std.specs.FinMap.{get}
 use Rattle.std.proofs.lemmas.Bool.{and_parts, not-true}
@@ -26,17 +27,20 @@ module _ {A : Type 0} (see : Held → A) (p : Place) (other : (h : Held) (e : En
       let both = and_parts (not (is_same p (place e))) (is_unnamed p es) unnamed in
       unnamed_stays (laid_one h e) es both.1 ∙ other h e both.0
 
-  at_index : (e : Entry) (a : A) → place e ≡ p → ((h : Held) → see (laid_one h e) ≡ a) → (h : Held) (es : List Entry) (i : ℕ) → IsTrue (is_once es) → i < length es → slice_index_or es i e ≡ e → see (laid h es) ≡ a
+  at_index : (e : Entry) (a : A) → place e ≡ p → ((h : Held) → see (laid_one h e) ≡ a) → (h : Held) (es : List Entry) (i : ℕ) → IsTrue (is_once es)
+      → i < length es → slice_index_or es i e ≡ e → see (laid h es) ≡ a
   at_index e a names gives h [] i once low at = absurd (omega arith)
   at_index e a names gives h (f ∷ es) zero once low at =
       let both = and_parts (is_unnamed (place f) es) (is_once es) once in
-      unnamed_stays (laid_one h f) es (subst (λ (q : Place). IsTrue (is_unnamed q es)) (ap place at ∙ names) both.0) ∙ ap (λ (g : Entry). see (laid_one h g)) at ∙ gives h
+      unnamed_stays (laid_one h f) es (subst (λ (q : Place). IsTrue (is_unnamed q es)) (ap place at ∙ names) both.0) ∙ ap (λ (g : Entry). see (laid_one h g)) at
+      ∙ gives h
   at_index e a names gives h (f ∷ es) (suc i) once low at =
       let both = and_parts (is_unnamed (place f) es) (is_once es) once in
       at_index e a names gives (laid_one h f) es i both.1 (omega arith) at
 
   -- A place has what its entry gives it.
-  named_changes : (e : Entry) (a : A) → place e ≡ p → ((h : Held) → see (laid_one h e) ≡ a) → (h : Held) (es : List Entry) → IsTrue (is_once es) → Contains es e → see (laid h es) ≡ a
+  named_changes : (e : Entry) (a : A) → place e ≡ p → ((h : Held) → see (laid_one h e) ≡ a) → (h : Held) (es : List Entry) → IsTrue (is_once es) → Contains es e
+      → see (laid h es) ≡ a
   named_changes e a names gives h es once has = at_index e a names gives h es has.0 once has.1 has.2
 
 live_other : (k : List (List ℕ)) (h : Held) (e : Entry) → IsTrue (not (is_same (Live k) (place e))) → get (laid_one h e).live.values k ≡ get h.live.values k
@@ -55,7 +59,8 @@ pub value_unnamed : (h : Held) (es : List Entry) (k : List (List ℕ)) → IsTru
 value_unnamed h es k = unnamed_stays (λ h. get h.live.values k) (Live k) (live_other k) h es
 
 pub value_gone : (h : Held) (es : List Entry) (k : List (List ℕ)) → IsTrue (is_once es) → Contains es (LiveGone k) → get (laid h es).live.values k ≡ None
-value_gone h es k = named_changes (λ h. get h.live.values k) (Live k) (live_other k) (LiveGone k) None refl (λ h. get-remove_same key_total h.live.values k) h es
+value_gone h es k = named_changes (λ h. get h.live.values k) (Live k) (live_other k) (LiveGone k) None refl (λ h. get-remove_same key_total h.live.values k) h
+    es
 
 kept : {A : Type 0} (a b : Bool) (x y : A) → IsTrue (not (a && b)) → cond a (cond b y x) x ≡ x
 kept true true x y apart = absurd (grind arith)

@@ -73,7 +73,8 @@ values_store = record {
 }
 
 -- The metadata is a store by key and name.
-pub metadata_store : IsStore {M = Metadata} {P = Key × List ℕ} IsFull (λ p q. eq_by_cmp key_cmp p.0 q.0 && eq_by_cmp bytes_cmp p.1 q.1) (λ m p. value_at m p.0 p.1) (λ m p v. with_value m p.0 p.1 v) (λ m p. without_value m p.0 p.1)
+pub metadata_store : IsStore {M = Metadata} {P = Key × List ℕ} IsFull (λ p q. eq_by_cmp key_cmp p.0 q.0 && eq_by_cmp bytes_cmp p.1 q.1)
+    (λ m p. value_at m p.0 p.1) (λ m p v. with_value m p.0 p.1 v) (λ m p. without_value m p.0 p.1)
 metadata_store = record {
   itself = λ p. and_from _ _ ((eq_by_cmp_equiv key_total).refl p.0) ((eq_by_cmp_equiv bytes_total).refl p.1);
   one = λ p q e. pair (same_key p.0 q.0 ((and_parts (eq_by_cmp key_cmp p.0 q.0) _ e).0)) (same_name p.1 q.1 ((and_parts (eq_by_cmp key_cmp p.0 q.0) _ e).1));
@@ -85,10 +86,12 @@ metadata_store = record {
 }
 
 -- The pending maps are a store by transaction and key.
-pub pending_store : IsStore {M = Pendings} {P = List ℕ × Key} IsFull (λ p q. eq_by_cmp bytes_cmp p.0 q.0 && eq_by_cmp key_cmp p.1 q.1) (λ m p. value_at m p.0 p.1) (λ m p v. with_value m p.0 p.1 v) (λ m p. without_value m p.0 p.1)
+pub pending_store : IsStore {M = Pendings} {P = List ℕ × Key} IsFull (λ p q. eq_by_cmp bytes_cmp p.0 q.0 && eq_by_cmp key_cmp p.1 q.1)
+    (λ m p. value_at m p.0 p.1) (λ m p v. with_value m p.0 p.1 v) (λ m p. without_value m p.0 p.1)
 pending_store = record {
   itself = λ p. and_from _ _ ((eq_by_cmp_equiv bytes_total).refl p.0) ((eq_by_cmp_equiv key_total).refl p.1);
-  one = λ p q e. pair (same_name p.0 q.0 ((and_parts (eq_by_cmp bytes_cmp p.0 q.0) _ e).0)) (same_key p.1 q.1 ((and_parts (eq_by_cmp bytes_cmp p.0 q.0) _ e).1));
+  one = λ p q e. pair (same_name p.0 q.0 ((and_parts (eq_by_cmp bytes_cmp p.0 q.0) _ e).0))
+      (same_key p.1 q.1 ((and_parts (eq_by_cmp bytes_cmp p.0 q.0) _ e).1));
   put_at = λ m p q v. value_at-with bytes_total key_total m p.0 q.0 p.1 q.1 v ∙ both_cond (eq_by_cmp bytes_cmp q.0 p.0) _ _ _;
   take_at = λ m p q. value_at-without bytes_total key_total m p.0 q.0 p.1 q.1 ∙ both_cond (eq_by_cmp bytes_cmp q.0 p.0) _ _ _;
   put_good = λ m p v good. full_with bytes_total key_total m p.0 p.1 v good;
@@ -131,7 +134,9 @@ pending-laid h (ImageSet i) = refl
 pending-laid h (WeakIs w) = refl
 
 -- What an entry's room makes of each store.
-room_cond : (h : Held) (o : Option Scalar) (k : Key) → (cond (not (is_some o)) (record h { live = record h.live { values = insert h.live.values k (Truth false) } }) h).live.values ≡ cond (is_some o) h.live.values (insert h.live.values k (Truth false))
+room_cond : (h : Held) (o : Option Scalar) (k : Key) → (cond (not (is_some o))
+    (record h { live = record h.live { values = insert h.live.values k (Truth false) } }) h).live.values ≡ cond (is_some o) h.live.values
+    (insert h.live.values k (Truth false))
 room_cond h None k = refl
 room_cond h (Some x) k = refl
 
@@ -152,7 +157,9 @@ values-roomed h (OwedSet o) = refl
 values-roomed h (ImageSet i) = refl
 values-roomed h (WeakIs w) = refl
 
-meta_cond : (h : Held) (o : Option Scalar) (k : Key) (n : List ℕ) → (cond (not (is_some o)) (record h { live = record h.live { metadata = with_value h.live.metadata k n (Truth false) } }) h).live.metadata ≡ cond (is_some o) h.live.metadata (with_value h.live.metadata k n (Truth false))
+meta_cond : (h : Held) (o : Option Scalar) (k : Key) (n : List ℕ) → (cond (not (is_some o))
+    (record h { live = record h.live { metadata = with_value h.live.metadata k n (Truth false) } }) h).live.metadata ≡ cond (is_some o) h.live.metadata
+    (with_value h.live.metadata k n (Truth false))
 meta_cond h None k n = refl
 meta_cond h (Some x) k n = refl
 
@@ -173,7 +180,8 @@ metadata-roomed h (OwedSet o) = refl
 metadata-roomed h (ImageSet i) = refl
 metadata-roomed h (WeakIs w) = refl
 
-pend_cond : (h : Held) (o : Option Pending) (t : List ℕ) (k : Key) → (cond (not (is_some o)) (record h { pending = with_value h.pending t k Gone }) h).pending ≡ cond (is_some o) h.pending (with_value h.pending t k Gone)
+pend_cond : (h : Held) (o : Option Pending) (t : List ℕ) (k : Key) → (cond (not (is_some o)) (record h { pending = with_value h.pending t k Gone }) h).pending ≡
+    cond (is_some o) h.pending (with_value h.pending t k Gone)
 pend_cond h None t k = refl
 pend_cond h (Some x) t k = refl
 
@@ -238,7 +246,13 @@ rest-trans f g h a b = record { weak = a.weak ∙ b.weak; owed = a.owed ∙ b.ow
 
 -- What has the same parts is the same.
 pub same_held : (g h : Held) → g.live.values ≡ h.live.values → g.live.metadata ≡ h.live.metadata → g.pending ≡ h.pending → SameRest g h → g ≡ h
-same_held g h values metadata pending rest = λ i. record { live = record { values = values i; metadata = metadata i; weak = rest.weak i }; pending = pending i; owed = rest.owed i; image = rest.image i }
+same_held g h values metadata pending rest = λ i. record {
+  live = record { values = values i; metadata = metadata i; weak = rest.weak i };
+  pending =
+      pending i;
+  owed = rest.owed i;
+  image = rest.image i;
+}
 
 -- An entry and a room keep each map full.
 pub full_laid : (h : Held) (e : Entry) → IsFullHeld h → IsFullHeld (laid_one h e)

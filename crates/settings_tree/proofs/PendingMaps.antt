@@ -25,7 +25,8 @@ pub seen_pending : (m : FinMap bytes_cmp (FinMap key_cmp Pending)) → m ≡ emp
 seen_pending m none = rw none none_pending
 
 -- A key that fits its transaction may be put there.
-pub with_keeps : (m : FinMap bytes_cmp (FinMap key_cmp Pending)) (tx : List ℕ) (k : List (List ℕ)) (x : Pending) → IsPending m → Fits (inner m tx) k → IsPending (with_value m tx k x)
+pub with_keeps : (m : FinMap bytes_cmp (FinMap key_cmp Pending)) (tx : List ℕ) (k : List (List ℕ)) (x : Pending) → IsPending m → Fits (inner m tx) k
+    → IsPending (with_value m tx k x)
 with_keeps m tx k x pending fits = record {
   full = full_with bytes_total key_total m tx k x pending.full;
   rule = λ u. subst IsPrefixFree (sym (inner-with bytes_total m tx u k x)) (by u (eq_by_cmp bytes_cmp u tx));
@@ -47,10 +48,12 @@ without_keeps m tx k pending = record {
 -- The transactions that are seen as v.
 module _ (m v : FinMap bytes_cmp (FinMap key_cmp Pending)) (seen : m ≡ v) (pending : IsPending m) where
   -- A put keeps the rules, whether it finds memory or not.
-  pub put_pending : {T E : Type 0} (r : Result T E) (tx : List ℕ) (k : List (List ℕ)) (x : Pending) (now : FinMap bytes_cmp (FinMap key_cmp Pending)) → Fits (inner v tx) k
+  pub put_pending : {T E : Type 0} (r : Result T E) (tx : List ℕ) (k : List (List ℕ)) (x : Pending) (now : FinMap bytes_cmp (FinMap key_cmp Pending))
+      → Fits (inner v tx) k
       → OnOk r (now ≡ with_value m tx k x) → OnErr r (now ≡ m) → IsPending now
   put_pending (Err e) tx k x now fits put kept = subst IsPending (sym kept) pending
-  put_pending (Ok u) tx k x now fits put kept = subst IsPending (sym put) (with_keeps m tx k x pending (subst (λ (w : FinMap bytes_cmp (FinMap key_cmp Pending)). Fits (inner w tx) k) (sym seen) fits))
+  put_pending (Ok u) tx k x now fits put kept = subst IsPending (sym put)
+      (with_keeps m tx k x pending (subst (λ (w : FinMap bytes_cmp (FinMap key_cmp Pending)). Fits (inner w tx) k) (sym seen) fits))
 
   -- A removal keeps the rules.
   pub take_pending : (tx : List ℕ) (k : List (List ℕ)) (now : FinMap bytes_cmp (FinMap key_cmp Pending)) → now ≡ without_value m tx k → IsPending now

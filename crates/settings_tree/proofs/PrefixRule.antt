@@ -1,5 +1,6 @@
 -- The prefix rule, and the test whether a key fits.
-use Rattle.std.proofs.Common.{arith, ◌≡◌, ◌≢◌, ℕ, List, Option, Some, None, Bool, true, false, cond, ◌⊎◌, inl, inr, refl, sym, ◌∙◌, ap, subst, IsSome, IsTrue, is_some}
+use Rattle.std.proofs.Common.{arith, ◌≡◌, ◌≢◌, ℕ, List, Option, Some, None, Bool, true, false}
+use Rattle.std.proofs.Common.{cond, ◌⊎◌, inl, inr, refl, sym, ◌∙◌, ap, subst, IsSome, IsTrue, is_some}
 use Rattle.std.specs.declared.cmp.Ordering.{Ordering}
 use Rattle.std.specs.declared.cmp.Ordering.TheVariants.{Less, Equal, Greater}
 use Rattle.std.specs.Ordering.{eq_by_cmp, is_gt}
@@ -27,7 +28,9 @@ module _ {X : Type 0} where
 
   -- The empty map keeps the rule.
   pub empty_free : (m : FinMap key_cmp X) → m ≡ empty → IsPrefixFree m
-  empty_free m is = record { alone = λ k q has other begins. absurd (none_there (get m k) (ap (λ (w : FinMap key_cmp X). get w k) is ∙ get-empty key_cmp k) has) }
+  empty_free m is = record {
+    alone = λ k q has other begins. absurd (none_there (get m k) (ap (λ (w : FinMap key_cmp X). get w k) is ∙ get-empty key_cmp k) has);
+  }
 
   put_at : (m : FinMap key_cmp X) (k : List (List ℕ)) (v : X) (p : List (List ℕ)) → IsSome (get (insert m k v) p) → (p ≡ k) ⊎ IsSome (get m p)
   put_at m k v p has = go (eq_by_cmp key_cmp p k) refl (subst IsSome (get-insert key_total m k v p) has) where
@@ -48,7 +51,7 @@ module _ {X : Type 0} where
   still true o e = absurd (none_there None refl e)
   still false o e = e
 
-  -- What is left after a removal stood there before.
+  -- What is left after a removal was there before.
   pub left_at : (m : FinMap key_cmp X) (k p : List (List ℕ)) → IsSome (get (remove m k) p) → IsSome (get m p)
   left_at m k p has = still (eq_by_cmp key_cmp p k) (get m p) (subst IsSome (get-remove key_total m k p) has)
 
@@ -95,7 +98,13 @@ module _ {X : Type 0} where
 
   -- A key above k that begins with it clashes.
   pub longer_clash : (m : FinMap key_cmp X) (k n : List (List ℕ)) (x : X) → IsLeastAfter m (Some k) n x → is_prefix k n ≡ true → Clashes m k
-  longer_clash m k n x next begins = record { key = n; stands = ap is_some next.stands; overlap = or_left _ _ begins; differs = λ same. unlike k n next.past (sym same) }
+  longer_clash m k n x next begins = record {
+    key = n;
+    stands = ap is_some next.stands;
+    overlap = or_left _ _ begins;
+    differs =
+        λ same. unlike k n next.past (sym same);
+  }
 
   -- A key below k that is its prefix clashes.
   pub shorter_clash : (m : FinMap key_cmp X) (k n : List (List ℕ)) (x : X) → IsLastBefore m k n x → is_prefix n k ≡ true → Clashes m k

@@ -20,7 +20,7 @@ less Less lt = refl
 less Equal lt = absurd (cc lt)
 less Greater lt = absurd (cc lt)
 
--- The entries of a map stand in the order of their keys.
+-- The entries of a map are in the order of their keys.
 pub entries_rise : {K X : Type 0} {R : K → K → Ordering} (m : FinMap R X) → is_sorted R (entries m) ≡ true
 entries_rise m = of_T _ (entries_sorted m)
 
@@ -49,7 +49,7 @@ module _ {K X : Type 0} (R : K → K → Ordering) where
       by true here rest = and_from _ _ here rest
       by false here rest = rest
 
-  -- What a test leaves stands in order.
+  -- What a test leaves is in order.
   pub sorted_some : (p : K × X → Bool) (es : List (K × X)) → is_sorted R es ≡ true → is_sorted R (filter p es) ≡ true
   sorted_some p [] rises = refl
   sorted_some p (e ∷ es) rises =
@@ -61,7 +61,8 @@ module _ {K X : Type 0} (R : K → K → Ordering) where
       by false here rest = rest
 
 -- The keys of some entries of a map rise.
-pub some_rise : {X : Type 0} (m : FinMap key_cmp X) (p : List (List ℕ) × X → Bool) (list : List (List (List ℕ))) → list ≡ map (λ e. e.0) (filter p (entries m)) → IsRising list
+pub some_rise : {X : Type 0} (m : FinMap key_cmp X) (p : List (List ℕ) × X → Bool) (list : List (List (List ℕ))) → list ≡ map (λ e. e.0) (filter p (entries m))
+    → IsRising list
 some_rise {X} m p list is = subst IsRising (sym is) (sorted_keys key_cmp (filter p (entries m)) (sorted_some key_cmp p (entries m) (entries_rise m)))
 
 -- So do all of them.

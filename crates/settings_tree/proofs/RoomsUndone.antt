@@ -1,5 +1,6 @@
 -- Rooms that are taken out again, the newest first, leave what was held.
-use Rattle.std.proofs.Common.{arith, ◌≡◌, ◌<◌, ◌≤◌, ◌++◌, ℕ, zero, suc, List, [], ◌∷◌, length, take, drop, unwrap_or, slice_get, slice_index_or, Option, Some, None, Bool, true, false, cond, not, is_some, refl, sym, ◌∙◌, ap}
+use Rattle.std.proofs.Common.{arith, ◌≡◌, ◌<◌, ◌≤◌, ◌++◌, ℕ, zero, suc, List, [], ◌∷◌, length, take, drop, unwrap_or}
+use Rattle.std.proofs.Common.{slice_get, slice_index_or, Option, Some, None, Bool, true, false, cond, not, is_some, refl, sym, ◌∙◌, ap}
 use Rattle.std.proofs.lemmas.List.{take-append-drop, length-take}
 use Rattle.json_trees.specs.declared.scalar.Scalar.TheVariants.{Bool as Truth}
 use Rattle.json_trees.specs.declared.pending.Pending.TheVariants.{Gone}
@@ -16,8 +17,10 @@ no_value (Some x) e = absurd (grind arith)
 
 -- Closing what was opened.
 back : (h : Held) (e : Entry) → IsFullHeld h → is_fresh h e ≡ true → closed (opened h e) e ≡ h
-back h (LiveSet k v) full is = ap (λ (m : Values). record h { live = record h.live { values = m } }) (taken_back values_store (Truth false) h.live.values k tt (no_value _ is))
-back h (MetaSet k n v) full is = ap (λ (m : Metadata). record h { live = record h.live { metadata = m } }) (taken_back metadata_store (Truth false) h.live.metadata (k, n) full.metadata (no_value _ is))
+back h (LiveSet k v) full is = ap (λ (m : Values). record h { live = record h.live { values = m } })
+    (taken_back values_store (Truth false) h.live.values k tt (no_value _ is))
+back h (MetaSet k n v) full is = ap (λ (m : Metadata). record h { live = record h.live { metadata = m } })
+    (taken_back metadata_store (Truth false) h.live.metadata (k, n) full.metadata (no_value _ is))
 back h (PendSet t k v) full is = ap (λ (m : Pendings). record h { pending = m }) (taken_back pending_store Gone h.pending (t, k) full.pending (no_value _ is))
 back h (LiveGone k) full is = absurd (grind arith)
 back h (MetaGone k n) full is = absurd (grind arith)
@@ -33,7 +36,8 @@ closed-roomed h e full = by (is_fresh h e) refl where
   by false is = refl
 
 -- Closing the newest room first.
-pub all_closed_last : (bs : List Bool) (es : List Entry) (h : Held) (b : Bool) (e : Entry) → slice_get es (length bs) ≡ Some e → all_closed (bs ++ b ∷ []) es h ≡ all_closed bs es (closed_if b h e)
+pub all_closed_last : (bs : List Bool) (es : List Entry) (h : Held) (b : Bool) (e : Entry) → slice_get es (length bs) ≡ Some e
+    → all_closed (bs ++ b ∷ []) es h ≡ all_closed bs es (closed_if b h e)
 all_closed_last [] [] h b e at = absurd (grind arith)
 all_closed_last [] (f ∷ es) h b e at = ap (λ (x : Entry). closed_if b h x) (the_same f e at) where
   the_same : (f e : Entry) → Some f ≡ Some e → f ≡ e
@@ -46,9 +50,11 @@ undone_all h [] fs full = refl
 undone_all h (e ∷ es) fs full = ap (λ (x : Held). closed_if (is_fresh h e) x e) (undone_all (roomed h e) es fs (full_roomed h e full)) ∙ closed-roomed h e full
 
 -- Closing the rooms of the first entries.
-pub undone_by : (h g n : Held) (bs : List Bool) (i : ℕ) (es : List Entry) → IsFullHeld h → bs ≡ freshes h (take i es) → g ≡ all_roomed h (take i es) → n ≡ all_closed bs es g → n ≡ h
+pub undone_by : (h g n : Held) (bs : List Bool) (i : ℕ) (es : List Entry) → IsFullHeld h → bs ≡ freshes h (take i es) → g ≡ all_roomed h (take i es)
+    → n ≡ all_closed bs es g → n ≡ h
 undone_by h g n bs i es full made is at = at ∙ ap (λ (c : List Bool). all_closed c es g) made ∙ ap (λ (x : Held). all_closed (freshes h (take i es)) es x) is
-    ∙ ap (λ (xs : List Entry). all_closed (freshes h (take i es)) xs (all_roomed h (take i es))) (sym (take-append-drop i es)) ∙ undone_all h (take i es) (drop i es) full
+    ∙ ap (λ (xs : List Entry). all_closed (freshes h (take i es)) xs (all_roomed h (take i es))) (sym (take-append-drop i es))
+    ∙ undone_all h (take i es) (drop i es) full
 
 freshes_last : (h : Held) (es : List Entry) (e : Entry) → freshes h (es ++ e ∷ []) ≡ freshes h es ++ is_fresh (all_roomed h es) e ∷ []
 freshes_last h [] e = refl
@@ -59,10 +65,12 @@ roomed_last h [] e = refl
 roomed_last h (f ∷ es) e = roomed_last (roomed h f) es e
 
 -- One room more.
-pub one_more : (h g n : Held) (bs cs : List Bool) (xs ys : List Entry) (e : Entry) → ys ≡ xs ++ e ∷ [] → g ≡ all_roomed h xs → bs ≡ freshes h xs → n ≡ roomed g e → cs ≡ bs ++ is_fresh g e ∷ [] → (n ≡ all_roomed h ys) × (cs ≡ freshes h ys)
+pub one_more : (h g n : Held) (bs cs : List Bool) (xs ys : List Entry) (e : Entry) → ys ≡ xs ++ e ∷ [] → g ≡ all_roomed h xs → bs ≡ freshes h xs
+    → n ≡ roomed g e → cs ≡ bs ++ is_fresh g e ∷ [] → (n ≡ all_roomed h ys) × (cs ≡ freshes h ys)
 one_more h g n bs cs xs ys e next is made at noted = (
   at ∙ ap (λ (x : Held). roomed x e) is ∙ sym (roomed_last h xs e) ∙ ap (all_roomed h) (sym next),
-  noted ∙ ap (λ (b : List Bool). b ++ is_fresh g e ∷ []) made ∙ ap (λ (x : Held). freshes h xs ++ is_fresh x e ∷ []) is ∙ sym (freshes_last h xs e) ∙ ap (freshes h) (sym next),
+  noted ∙ ap (λ (b : List Bool). b ++ is_fresh g e ∷ []) made ∙ ap (λ (x : Held). freshes h xs ++ is_fresh x e ∷ []) is ∙ sym (freshes_last h xs e)
+      ∙ ap (freshes h) (sym next),
 )
 
 length-freshes : (h : Held) (es : List Entry) → length (freshes h es) ≡ length es

@@ -21,7 +21,11 @@ is_below_settings (x ∷ xs) b low is = is ∙ by (bytes_eq x (codes "settings")
   by true is =
       let one : x ≡ codes "settings" = (bytes_eq-Decides x (codes "settings")).0 is in
       sym (ap (eq_by_cmp bytes_cmp (codes "settings")) one ∙ ap is_eq (tied_itself bytes_total (codes "settings")))
-  by false is = sym (false_from_ne_true _ (λ ties. absurd (cc (is, (bytes_eq-Decides x (codes "settings")).1 (sym ((same_bytes (codes "settings") x _ _ refl refl).0 ties))))))
+  by false is = sym (false_from_ne_true _ (λ ties. absurd (cc (
+    is,
+    (bytes_eq-Decides x (codes "settings")).1
+        (sym ((same_bytes (codes "settings") x _ _ refl refl).0 ties)),
+  ))))
 
 -- One key alone rises.
 pub one_rises : (k : List (List ℕ)) (keys : List (List (List ℕ))) → keys ≡ k ∷ [] → IsRising keys

@@ -18,13 +18,14 @@ pub record IsStore {M P V : Type 0} (Good : M → Type 0) (same : P → P → Bo
   pub take_good : (m : M) (p : P) → Good m → Good (take m p)
   pub alike : (m n : M) → Good m → Good n → ((q : P) → at m q ≡ at n q) → m ≡ n
 
-module _ {M P V : Type 0} {Good : M → Type 0} {same : P → P → Bool} {at : M → P → Option V} {put : M → P → V → M} {take : M → P → M} (s : IsStore Good same at put take) (d : V) where
+module _ {M P V : Type 0} {Good : M → Type 0} {same : P → P → Bool} {at : M → P → Option V} {put : M → P → V → M} {take : M → P → M}
+    (s : IsStore Good same at put take) (d : V) where
   abbrev pub written : M → Write P V → M
   written m Keep = m
   written m (Put p v) = put m p v
   written m (Take p) = take m p
 
-  -- With a placeholder where a value is to be put and none stands.
+  -- With a placeholder where a value is to be put and there is none.
   abbrev pub room : M → Write P V → M
   room m Keep = m
   room m (Put p v) = cond (is_some (at m p)) m (put m p d)
@@ -75,12 +76,13 @@ module _ {M P V : Type 0} {Good : M → Type 0} {same : P → P → Bool} {at : 
   twice true x y z = refl
   twice false x y z = refl
 
-  -- A placeholder that was put where nothing stood is taken back.
+  -- A placeholder that was put where nothing was is taken back.
   pub taken_back : (m : M) (p : P) → Good m → at m p ≡ None → take (put m p d) p ≡ m
-  taken_back m p good none = s.alike _ m (s.take_good _ p (s.put_good m p d good)) good (λ q. s.take_at (put m p d) p q ∙ ap (cond (same q p) None) (s.put_at m p q d) ∙ by q (same q p) refl) where
-    by : (q : P) (b : Bool) → same q p ≡ b → cond b None (cond b (Some d) (at m q)) ≡ at m q
-    by q true is = sym (at_same m p q is ∙ none)
-    by q false is = refl
+  taken_back m p good none = s.alike _ m (s.take_good _ p (s.put_good m p d good)) good
+      (λ q. s.take_at (put m p d) p q ∙ ap (cond (same q p) None) (s.put_at m p q d) ∙ by q (same q p) refl) where
+        by : (q : P) (b : Bool) → same q p ≡ b → cond b None (cond b (Some d) (at m q)) ≡ at m q
+        by q true is = sym (at_same m p q is ∙ none)
+        by q false is = refl
 
   -- What is written in its own room is written.
   pub written-room : (m : M) (w : Write P V) → Good m → written (room m w) w ≡ written m w
@@ -130,7 +132,8 @@ module _ {M P V : Type 0} {Good : M → Type 0} {same : P → P → Bool} {at : 
   -- The room that was made is there.
   pub made : (m : M) (w : Write P V) → is_new (room m w) w ≡ false
   made m Keep = refl
-  made m (Put p v) = ap (λ o. not (is_some o)) (at-room m p v p) ∙ full (same p p) (at m p) (at m p) (λ no_same. absurd (both_ways (same p p) no_same (s.itself p)))
+  made m (Put p v) = ap (λ o. not (is_some o)) (at-room m p v p) ∙ full (same p p) (at m p) (at m p)
+      (λ no_same. absurd (both_ways (same p p) no_same (s.itself p)))
   made m (Take p) = refl
 
   -- And stays where another is made.

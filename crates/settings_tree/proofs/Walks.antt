@@ -1,5 +1,6 @@
 -- A walk from entry to entry gives the entries of a map in order.
-use Rattle.std.proofs.Common.{arith, ◌≡◌, ◌&&◌, ◌<◌, ℕ, suc, List, [], ◌∷◌, ◌++◌, length, append_assoc, append-nil, Option, Some, None, Bool, true, false, cond, IsSome, T, filter, refl, sym, ◌∙◌, ap, subst}
+use Rattle.std.proofs.Common.{arith, ◌≡◌, ◌&&◌, ◌<◌, ℕ, suc, List, [], ◌∷◌, ◌++◌, length, append_assoc, append-nil, Option}
+use Rattle.std.proofs.Common.{Some, None, Bool, true, false, cond, IsSome, T, filter, refl, sym, ◌∙◌, ap, subst}
 use Rattle.std.specs.declared.cmp.Ordering.{Ordering}
 use Rattle.std.specs.declared.cmp.Ordering.TheVariants.{Less, Equal, Greater}
 use Rattle.std.specs.Ordering.{eq_by_cmp, is_eq, is_lt, is_gt}
@@ -44,11 +45,13 @@ module _ {K X : Type 0} {R : K → K → Ordering} (o : IsTotalOrder R) (same : 
     above : (z : K) → R k z ≡ Less → q z ≡ p z
     not_above : (z : K) → is_lt (R k z) ≡ false → q z ≡ false
 
-  all_above : (es : List (K × X)) (p q : K → Bool) (k : K) → ((z : K) → R k z ≡ Less → q z ≡ p z) → below_all R k es ≡ true → filter (λ e. p e.0) es ≡ filter (λ e. q e.0) es
+  all_above : (es : List (K × X)) (p q : K → Bool) (k : K) → ((z : K) → R k z ≡ Less → q z ≡ p z) → below_all R k es ≡ true
+      → filter (λ e. p e.0) es ≡ filter (λ e. q e.0) es
   all_above [] p q k agree below = refl
   all_above (e ∷ es) p q k agree below =
       let both = and_parts (is_lt (R k e.0)) (below_all R k es) below in
-      ap (λ b. cond b (e ∷ filter (λ e. p e.0) es) (filter (λ e. p e.0) es)) (sym (agree e.0 (less _ both.0))) ∙ ap (λ (l : List (K × X)). cond (q e.0) (e ∷ l) l) (all_above es p q k agree both.1)
+      ap (λ b. cond b (e ∷ filter (λ e. p e.0) es) (filter (λ e. p e.0) es)) (sym (agree e.0 (less _ both.0)))
+      ∙ ap (λ (l : List (K × X)). cond (q e.0) (e ∷ l) l) (all_above es p q k agree both.1)
 
   none_above : (es : List (K × X)) (k : K) → below_all R k es ≡ true → find R k es ≡ None
   none_above [] k below = refl
@@ -63,7 +66,8 @@ module _ {K X : Type 0} {R : K → K → Ordering} (o : IsTotalOrder R) (same : 
       and_from _ _ (ap is_lt (o.trans k x e.0 l (less _ both.0))) (below_trans k x es l both.1)
 
   -- The first entry that passes p, and those that pass q.
-  first_split : (es : List (K × X)) (p q : K → Bool) (k : K) (x : X) → is_sorted R es ≡ true → find R k es ≡ Some x → Splits es p q k → filter (λ e. p e.0) es ≡ (k, x) ∷ filter (λ e. q e.0) es
+  first_split : (es : List (K × X)) (p q : K → Bool) (k : K) (x : X) → is_sorted R es ≡ true → find R k es ≡ Some x → Splits es p q k
+      → filter (λ e. p e.0) es ≡ (k, x) ∷ filter (λ e. q e.0) es
   first_split [] p q k x rises has splits = absurd (cc has)
   first_split (e ∷ es) p q k x rises has splits = by (R k e.0) refl (first_split es p q k x) where
     sorted : (below_all R e.0 es ≡ true) × (is_sorted R es ≡ true)
@@ -72,14 +76,17 @@ module _ {K X : Type 0} {R : K → K → Ordering} (o : IsTotalOrder R) (same : 
     same_Some : (a b : X) → Some a ≡ Some b → a ≡ b
     same_Some a b e = cc e
 
-    by : (r : Ordering) → R k e.0 ≡ r → (is_sorted R es ≡ true → find R k es ≡ Some x → Splits es p q k → filter (λ e. p e.0) es ≡ (k, x) ∷ filter (λ e. q e.0) es)
+    by : (r : Ordering) → R k e.0 ≡ r → (is_sorted R es ≡ true → find R k es ≡ Some x → Splits es p q k
+        → filter (λ e. p e.0) es ≡ (k, x) ∷ filter (λ e. q e.0) es)
         → filter (λ e. p e.0) (e ∷ es) ≡ (k, x) ∷ filter (λ e. q e.0) (e ∷ es)
     by Less is rest = absurd (cc (has, cond-false _ (Some e.1) (find R k es) (ap is_eq is) ∙ none_above es k (below_trans k e.0 es is sorted.0)))
     by Equal is rest =
         let one : k ≡ e.0 = same k e.0 is in
         let value : x ≡ e.1 = same_Some x e.1 (sym has ∙ cond-true _ (Some e.1) (find R k es) (ap is_eq is)) in
-        cond-true _ _ _ (ap p (sym one) ∙ splits.at) ∙ ap (λ (l : List (K × X)). e ∷ l) (all_above es p q k splits.above (subst (λ (z : K). below_all R z es ≡ true) (sym one) sorted.0))
-        ∙ ap (λ (l : List (K × X)). e ∷ l) (sym (cond-false _ (e ∷ filter (λ e. q e.0) es) _ (splits.not_above e.0 (ap is_lt is)))) ∙ ap (λ (f : K × X). f ∷ filter (λ e. q e.0) (e ∷ es)) (sym (pair one value))
+        cond-true _ _ _ (ap p (sym one) ∙ splits.at) ∙ ap (λ (l : List (K × X)). e ∷ l)
+        (all_above es p q k splits.above (subst (λ (z : K). below_all R z es ≡ true) (sym one) sorted.0))
+        ∙ ap (λ (l : List (K × X)). e ∷ l) (sym (cond-false _ (e ∷ filter (λ e. q e.0) es) _ (splits.not_above e.0 (ap is_lt is))))
+        ∙ ap (λ (f : K × X). f ∷ filter (λ e. q e.0) (e ∷ es)) (sym (pair one value))
       where
         pair : {a b : K} {c d : X} → a ≡ b → c ≡ d → ◌≡◌ {A = K × X} (a, c) (b, d)
         pair {b = b} {c = c} p q = ap (λ (z : K). (z, c)) p ∙ ap (λ (y : X). (b, y)) q
@@ -92,11 +99,21 @@ module _ {K X : Type 0} {R : K → K → Ordering} (o : IsTotalOrder R) (same : 
         there false z has = has
 
         low : (b : Bool) → p e.0 ≡ b → b ≡ false
-        low true passes = absurd (cc (ap is_gt is, splits.least e.0 passes (subst IsSome (sym (cond-true _ (Some e.1) (find R e.0 es) (ap is_eq (tied_itself o e.0)))) refl)))
+        low true passes = absurd (cc (
+          ap is_gt is,
+          splits.least e.0 passes
+              (subst IsSome (sym (cond-true _ (Some e.1) (find R e.0 es) (ap is_eq (tied_itself o e.0)))) refl),
+        ))
         low false passes = refl
 
         tail : Splits es p q k
-        tail = record { at = splits.at; least = λ z passes has. splits.least z passes (there (eq_by_cmp R z e.0) _ has); above = splits.above; not_above = splits.not_above }
+        tail = record {
+          at = splits.at;
+          least = λ z passes has. splits.least z passes (there (eq_by_cmp R z e.0) _ has);
+          above = splits.above;
+          not_above =
+              splits.not_above;
+        }
 
   -- Where nothing passes, nothing is left.
   none_pass : (es : List (K × X)) (p : K → Bool) → ((z : K) → p z ≡ true → find R z es ≡ None) → filter (λ e. p e.0) es ≡ []
@@ -110,7 +127,9 @@ module _ {K X : Type 0} {R : K → K → Ordering} (o : IsTotalOrder R) (same : 
     later z true is = absurd (cc is)
     later z false is = is
 
-  split_entries : (m : FinMap R X) (p q : K → Bool) (k : K) (x : X) → get m k ≡ Some x → p k ≡ true → ((z : K) → p z ≡ true → IsSome (get m z) → is_gt (R k z) ≡ false) → ((z : K) → R k z ≡ Less → q z ≡ p z) → ((z : K) → is_lt (R k z) ≡ false → q z ≡ false)
+  split_entries : (m : FinMap R X) (p q : K → Bool) (k : K) (x : X) → get m k ≡ Some x → p k ≡ true
+      → ((z : K) → p z ≡ true → IsSome (get m z) → is_gt (R k z) ≡ false) → ((z : K) → R k z ≡ Less → q z ≡ p z)
+      → ((z : K) → is_lt (R k z) ≡ false → q z ≡ false)
       → filter (λ e. p e.0) (entries m) ≡ (k, x) ∷ filter (λ e. q e.0) (entries m)
   split_entries m p q k x has at least above not_above = first_split (entries m) p q k x (of_T _ (entries_sorted m)) (sym (get-entries m k) ∙ has)
       (record { at = at; least = λ z passes some. least z passes (subst IsSome (sym (get-entries m z)) some); above = above; not_above = not_above })
@@ -125,15 +144,18 @@ module _ {K X : Type 0} {R : K → K → Ordering} (o : IsTotalOrder R) (same : 
   -- Each step of a walk gives the next entry.
   pub walk_next : (m : FinMap R X) (after : Option K) (k : K) (x : X) → IsLeastAfter m after k x → entries_past m after ≡ (k, x) ∷ entries_past m (Some k)
   walk_next m after k x next = split_entries m (is_past R after) (is_past R (Some k)) k x next.stands (past_test R after k next.past)
-      (λ z past has. next.least z (past_fact R after z past) has) (λ z l. ap is_lt l ∙ sym (past_test R after z (past_trans o after k z next.past l))) (λ z not. not)
+      (λ z past has. next.least z (past_fact R after z past) has) (λ z l. ap is_lt l ∙ sym (past_test R after z (past_trans o after k z next.past l)))
+      (λ z not. not)
 
   -- A walk ends with no entry left.
   pub walk_end : (m : FinMap R X) (after : Option K) → HasNoneAfter m after → entries_past m after ≡ []
   walk_end m after end = none_pass (entries m) (is_past R after) (λ z past. sym (get-entries m z) ∙ end.none z (past_fact R after z past))
 
   -- So the number of entries that are left falls.
-  pub walk_falls : (m : FinMap R X) (after : Option K) (k : K) (x : X) → IsLeastAfter m after k x → length (entries_past m (Some k)) < length (entries_past m after)
-  walk_falls m after k x next = let one : length (entries_past m after) ≡ suc (length (entries_past m (Some k))) = ap length (walk_next m after k x next) in omega arith
+  pub walk_falls : (m : FinMap R X) (after : Option K) (k : K) (x : X) → IsLeastAfter m after k x
+      → length (entries_past m (Some k)) < length (entries_past m after)
+  walk_falls m after k x next = let one : length (entries_past m after) ≡ suc (length (entries_past m (Some k))) = ap length (walk_next m after k x next) in
+      omega arith
 
 module _ {X : Type 0} where
   -- A walk below a prefix begins with all entries whose key begins with it.
@@ -141,30 +163,38 @@ module _ {X : Type 0} where
   walk_below_start m prefix = all (entries m) where
     all : (es : List (List (List ℕ) × X)) → filter (λ e. is_prefix prefix e.0 && true) es ≡ filter (λ e. is_prefix prefix e.0) es
     all [] = refl
-    all (e ∷ es) = ap (λ (l : List (List (List ℕ) × X)). cond (is_prefix prefix e.0 && true) (e ∷ l) l) (all es) ∙ ap (λ b. cond b (e ∷ filter (λ e. is_prefix prefix e.0) es) (filter (λ e. is_prefix prefix e.0) es)) (and-true (is_prefix prefix e.0))
+    all (e ∷ es) = ap (λ (l : List (List (List ℕ) × X)). cond (is_prefix prefix e.0 && true) (e ∷ l) l) (all es)
+        ∙ ap (λ b. cond b (e ∷ filter (λ e. is_prefix prefix e.0) es) (filter (λ e. is_prefix prefix e.0) es)) (and-true (is_prefix prefix e.0))
 
   -- Each step gives the next of them.
-  pub walk_below_next : (m : FinMap key_cmp X) (prefix : List (List ℕ)) (after : Option (List (List ℕ))) (k : List (List ℕ)) (x : X) → IsLeastBelow m prefix after k x
+  pub walk_below_next : (m : FinMap key_cmp X) (prefix : List (List ℕ)) (after : Option (List (List ℕ))) (k : List (List ℕ)) (x : X)
+      → IsLeastBelow m prefix after k x
       → entries_below_past m prefix after ≡ (k, x) ∷ entries_below_past m prefix (Some k)
-  walk_below_next m prefix after k x next = split_entries key_total key_cmp-IsAntisymmetric m (λ z. is_prefix prefix z && is_past key_cmp after z) (λ z. is_prefix prefix z && is_past key_cmp (Some k) z) k x next.stands
+  walk_below_next m prefix after k x next = split_entries key_total key_cmp-IsAntisymmetric m (λ z. is_prefix prefix z && is_past key_cmp after z)
+      (λ z. is_prefix prefix z && is_past key_cmp (Some k) z) k x next.stands
       (and_from _ _ next.begins (past_test key_cmp after k next.past))
       (λ z passes has. next.least z (past_fact key_cmp after z ((and_parts (is_prefix prefix z) _ passes).1)) ((and_parts (is_prefix prefix z) _ passes).0) has)
       (λ z l. ap (λ b. is_prefix prefix z && b) (ap is_lt l ∙ sym (past_test key_cmp after z (past_trans key_total after k z next.past l))))
       (λ z not. and_right _ _ not)
 
   -- And the walk ends with none left.
-  pub walk_below_end : (m : FinMap key_cmp X) (prefix : List (List ℕ)) (after : Option (List (List ℕ))) → HasNoneBelow m prefix after → entries_below_past m prefix after ≡ []
+  pub walk_below_end : (m : FinMap key_cmp X) (prefix : List (List ℕ)) (after : Option (List (List ℕ))) → HasNoneBelow m prefix after
+      → entries_below_past m prefix after ≡ []
   walk_below_end m prefix after end = none_pass key_total key_cmp-IsAntisymmetric (entries m) (λ z. is_prefix prefix z && is_past key_cmp after z)
-      (λ z passes. sym (get-entries m z) ∙ end.none z (past_fact key_cmp after z ((and_parts (is_prefix prefix z) _ passes).1)) ((and_parts (is_prefix prefix z) _ passes).0))
+      (λ z passes. sym (get-entries m z) ∙ end.none z (past_fact key_cmp after z ((and_parts (is_prefix prefix z) _ passes).1))
+      ((and_parts (is_prefix prefix z) _ passes).0))
 
   -- So the number of entries that are left falls.
-  pub walk_below_falls : (m : FinMap key_cmp X) (prefix : List (List ℕ)) (after : Option (List (List ℕ))) (k : List (List ℕ)) (x : X) → IsLeastBelow m prefix after k x
+  pub walk_below_falls : (m : FinMap key_cmp X) (prefix : List (List ℕ)) (after : Option (List (List ℕ))) (k : List (List ℕ)) (x : X)
+      → IsLeastBelow m prefix after k x
       → length (entries_below_past m prefix (Some k)) < length (entries_below_past m prefix after)
-  walk_below_falls m prefix after k x next = let one : length (entries_below_past m prefix after) ≡ suc (length (entries_below_past m prefix (Some k))) = ap length (walk_below_next m prefix after k x next) in omega arith
+  walk_below_falls m prefix after k x next = let one : length (entries_below_past m prefix after) ≡ suc (length (entries_below_past m prefix (Some k))) =
+      ap length (walk_below_next m prefix after k x next) in omega arith
 
 -- A list of what a walk has given, with what is left.
 pub listed_more : {E : Type 0} (all done now left rest : List E) (e : E) → done ++ left ≡ all → left ≡ e ∷ rest → now ≡ done ++ e ∷ [] → now ++ rest ≡ all
-listed_more all done now left rest e whole next pushed = ap (λ (l : List _). l ++ rest) pushed ∙ append_assoc done (e ∷ []) rest ∙ ap (λ (l : List _). done ++ l) (sym next) ∙ whole
+listed_more all done now left rest e whole next pushed = ap (λ (l : List _). l ++ rest) pushed ∙ append_assoc done (e ∷ []) rest
+    ∙ ap (λ (l : List _). done ++ l) (sym next) ∙ whole
 
 pub listed_all : {E : Type 0} (all done left : List E) → done ++ left ≡ all → left ≡ [] → done ≡ all
 listed_all all done left whole none = sym (append-nil done) ∙ ap (λ (l : List _). done ++ l) (sym none) ∙ whole

@@ -19,13 +19,13 @@ is_below_one keys key = list_any (λ prefix. is_prefix prefix key) keys
 abbrev pub values_below : Values → List (List (List ℕ)) → List (List (List ℕ) × Scalar)
 values_below values keys = filter (λ e. is_below_one keys e.0) (entries values)
 
--- Some value stands at the key or below it.
+-- There is some value at the key or below it.
 pub record HasBelow (values : Values) (prefix : List (List ℕ)) : Type 0 where
   pub key : List (List ℕ)
   pub begins : IsTrue (is_prefix prefix key)
   pub there : IsSome (get values key)
 
--- Some value stands at or below each of the keys before this one, and none at this one or below it.
+-- There is some value at or below each of the keys before this one, and none at this one or below it.
 pub record IsFirstWithout (values : Values) (keys : List (List (List ℕ))) (key : List (List ℕ)) : Type 0 where
   pub before : List (List (List ℕ))
   pub after : List (List (List ℕ))

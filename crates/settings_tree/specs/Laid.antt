@@ -10,7 +10,7 @@ use Rattle.settings_tree.specs.declared.entry.Entry.{Entry}
 use Rattle.settings_tree.specs.declared.entry.Entry.TheVariants.{LiveSet, LiveGone, MetaSet, MetaGone, PendSet, PendGone, OwedSet, ImageSet, WeakIs}
 use Rattle.settings_tree.specs.declared.held.Held.{Held}
 
--- With one entry laid: the weak keys change by their own entry alone, so it counts wherever it stands.
+-- With one entry laid: the weak keys change by their own entry alone, so it counts wherever it is.
 abbrev pub laid_one : Held → Entry → Held
 laid_one h (LiveSet k v) = record h { live = record h.live { values = insert h.live.values k v } }
 laid_one h (LiveGone k) = record h { live = record h.live { values = remove h.live.values k } }

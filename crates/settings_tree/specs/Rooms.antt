@@ -34,7 +34,7 @@ opened h (MetaSet k n v) = record h { live = record h.live { metadata = with_val
 opened h (PendSet t k v) = record h { pending = with_value h.pending t k Gone }
 opened h _ = h
 
--- Without what stands where the entry is to set something.
+-- Without what is where the entry is to set something.
 abbrev pub closed : Held → Entry → Held
 closed h (LiveSet k v) = record h { live = record h.live { values = remove h.live.values k } }
 closed h (MetaSet k n v) = record h { live = record h.live { metadata = without_value h.live.metadata k n } }

@@ -25,13 +25,13 @@ entries_below m prefix = filter (λ e. is_prefix prefix e.0) (entries m)
 abbrev pub entries_below_past : {X : Type 0} → FinMap key_cmp X → List (List ℕ) → Option (List (List ℕ)) → List (List (List ℕ) × X)
 entries_below_past m prefix after = filter (λ e. is_prefix prefix e.0 && is_past key_cmp after e.0) (entries m)
 
--- x stands at k, the least of the keys past the given one that begin with the prefix.
+-- x is at k, the least of the keys past the given one that begin with the prefix.
 pub record IsLeastBelow {X : Type 0} (m : FinMap key_cmp X) (prefix : List (List ℕ)) (after : Option (List (List ℕ))) (k : List (List ℕ)) (x : X) : Type 0 where
   pub stands : get m k ≡ Some x
   pub past : IsPast key_cmp after k
   pub begins : IsTrue (is_prefix prefix k)
   pub least : (q : List (List ℕ)) → IsPast key_cmp after q → IsTrue (is_prefix prefix q) → IsSome (get m q) → IsLeBy key_cmp k q
 
--- Nothing stands past the given key at a key that begins with the prefix.
+-- There is nothing past the given key at a key that begins with the prefix.
 pub record HasNoneBelow {X : Type 0} (m : FinMap key_cmp X) (prefix : List (List ℕ)) (after : Option (List (List ℕ))) : Type 0 where
   pub none : (q : List (List ℕ)) → IsPast key_cmp after q → IsTrue (is_prefix prefix q) → get m q ≡ None

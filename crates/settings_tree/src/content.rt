@@ -83,9 +83,9 @@ impl Content {
         fits(&self.values, key)
     }
 
-    /// Puts the value at the key, over the one that stands there if there is one. The key is strong
+    /// Puts the value at the key, over the one that is there if there is one. The key is strong
     /// from then on. It is logarithmic, but that the weak keys after one that it makes strong move
-    /// up. The only error is want of memory, which comes only at a key without a value, and leaves the
+    /// up. The only error is out of memory, which comes only at a key without a value, and leaves the
     /// content unchanged.
     pub fn put(&mut self, key: Key, value: Scalar) -> Result<(), AllocError>
         requires { Fits self.old.values key }
@@ -113,9 +113,9 @@ impl Content {
         self.values.take(key)
     }
 
-    /// Puts metadata at the key and the name, over what stands there if there is something. It is
+    /// Puts metadata at the key and the name, over what is there if there is something. It is
     /// logarithmic in the keys with metadata, and moves the later names of the key up at a new name.
-    /// The only error is want of memory, which comes only at a new name, and leaves the content
+    /// The only error is out of memory, which comes only at a new name, and leaves the content
     /// unchanged.
     pub fn put_meta(&mut self, key: Key, name: Text, value: Scalar) -> Result<(), AllocError>
         requires { IsTrue (is_meta_name name) }
@@ -253,7 +253,7 @@ impl Content {
     }
 
     /// Copies of the values whose key begins with the prefix, as the prefix itself does, rising by
-    /// key. It takes a logarithmic step for each. The only error is want of memory.
+    /// key. It takes a logarithmic step for each. The only error is out of memory.
     pub fn below(&self, prefix: &Key) -> Result<Vec<(Key, Scalar)>, AllocError>
         ensures values { IfOk result (λ pairs. pairs.items ≡ entries_below self.now.values prefix.now) }
 
@@ -273,7 +273,7 @@ impl Content {
         Ok(pairs)
     }
 
-    /// A copy of the content, weak keys included. The only error is want of memory.
+    /// A copy of the content, weak keys included. The only error is out of memory.
     pub fn copy(&self) -> Result<Content, AllocError>
         ensures { IfOk result (λ copy. copy ≡ self.now) }
     {

@@ -16,7 +16,7 @@ pub enum Owed {
 }
 
 impl Owed {
-    /// A copy. The only error is want of memory.
+    /// A copy. The only error is out of memory.
     pub fn copy(&self) -> Result<Owed, AllocError>
         ensures { IfOk result (λ copy. copy ≡ self.now) }
     {
@@ -27,7 +27,7 @@ impl Owed {
     }
 }
 
-/// One entry of a change. It names a place of what is held, and says what is to stand there.
+/// One entry of a change. It names a place of what is held, and says what is to be there.
 #[derive(Debug, Drop)]
 pub enum Entry {
     /// The key has this value.

@@ -80,7 +80,7 @@ impl Held {
         self.image = image;
     }
 
-    /// Lays the change, entry by entry, or nothing of it where memory is wanting, which is the only
+    /// Lays the change, entry by entry, or nothing of it where it runs out of memory, which is the only
     /// error. What it makes must keep the prefix rule. Each key of a `WeakIs` must have a value in it
     /// and begin with `settings`, and a change that sets or removes a weak key must have a `WeakIs`.
     /// It takes a logarithmic step or two for each entry, and copies no value.
@@ -111,7 +111,7 @@ impl Held {
         owed
     }
 
-    /// A copy. The only error is want of memory.
+    /// A copy. The only error is out of memory.
     pub fn copy(&self) -> Result<Held, AllocError>
         ensures { IfOk result (λ copy. copy ≡ self.now) }
     {

@@ -61,7 +61,7 @@ fn values_below(
     Ok(pairs)
 }
 
-/// The first of the keys at and below which no value stands, None exactly where some value does for each of them. It takes a
+/// The first of the keys at and below which there is no value, None exactly where there is some value for each of them. It takes a
 /// logarithmic step for each key, and no memory.
 pub fn first_without<'a>(live: &Content, keys: &'a [Key]) -> Option<&'a Key>
     ensures first { IfSome result (λ key. IsFirstWithout live.now.values keys.now key.now) }
@@ -76,7 +76,7 @@ pub fn first_without<'a>(live: &Content, keys: &'a [Key]) -> Option<&'a Key>
 }
 
 /// The compact JSON text (RFC 8259) of the tree of the values whose keys begin with one of the keys, as each key itself does;
-/// no values give `{}`. The only error is want of memory. It takes one pass over all values, with a step for each key.
+/// no values give `{}`. The only error is out of memory. It takes one pass over all values, with a step for each key.
 pub fn tree_below(alloc: Global, live: &Content, keys: &[Key]) -> Result<Text, AllocError>
     ensures { IfOk result (NestsAs scalar_data 0 (values_below live.now.values keys.now)) }
 {

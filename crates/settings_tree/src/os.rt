@@ -11,7 +11,7 @@ use std::marker::Model;
 pub struct OsName {
     /// The name.
     pub name: Text,
-    /// The text that stands for it.
+    /// The text that represents it.
     pub text: Text,
 }
 

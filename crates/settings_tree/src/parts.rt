@@ -14,7 +14,7 @@ use std::alloc::AllocError;
 
 /// What is held, in parts that no rule joins. A change is laid in two passes. The first makes a room,
 /// a placeholder, wherever an entry is to set what is missing, and takes the rooms out again where
-/// memory is wanting. The second lays the entries, each in its room, and takes no memory.
+/// it runs out of memory. The second lays the entries, each in its room, and takes no memory.
 #[derive(Drop)]
 pub(crate) struct Parts {
     pub values: KeyMap<Scalar>,
@@ -205,7 +205,7 @@ impl Parts {
         }
     }
 
-    /// Lays all entries, or none where memory is wanting.
+    /// Lays all entries, or none where it runs out of memory.
     pub(crate) fn lay(&mut self, entries: Vec<Entry>) -> Result<(), AllocError>
         requires full { IsFullHeld (held_of self.old) }
         requires once { IsTrue (is_once entries.items) }

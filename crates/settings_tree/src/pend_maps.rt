@@ -70,9 +70,9 @@ impl PendMaps {
         }
     }
 
-    /// Puts what is pending in the transaction for the key, over what stands there if there is
-    /// something. It is logarithmic. The only error is want of memory, which comes only where nothing
-    /// stands there, and leaves the maps unchanged.
+    /// Puts what is pending in the transaction for the key, over what is there if there is
+    /// something. It is logarithmic. The only error is out of memory, which comes only where nothing
+    /// is there, and leaves the maps unchanged.
     pub fn put(&mut self, tx: TxName, key: Key, value: Pending) -> Result<(), AllocError>
         requires { Fits (inner self.old tx) key }
         ensures ok { OnOk result (self.new ≡ with_value self.old tx key value) }
@@ -112,7 +112,7 @@ impl PendMaps {
         self.transactions.next_key(tx, after)
     }
 
-    /// A copy. The only error is want of memory.
+    /// A copy. The only error is out of memory.
     pub fn copy(&self) -> Result<PendMaps, AllocError>
         ensures { IfOk result (λ copy. copy ≡ self.now) }
     {

@@ -15,7 +15,7 @@ pub fn is_setting(key: &Key) -> bool
 }
 
 /// Whether each of the keys has a value among these and begins with `settings`, so that it may be weak
-/// beside them. It takes a logarithmic step for each and no memory.
+/// with them. It takes a logarithmic step for each and no memory.
 pub fn may_be_weak(values: &KeyMap<Scalar>, keys: &[Key]) -> bool
     ensures { IsTrue result ↔ All (MayBeWeak values.now) keys.now }
 {

@@ -12,7 +12,7 @@ use std::alloc::AllocError;
 use std::io::{self, Write};
 use std::process::ExitCode;
 
-/// The exit status of a program that could not make its devices for want of memory, as that of a run.
+/// The exit status of a program that ran out of memory in making its devices, as that of a run.
 const OUT_OF_MEMORY: u8 = 1;
 
 /// The exit status of words that ask no question.

@@ -1,6 +1,6 @@
 -- A beginning is an event of the machine.
-use Rattle.std.proofs.Common.{inl, inr, ◌⊎◌, ⊎_elim, Result, Ok, refl, sym, subst}
-use Rattle.outside.specs.Tree.{Tree}
+use Rattle.std.proofs.Common.{inl, inr, ◌⊎◌, [], ◌∷◌, ⊎_elim, Result, Ok, refl, sym, ◌∙◌, ap, subst}
+use Rattle.outside.specs.Tree.{Tree, file_in}
 use Rattle.outside.specs.History.{History, tree_of, IsImage}
 use Rattle.outside.specs.Since.{EachSince}
 use Rattle.outside.proofs.Crash.{settled_image}
@@ -12,15 +12,15 @@ use Rattle.settings_machine.specs.World.{Image, World}
 use Rattle.settings_machine.specs.Events.{Began, next}
 use Rattle.settings_machine.specs.Paid.{Paid, IsGood}
 use Rattle.settings_machine.proofs.PaidLaws.{beginnings_pay}
-use Rattle.machine_disk.specs.Store.{HasStore, HasFiles, Recovers}
-use Rattle.machine_disk.specs.Ran.{IsWorldOf}
-use Rattle.machine_disk.proofs.Runs.{recovers_paid}
+use Rattle.machine_disk.specs.Store.{bytes_at, HasStore, HasFiles, Recovers}
+use Rattle.machine_disk.specs.Ran.{IsWorldOf, LeavesPaid}
+use Rattle.machine_disk.proofs.Prefixes.{leaves_paid}
 use Rattle.machine_disk.proofs.Whole.{not_nowhere}
 use Rattle.store_open.specs.Beginning as beginning
 use Rattle.store_open.specs.Beginning.{Begins, first_world}
 use Rattle.store_open.specs.declared.begin_error.InitError.{InitError}
 use Rattle.store_events.specs.Laws.{IsBare, IsBeginning, HasBegun, BeginningsAreWhole, BeginningsBegin}
-use Rattle.store_events.proofs.Elsewhere.{files_stand, files_left}
+use Rattle.store_events.proofs.Elsewhere.{files_stand, files_left, image_kept}
 
 module _ (I : Image) (good : IsGood I) (W : World) (version : Version) where
   abbrev N : World
@@ -43,7 +43,8 @@ module _ (I : Image) (good : IsGood I) (W : World) (version : Version) where
     moment c (inr has, files) = inr (record { store = has_store c has; etc = λ path e. inl (files.each path e) })
 
     any_moment : EachSince (λ c. Resolves c nowhere ⊎ Recovers I N c) old new
-    any_moment = since_map (λ c. (Resolves c nowhere ⊎ beginning.HasBegun version c) × HasFiles W.etc c) (λ c. Resolves c nowhere ⊎ Recovers I N c) old new moment
+    any_moment = since_map (λ c. (Resolves c nowhere ⊎ beginning.HasBegun version c) × HasFiles W.etc c) (λ c. Resolves c nowhere ⊎ Recovers I N c) old new
+        moment
         (since_both (λ c. Resolves c nowhere ⊎ beginning.HasBegun version c) (HasFiles W.etc) old new
         (begins.any_moment (record { at = λ path part. bare.settled path }) bare.none)
         (files_left W.etc old new begins.others.touches bare.etc bare.settled))
@@ -52,7 +53,9 @@ module _ (I : Image) (good : IsGood I) (W : World) (version : Version) where
     whole = record {
       any_moment = any_moment;
       image_paid = since_map (λ c. Resolves c nowhere ⊎ Recovers I N c) (λ c. (X : World) → IsWorldOf c X → Paid I X) old new
-          (λ c either X is. ⊎_elim (λ none. absurd (not_nowhere X c is.store none)) (λ r. recovers_paid I good N X c r is paid) either) any_moment;
+          (λ c either X is f covered. ⊎_elim (λ none. absurd (not_nowhere X c is.store none))
+          (λ r. let leaves : LeavesPaid I W (Began version ∷ []) c = leaves_paid I good W (Began version ∷ []) c r (λ g known was. paid g known) in
+          leaves.paid f covered (inr refl) X is) either) any_moment;
     }
 
   module _ (old new : History) (bare : IsBare W old) (done : Unit {0}) (begins : Begins version (Ok done) old new) where
@@ -73,10 +76,16 @@ module _ (I : Image) (good : IsGood I) (W : World) (version : Version) where
     etc : HasFiles N.etc (tree_of new)
     etc = files_stand W.etc old new begins.others.touches bare.etc
 
-    begun : HasBegun I N new
+    begun : HasBegun I (bytes_at (tree_of old)) N new
     begun = record {
-      store = store;
-      etc = etc;
+      disk = record {
+        store = store;
+        etc = etc;
+        image = λ path e. image_kept old new begins.others.touches path e;
+        images = λ c left. inl (subst (HasStore N) (sym (settled_image new at_rest.rest.settled c left)) store);
+        same_etc = refl;
+        unsettled = λ path node e left. inl (ap file_in (at_rest.rest.settled path node left) ∙ etc.each path e);
+      };
       paid = paid;
       at_exit = λ c left. subst (Recovers I N) (sym (settled_image new at_rest.rest.settled c left))
           (record { store = store; etc = λ path e. inl (etc.each path e) });

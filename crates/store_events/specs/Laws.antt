@@ -11,8 +11,9 @@ use Rattle.release_file.specs.declared.work.Named.{Named}
 use Rattle.settings_machine.specs.World.{Image, World}
 use Rattle.settings_machine.specs.Events.{Event, Began, Moved, next, after}
 use Rattle.settings_machine.specs.Paid.{Paid, IsGood}
-use Rattle.machine_disk.specs.Store.{HasStore, HasFiles, Recovers}
-use Rattle.machine_disk.specs.Ran.{IsWorldOf, RunsTo, Starts}
+use Rattle.machine_disk.specs.Store.{bytes_at, HasFiles, Recovers}
+use Rattle.machine_disk.specs.Kept.{Folder, DiskAt}
+use Rattle.machine_disk.specs.Ran.{IsWorldOf, LeavesPaid, RunsTo}
 use Rattle.store_open.specs.Beginning.{Begins}
 use Rattle.store_open.specs.declared.begin_error.InitError.{InitError}
 use Rattle.migrate_chain.specs.Migrating.{Migrates}
@@ -37,10 +38,9 @@ pub record IsBeginning (I : Image) (N : World) (old new : History) : Type 0 wher
   pub any_moment : EachSince (λ c. Resolves c nowhere ⊎ Recovers I N c) old new
   pub image_paid : EachSince (λ c. (X : World) → IsWorldOf c X → Paid I X) old new
 
--- The disk has N, which is paid, and so has what a crash leaves.
-pub record HasBegun (I : Image) (N : World) (h : History) : Type 0 where
-  pub store : HasStore N (tree_of h)
-  pub etc : HasFiles N.etc (tree_of h)
+-- The disk is at N alone, which is paid, and a crash leaves what recovers to it.
+pub record HasBegun (I : Image) (folder : Folder) (N : World) (h : History) : Type 0 where
+  pub disk : DiskAt I folder N N h
   pub paid : Paid I N
   pub at_exit : EachImage (Recovers I N) h
 
@@ -49,67 +49,74 @@ abbrev pub BeginningsAreWhole : Type 0
 BeginningsAreWhole = (I : Image) → IsGood I → (W : World) (version : Version) (result : Result (Unit {0}) InitError) (old new : History) → IsBare W old
     → Begins version result old new → IsBeginning I (next I W (Began version)) old new
 
--- A beginning that is answered is the event `Began`.
+-- A beginning that is answered is the event `Began`; the files of the image are those that were there.
 abbrev pub BeginningsBegin : Type 0
-BeginningsBegin = (I : Image) → IsGood I → (W : World) (version : Version) (done : Unit {0}) (old new : History) → IsBare W old → Begins version (Ok done) old new
-    → HasBegun I (next I W (Began version)) new
+BeginningsBegin = (I : Image) → IsGood I → (W : World) (version : Version) (done : Unit {0}) (old new : History) → IsBare W old
+    → Begins version (Ok done) old new
+    → HasBegun I (bytes_at (tree_of old)) (next I W (Began version)) new
 
 -- ---- moves
 
 -- The migrations of the way to the version make this of what the world holds, as the mapper has kept.
-pub record IsMade (W : World) (to : Version) (transitions : List Transition) (migrations : List Named) (before after : Option (List Mapped)) (made : Held) : Type 0 where
+pub record IsMade (W : World) (to : Version) (transitions : List Transition) (migrations : List Named) (before after : Option (List Mapped))
+    (made : Held) : Type 0 where
   pub way : List Transition
   pub is_way : IsWay transitions W.version to way
   pub carried : IsCarried (tasks_of migrations (is_back W.version to) way) W.held before after made
 
--- A crash at any moment leaves what recovers to W, or to the world after a move; and a world that it leaves is paid.
-pub record IsMoving (I : Image) (W : World) (to : Version) (transitions : List Transition) (migrations : List Named) (before now : Option (List Mapped)) (old new : History)
+-- A crash at any moment leaves what recovers to W, with each covered file paid that was; or to the world after a move, with each paid.
+pub record IsMoving (I : Image) (W : World) (to : Version) (transitions : List Transition) (migrations : List Named) (before now : Option (List Mapped))
+    (old new : History)
     : Type 0 where
-  pub any_moment : EachSince (λ c. Recovers I W c ⊎ ((made : Held) × IsMade W to transitions migrations before now made × Recovers I (next I W (Moved to made)) c)) old new
-  pub image_paid : EachSince (λ c. (X : World) → IsWorldOf c X → Paid I X) old new
+  pub any_moment : EachSince (λ c. LeavesPaid I W [] c ⊎ ((made : Held) × IsMade W to transitions migrations before now made
+      × LeavesPaid I W (Moved to made ∷ []) c)) old new
 
 -- The events of a move: none where the store is at the version, in format 2, and else one.
 abbrev pub MoveEvents : World → Version → List Transition → List Named → Option (List Mapped) → Option (List Mapped) → List Event → Type 0
 MoveEvents W to transitions migrations before now events = ((W.version ≡ to) × (W.format ≡ 2) × (events ≡ []))
     ⊎ ((made : Held) × IsMade W to transitions migrations before now made × (events ≡ Moved to made ∷ []))
 
--- The store was moved by these events, and what a crash leaves now recovers to the last of the worlds.
-pub record HasMoved (I : Image) (W : World) (to : Version) (transitions : List Transition) (migrations : List Named) (before now : Option (List Mapped)) (old new : History)
-    : Type 0 where
+-- The store was moved by these events.
+pub record HasMoved (I : Image) (folder : Folder) (W : World) (to : Version) (transitions : List Transition) (migrations : List Named)
+    (before now : Option (List Mapped))
+    (old new : History) : Type 0 where
   pub events : List Event
   pub form : MoveEvents W to transitions migrations before now events
-  pub runs : RunsTo I W events old new
-  pub recovers : EachImage (Recovers I (after I W events)) new
+  pub runs : RunsTo I folder W events old new
 
--- No event happened, and what a crash leaves now recovers to W.
-pub record HasStayed (I : Image) (W : World) (old new : History) : Type 0 where
-  pub runs : RunsTo I W [] old new
-  pub recovers : EachImage (Recovers I W) new
+-- No event happened.
+abbrev pub HasStayed : Image → Folder → World → History → History → Type 0
+HasStayed I folder W old new = RunsTo I folder W [] old new
 
 -- Whatever a move comes to, a crash leaves the store as it was, or as it is after the event `Moved`.
 abbrev pub MovesAreWhole : Type 0
-MovesAreWhole = (I : Image) → IsGood I → (W : World) (to : Version) (transitions : List Transition) (migrations : List Named) (before now : Option (List Mapped))
-    (refused_before refused_now : Option (List Refused)) (result : Result answer.Moved MoveError) (old new : History) → Starts I W old
+MovesAreWhole = (I : Image) → IsGood I → (folder : Folder) (W : World) (to : Version) (transitions : List Transition) (migrations : List Named)
+    (before now : Option (List Mapped))
+    (refused_before refused_now : Option (List Refused)) (result : Result answer.Moved MoveError) (old new : History) → DiskAt I folder W W old
     → Migrates to transitions migrations before now refused_before refused_now result old new → IsMoving I W to transitions migrations before now old new
 
 -- A move that is answered is one event, or none, where the mapper keeps what it made.
 abbrev pub MovesMove : Type 0
-MovesMove = (I : Image) → IsGood I → (W : World) (to : Version) (transitions : List Transition) (migrations : List Named) (kept : List Mapped) (now : Option (List Mapped))
-    (refused_before refused_now : Option (List Refused)) (moved : answer.Moved) (old new : History) → Starts I W old
-    → Migrates to transitions migrations (Some kept) now refused_before refused_now (Ok moved) old new → HasMoved I W to transitions migrations (Some kept) now old new
+MovesMove = (I : Image) → IsGood I → (folder : Folder) (W : World) (to : Version) (transitions : List Transition) (migrations : List Named) (kept : List Mapped)
+    (now : Option (List Mapped))
+    (refused_before refused_now : Option (List Refused)) (moved : answer.Moved) (old new : History) → DiskAt I folder W W old
+    → Migrates to transitions migrations (Some kept) now refused_before refused_now (Ok moved) old new
+    → HasMoved I folder W to transitions migrations (Some kept) now old new
 
 -- A move that is refused is none, unless the disk failed.
 abbrev pub RefusedMovesStay : Type 0
-RefusedMovesStay = (I : Image) → IsGood I → (W : World) (to : Version) (transitions : List Transition) (migrations : List Named) (before now : Option (List Mapped))
-    (refused_before refused_now : Option (List Refused)) (error : MoveError) (old new : History) → error ≢ Failed → Starts I W old
-    → Migrates to transitions migrations before now refused_before refused_now (Err error) old new → HasStayed I W old new
+RefusedMovesStay = (I : Image) → IsGood I → (folder : Folder) (W : World) (to : Version) (transitions : List Transition) (migrations : List Named)
+    (before now : Option (List Mapped))
+    (refused_before refused_now : Option (List Refused)) (error : MoveError) (old new : History) → error ≢ Failed → DiskAt I folder W W old
+    → Migrates to transitions migrations before now refused_before refused_now (Err error) old new → HasStayed I folder W old new
 
 -- ---- what is no event
 
 -- A disk that is as before is no event.
 abbrev pub SameDisksStay : Type 0
-SameDisksStay = (I : Image) → IsGood I → (W : World) (h : History) → Starts I W h → HasStayed I W h h
+SameDisksStay = (I : Image) → IsGood I → (folder : Folder) (W : World) (h : History) → DiskAt I folder W W h → HasStayed I folder W h h
 
 -- A pruning is none, whatever it comes to.
 abbrev pub PruningsStay : Type 0
-PruningsStay = (I : Image) → IsGood I → (W : World) (result : Result ℕ PruneError) (old new : History) → Starts I W old → Prunes result old new → HasStayed I W old new
+PruningsStay = (I : Image) → IsGood I → (folder : Folder) (W : World) (result : Result ℕ PruneError) (old new : History) → DiskAt I folder W W old
+    → Prunes result old new → HasStayed I folder W old new

@@ -1,4 +1,4 @@
--- The sections in which the values of a model stand.
+-- The sections in which the values of a model are.
 use Rattle.std.proofs.Common.{◌≡◌, inl, inr, ◌⊎◌, ℕ, List, [], ◌∷◌, codes, Some, None, IsSome, IsTrue, Bool, true, false, cond, refl, sym, subst}
 use Rattle.std.specs.FinMap.{FinMap, empty, get, insert, get-empty, get-insert}
 use Rattle.std.specs.Ordering.{eq_by_cmp}
@@ -27,9 +27,11 @@ module _ (P : Key → Type 0) where
     by true e there = subst P (sym (key_cmp-IsAntisymmetric q key (tied_by (key_cmp q key) e))) here
     by false e there = each q there
 
-  section_kept : (name : List ℕ) → ((path : Key) → P (name ∷ path)) → (pairs : List (Key × Scalar)) (values : FinMap key_cmp Scalar) → Each values → Each (with_values name pairs values)
+  section_kept : (name : List ℕ) → ((path : Key) → P (name ∷ path)) → (pairs : List (Key × Scalar)) (values : FinMap key_cmp Scalar) → Each values
+      → Each (with_values name pairs values)
   section_kept name named [] values each = each
-  section_kept name named ((path, value) ∷ pairs) values each = section_kept name named pairs (insert values (name ∷ path) value) (put_kept values (name ∷ path) value each (named path))
+  section_kept name named ((path, value) ∷ pairs) values each = section_kept name named pairs (insert values (name ∷ path) value)
+      (put_kept values (name ∷ path) value each (named path))
 
   none_there : Each empty
   none_there q some = absurd (is_some_none (subst IsSome (get-empty key_cmp q) some)) where
@@ -37,9 +39,10 @@ module _ (P : Key → Type 0) where
     is_some_none there = cc there
 
 abbrev InSection : Key → Type 0
-InSection key = IsTrue (is_prefix settings_key key) ⊎ (IsTrue (is_prefix (codes "services" ∷ []) key) ⊎ IsTrue (is_prefix (codes "configuration-files" ∷ []) key))
+InSection key = IsTrue (is_prefix settings_key key) ⊎ (IsTrue (is_prefix (codes "services" ∷ []) key)
+    ⊎ IsTrue (is_prefix (codes "configuration-files" ∷ []) key))
 
--- Each value of a model stands in a section of values.
+-- Each value of a model is in a section of values.
 pub sections : (text : List ℕ) (model : Model) → Spells text model → AreSections model.content.values
 sections text model s q some =
     let d = s.document in

@@ -1,4 +1,4 @@
--- The sources of templates, read one behind another.
+-- The sources of templates, read one after another.
 use Rattle.std.proofs.Common.{◌≡◌, ℕ, List, Option, Some, None, IsSome, is_some, Bool, true, false, cond, refl, sym, ◌∙◌, ap, subst, inl, inr}
 use Rattle.std.specs.declared.cmp.Ordering.TheVariants.{Less}
 use Rattle.std.specs.Ordering.{eq_by_cmp, is_lt, is_gt, ordering_reverse}
@@ -38,14 +38,16 @@ put_apart : (sources : Texts) (k : Names) (source : List ℕ) (p : Names) → eq
 put_apart sources k source p other = get-insert path_total sources k source p ∙ ap (λ b. cond b (Some source) (get sources p)) other
 
 -- a path of the map at or before the next one is that one, or not past the last one
-passed : (paths : Paths) (after : Option Names) (k : Names) (x : Unit {0}) → IsLeastAfter paths after k x → (p : Names) → IsSome (get paths p) → is_lt (path_cmp k p) ≡ false → eq_by_cmp path_cmp p k ≡ false → is_past path_cmp after p ≡ false
+passed : (paths : Paths) (after : Option Names) (k : Names) (x : Unit {0}) → IsLeastAfter paths after k x → (p : Names) → IsSome (get paths p)
+    → is_lt (path_cmp k p) ≡ false → eq_by_cmp path_cmp p k ≡ false → is_past path_cmp after p ≡ false
 passed paths after k x next p some low other = by (is_past path_cmp after p) refl where
   by : (b : Bool) → is_past path_cmp after p ≡ b → b ≡ false
   by true past = let same : k ≡ p = path_same k p (tied (path_cmp k p) low (next.least p (past_fact path_cmp after p past) some)) in
       absurd (cc (other, ap (λ (q : Names). eq_by_cmp path_cmp q k) (sym same), path_itself k))
   by false past = refl
 
-pub upto_next : (paths : Paths) (after : Option Names) (k : Names) (x : Unit {0}) (sources : Texts) (source : List ℕ) → IsLeastAfter paths after k x → UpTo paths after sources → UpTo paths (Some k) (insert sources k source)
+pub upto_next : (paths : Paths) (after : Option Names) (k : Names) (x : Unit {0}) (sources : Texts) (source : List ℕ) → IsLeastAfter paths after k x
+    → UpTo paths after sources → UpTo paths (Some k) (insert sources k source)
 upto_next paths after k x sources source next upto = record {
   only = λ p some. elim (path_cases p k) [
     | inl same ↦ subst (λ (q : Names). IsSome (get paths q)) (sym same) (subst IsSome (sym next.stands) refl)
@@ -66,7 +68,8 @@ some_one a b e = cc e
 pub faultless_next : (sources : Texts) (k : Names) (source : List ℕ) → AreFaultless sources → fault source ≡ None → AreFaultless (insert sources k source)
 faultless_next sources k source all none = record {
   none = λ p other e. elim (path_cases p k) [
-    | inl same ↦ subst (λ (s : List ℕ). fault s ≡ None) (some_one source other (sym (put_at sources k source) ∙ ap (λ (q : Names). get (insert sources k source) q) (sym same) ∙ e)) none
+    | inl same ↦ subst (λ (s : List ℕ). fault s ≡ None) (some_one source other
+        (sym (put_at sources k source) ∙ ap (λ (q : Names). get (insert sources k source) q) (sym same) ∙ e)) none
     | inr apart ↦ all.none p other (sym (put_apart sources k source p apart) ∙ e)
   ];
 }
@@ -74,10 +77,12 @@ faultless_next sources k source all none = record {
 pub there_none : (h : History) → AreThere empty h
 there_none h = record { there = λ p source e. absurd (cc (get-empty {X = List ℕ} path_cmp p, e)) }
 
-pub there_next : (sources : Texts) (k : Names) (source : List ℕ) (h : History) → AreThere sources h → sources_in (tree_of h) (template_path k) ≡ Some source → AreThere (insert sources k source) h
+pub there_next : (sources : Texts) (k : Names) (source : List ℕ) (h : History) → AreThere sources h → sources_in (tree_of h) (template_path k) ≡ Some source
+    → AreThere (insert sources k source) h
 there_next sources k source h all here = record {
   there = λ p other e. elim (path_cases p k) [
-    | inl same ↦ ap (λ (q : Names). sources_in (tree_of h) (template_path q)) same ∙ here ∙ sym (put_at sources k source) ∙ ap (λ (q : Names). get (insert sources k source) q) (sym same) ∙ e
+    | inl same ↦ ap (λ (q : Names). sources_in (tree_of h) (template_path q)) same ∙ here ∙ sym (put_at sources k source)
+        ∙ ap (λ (q : Names). get (insert sources k source) q) (sym same) ∙ e
     | inr apart ↦ all.there p other (sym (put_apart sources k source p apart) ∙ e)
   ];
 }
@@ -88,15 +93,18 @@ reversed a b less = ap is_gt (path_total.antisymm b a ∙ ap ordering_reverse le
 no_fault : (o : Option TemplateError) → o ≡ None → (f : TemplateError → Fault) → option_map f o ≡ None
 no_fault o none f = ap (option_map f) none
 
-pub first_bad : (paths : Paths) (after : Option Names) (k : Names) (x : Unit {0}) (sources : Texts) (h : History) (file : List ℕ) (found : Fault) → IsLeastAfter paths after k x → UpTo paths after sources → AreFaultless sources → AreThere sources h → IsBadAt k file found h → IsFirstBadOf paths file found h
-first_bad paths after k x sources h file found next upto faultless there bad = record { path = k; among = subst IsSome (sym next.stands) refl; bad = bad; first = earlier } where
-  low : (p : Names) → IsSome (get paths p) → path_cmp p k ≡ Less → (b : Bool) → is_past path_cmp after p ≡ b → b ≡ false
-  low p some less true past = absurd (cc (next.least p (past_fact path_cmp after p past) some, reversed p k less))
-  low p some less false past = refl
+pub first_bad : (paths : Paths) (after : Option Names) (k : Names) (x : Unit {0}) (sources : Texts) (h : History) (file : List ℕ) (found : Fault)
+    → IsLeastAfter paths after k x → UpTo paths after sources → AreFaultless sources → AreThere sources h → IsBadAt k file found h
+    → IsFirstBadOf paths file found h
+first_bad paths after k x sources h file found next upto faultless there bad =
+    record { path = k; among = subst IsSome (sym next.stands) refl; bad = bad; first = earlier } where
+      low : (p : Names) → IsSome (get paths p) → path_cmp p k ≡ Less → (b : Bool) → is_past path_cmp after p ≡ b → b ≡ false
+      low p some less true past = absurd (cc (next.least p (past_fact path_cmp after p past) some, reversed p k less))
+      low p some less false past = refl
 
-  by : (p : Names) (o : Option (List ℕ)) → get sources p ≡ o → IsSome o → template_fault (sources_in (tree_of h) (template_path p)) ≡ None
-  by p None is some = absurd (cc some)
-  by p (Some source) is some = ap template_fault (there.there p source is) ∙ no_fault (fault source) (faultless.none p source is) _
+      by : (p : Names) (o : Option (List ℕ)) → get sources p ≡ o → IsSome o → template_fault (sources_in (tree_of h) (template_path p)) ≡ None
+      by p None is some = absurd (cc some)
+      by p (Some source) is some = ap template_fault (there.there p source is) ∙ no_fault (fault source) (faultless.none p source is) _
 
-  earlier : (p : Names) → IsSome (get paths p) → path_cmp p k ≡ Less → template_fault (sources_in (tree_of h) (template_path p)) ≡ None
-  earlier p some less = by p (get sources p) refl (upto.each p some (low p some less (is_past path_cmp after p) refl))
+      earlier : (p : Names) → IsSome (get paths p) → path_cmp p k ≡ Less → template_fault (sources_in (tree_of h) (template_path p)) ≡ None
+      earlier p some less = by p (get sources p) refl (upto.each p some (low p some less (is_past path_cmp after p) refl))

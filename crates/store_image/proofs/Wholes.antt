@@ -15,7 +15,8 @@ use Rattle.store_image.specs.Image.{IsTemplate, IsMadeOf, IsImage, IsImageOf}
 use Rattle.store_image.specs.Refused.{Fault, IsRefused, bad_model, bad_manifest, bad_template}
 use Rattle.store_image.specs.Reading.{IsUnlinked, no_model, no_manifest, IsFirstBadOf, IsBadTemplate, AreReadFrom}
 
-pub refused_linking : (files : Sources) (text file : List ℕ) (found : Fault) → files model_path ≡ Some text → IsUnlinked text file found → IsRefused files file found
+pub refused_linking : (files : Sources) (text file : List ℕ) (found : Fault) → files model_path ≡ Some text → IsUnlinked text file found
+    → IsRefused files file found
 refused_linking files text file found there (no_model e fault bad) = bad_model text e.kind e.at there fault bad.file_is bad.found_is
 refused_linking files text file found there (no_manifest m e spelled first bad) = bad_manifest text m e there spelled first bad.file_is bad.found_is
 
@@ -43,4 +44,5 @@ module _ (text : List ℕ) (model : Model) (manifest : Manifest) (spelled : Spel
     whole = record { text = text; sources = from.sources; made = made }
 
     pub image_there : WhereTold told (λ h. sources_in (tree_of h) model_path ≡ Some text → IsImageOf (sources_in (tree_of h)) model manifest templates image)
-    image_there = where_map (λ h there first. record { text = text; sources = from.sources; model_there = first; sources_there = there.there; made = made }) from.there
+    image_there = where_map (λ h there first. record { text = text; sources = from.sources; model_there = first; sources_there = there.there; made = made })
+        from.there

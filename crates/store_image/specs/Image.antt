@@ -35,7 +35,8 @@ pub record KeepsSources (manifest : Manifest) (sources : FinMap path_cmp (List �
   pub kept : (file : List ℕ) → source_of templates file ≡ option_and_then (λ row. get sources row.template) (get manifest.files file)
 
 -- The parts of an image: what the model's text spells, its manifest, the templates of its files, and the image text.
-pub record IsMadeOf (text : List ℕ) (sources : FinMap path_cmp (List ℕ)) (model : Model) (manifest : Manifest) (templates : Templates) (image : List ℕ) : Type 0 where
+pub record IsMadeOf (text : List ℕ) (sources : FinMap path_cmp (List ℕ)) (model : Model) (manifest : Manifest) (templates : Templates) (image : List ℕ) : Type
+    0 where
   pub spelled : Spells text model
   pub linked : IsManifestOf model.content manifest
   pub read : AreSources manifest sources
@@ -58,7 +59,7 @@ pub record IsImageOf (files : Sources) (model : Model) (manifest : Manifest) (te
 
 -- ---- what follows
 
--- Each value stands at the key of a setting, of a service or of a configuration file.
+-- Each value is at the key of a setting, of a service or of a configuration file.
 abbrev pub AreSections : FinMap key_cmp Scalar → Type 0
 AreSections values = (key : List (List ℕ)) → IsSome (get values key)
     → IsTrue (is_prefix settings_key key) ⊎ (IsTrue (is_prefix (codes "services" ∷ []) key) ⊎ IsTrue (is_prefix (codes "configuration-files" ∷ []) key))

@@ -28,7 +28,8 @@ use template_reader::Templates;
 fn read_model<D: Disk>(alloc: Global, disk: &mut D) -> Result<Vec<u8>, ImageError>
     ensures same { D.told disk.new ≡ D.told disk.old }
     ensures there { IfOk result (λ text. WhereTold (D.told disk.old) (λ h. sources_in (tree_of h) model_path ≡ Some text.items)) }
-    ensures bad { (file kind at : List ℕ) → IsErrOf result (ImageError.Bad file kind at) → WhereTold (D.told disk.old) (λ h. IsRefused (sources_in (tree_of h)) file (kind, at)) }
+    ensures bad { (file kind at : List ℕ) → IsErrOf result (ImageError.Bad file kind at)
+        → WhereTold (D.told disk.old) (λ h. IsRefused (sources_in (tree_of h)) file (kind, at)) }
     ensures cause { HasCauseOf ImageError.Failed (D.faults disk.old) (D.faults disk.new) result }
     ensures bad_without_fault { (file kind at : List ℕ) → IsErrOf result (ImageError.Bad file kind at) → D.faults disk.new ≡ D.faults disk.old }
 {
@@ -49,7 +50,8 @@ fn sources_of<D: Disk>(
     ensures same { D.told disk.new ≡ D.told disk.old }
     ensures read { IfOk result (AreSources manifest.now) }
     ensures there { IfOk result (λ sources. WhereTold (D.told disk.old) (AreThere sources)) }
-    ensures bad { (file kind at : List ℕ) → IsErrOf result (ImageError.Bad file kind at) → WhereTold (D.told disk.old) (IsBadTemplate manifest.now file (kind, at)) }
+    ensures bad { (file kind at : List ℕ) → IsErrOf result (ImageError.Bad file kind at)
+        → WhereTold (D.told disk.old) (IsBadTemplate manifest.now file (kind, at)) }
     ensures cause { HasCauseOf ImageError.Failed (D.faults disk.old) (D.faults disk.new) result }
     ensures bad_without_fault { (file kind at : List ℕ) → IsErrOf result (ImageError.Bad file kind at) → D.faults disk.new ≡ D.faults disk.old }
 {
@@ -67,7 +69,8 @@ fn read_templates<D: Disk>(
     requires { IsLinked manifest.now }
     ensures same { D.told disk.new ≡ D.told disk.old }
     ensures ok { IfOk result (λ both. AreReadFrom (D.told disk.old) model.now manifest.now both.0 both.1) }
-    ensures bad { (file kind at : List ℕ) → IsErrOf result (ImageError.Bad file kind at) → WhereTold (D.told disk.old) (IsBadTemplate manifest.now file (kind, at)) }
+    ensures bad { (file kind at : List ℕ) → IsErrOf result (ImageError.Bad file kind at)
+        → WhereTold (D.told disk.old) (IsBadTemplate manifest.now file (kind, at)) }
     ensures cause { HasCauseOf ImageError.Failed (D.faults disk.old) (D.faults disk.new) result }
     ensures bad_without_fault { (file kind at : List ℕ) → IsErrOf result (ImageError.Bad file kind at) → D.faults disk.new ≡ D.faults disk.old }
 {
@@ -86,7 +89,8 @@ fn image_of<D: Disk>(alloc: Global, disk: &mut D, text: &[u8]) -> Result<Image, 
     ensures known { IfOk result (λ image. AreKnown image.model.types image.model.content.values) }
     ensures typed { IfOk result (λ image. AreTyped image.model.types image.model.content.values) }
     ensures sections { IfOk result (λ image. AreSections image.model.content.values) }
-    ensures bad { (file kind at : List ℕ) → IsErrOf result (ImageError.Bad file kind at) → WhereTold (D.told disk.old) (λ h. sources_in (tree_of h) model_path ≡ Some text.now
+    ensures bad { (file kind at : List ℕ) → IsErrOf result (ImageError.Bad file kind at)
+        → WhereTold (D.told disk.old) (λ h. sources_in (tree_of h) model_path ≡ Some text.now
         → IsRefused (sources_in (tree_of h)) file (kind, at)) }
     ensures cause { HasCauseOf ImageError.Failed (D.faults disk.old) (D.faults disk.new) result }
     ensures bad_without_fault { (file kind at : List ℕ) → IsErrOf result (ImageError.Bad file kind at) → D.faults disk.new ≡ D.faults disk.old }
@@ -105,16 +109,18 @@ fn image_of<D: Disk>(alloc: Global, disk: &mut D, text: &[u8]) -> Result<Image, 
 /// reads each file of the disk once, and changes nothing.
 ///
 /// `Bad` exactly where the files make no image, with the first fault in the order of the model, the manifest, and the
-/// templates by path. `Failed` where the disk failed, `Memory` where memory is wanting. It takes a logarithmic step for each
+/// templates by path. `Failed` where the disk failed, `Memory` where it ran out of memory. It takes a logarithmic step for each
 /// configuration file, besides what its parts take to be read.
 pub fn read_image<D: Disk>(alloc: Global, disk: &mut D) -> Result<Image, ImageError>
     ensures same { D.told disk.new ≡ D.told disk.old }
-    ensures ok { IfOk result (λ image. WhereTold (D.told disk.old) (λ h. IsImageOf (sources_in (tree_of h)) image.model image.manifest image.templates image.text)) }
+    ensures ok { IfOk result (λ image. WhereTold (D.told disk.old) (λ h. IsImageOf (sources_in (tree_of h)) image.model image.manifest image.templates
+        image.text)) }
     ensures free { IfOk result (λ image. IsPrefixFree image.model.types) }
     ensures known { IfOk result (λ image. AreKnown image.model.types image.model.content.values) }
     ensures typed { IfOk result (λ image. AreTyped image.model.types image.model.content.values) }
     ensures sections { IfOk result (λ image. AreSections image.model.content.values) }
-    ensures bad { (file kind at : List ℕ) → IsErrOf result (ImageError.Bad file kind at) → WhereTold (D.told disk.old) (λ h. IsRefused (sources_in (tree_of h)) file (kind, at)) }
+    ensures bad { (file kind at : List ℕ) → IsErrOf result (ImageError.Bad file kind at)
+        → WhereTold (D.told disk.old) (λ h. IsRefused (sources_in (tree_of h)) file (kind, at)) }
     ensures cause { HasCauseOf ImageError.Failed (D.faults disk.old) (D.faults disk.new) result }
     ensures bad_without_fault { (file kind at : List ℕ) → IsErrOf result (ImageError.Bad file kind at) → D.faults disk.new ≡ D.faults disk.old }
 {

@@ -81,7 +81,8 @@ pub fn read_sources<D: Disk>(
     ensures at { IfOk result (AreAt paths.now) }
     ensures faultless { IfOk result AreFaultless }
     ensures there { IfOk result (λ sources. WhereTold (D.told disk.old) (AreThere sources)) }
-    ensures bad { (file kind at : List ℕ) → IsErrOf result (ImageError.Bad file kind at) → WhereTold (D.told disk.old) (IsFirstBadOf paths.now file (kind, at)) }
+    ensures bad { (file kind at : List ℕ) → IsErrOf result (ImageError.Bad file kind at)
+        → WhereTold (D.told disk.old) (IsFirstBadOf paths.now file (kind, at)) }
     ensures cause { HasCauseOf ImageError.Failed (D.faults disk.old) (D.faults disk.new) result }
     ensures bad_without_fault { (file kind at : List ℕ) → IsErrOf result (ImageError.Bad file kind at) → D.faults disk.new ≡ D.faults disk.old }
 {

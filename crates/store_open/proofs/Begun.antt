@@ -123,7 +123,8 @@ module _ (target : Target) where
 
     since_flipped : Resolves (tree_of mid) nowhere → EachSince EitherWay mid new
     since_flipped none = since_map (λ image. ResolvesToEither nowhere target image × HoldsIn dir new_held 2 image) EitherWay mid new way
-        (since_both (ResolvesToEither nowhere target) (HoldsIn dir new_held 2) mid new (flips.any_moment nowhere (record { at = λ p inside. settled p }) none) holds_since)
+        (since_both (ResolvesToEither nowhere target) (HoldsIn dir new_held 2) mid new (flips.any_moment nowhere (record { at = λ p inside. settled p }) none)
+        holds_since)
       where
         way : (image : Tree) → ResolvesToEither nowhere target image × HoldsIn dir new_held 2 image → EitherWay image
         way image (inl is, holds) = inl is
@@ -202,7 +203,8 @@ nothing_begun version f h bad_is there_is = record {
     one_error : (e g : InitError) → ◌≡◌ {A = Result Unit InitError} (Err e) (Err g) → e ≡ g
     one_error e g same = cc same
 
-pub begun_of : (target : Target) (version : Version) → target.version ≡ version → (result : Result Unit InitError) (old new : History) → Places target result old new
+pub begun_of : (target : Target) (version : Version) → target.version ≡ version → (result : Result Unit InitError) (old new : History)
+    → Places target result old new
     → IsFree (tree_of old) target → Resolves (tree_of old) nowhere → Begins version result old new
 begun_of target version is result old new places free none = record {
   any_moment = λ settled nowhere_is. since_map (λ image. Resolves image nowhere ⊎ HasWorld (first_world target) image)
@@ -261,7 +263,8 @@ exit_links version a b (link.BadLink p) f same hands bad_is =
     one p q is = cc is
 exit_links version a b link.Memory f same hands bad_is = moves_same same (λ h. links_refused version link.Memory f h hands (λ path is. absurd (cc is)))
 
-pub exit_there : (version : Version) (a b : Option History) (other : Version) (path : Names) → b ≡ a → WhereTold a (λ h. Resolves (tree_of h) (found other path))
+pub exit_there : (version : Version) (a b : Option History) (other : Version) (path : Names) → b ≡ a
+    → WhereTold a (λ h. Resolves (tree_of h) (found other path))
     → Moves a b (Begins version (Err (refused.AlreadyThere other)))
 exit_there version a b other path same led =
     moves_map (λ old new both. subst (λ (n : History). Begins version (Err (refused.AlreadyThere other)) old n) (sym both.1)
@@ -274,11 +277,14 @@ exit_there version a b other path same led =
 
 pub exit_plain : (version : Version) (a b : Option History) (f : InitError) → b ≡ a → (f ≡ refused.Failed) ⊎ (f ≡ refused.Memory)
     → Moves a b (Begins version (Err f))
-exit_plain version a b f same (inl failed) = moves_same same (λ h. nothing_begun version f h (λ path is. absurd (cc (failed, is))) (λ other is. absurd (cc (failed, is))))
-exit_plain version a b f same (inr memory) = moves_same same (λ h. nothing_begun version f h (λ path is. absurd (cc (memory, is))) (λ other is. absurd (cc (memory, is))))
+exit_plain version a b f same (inl failed) = moves_same same (λ h. nothing_begun version f h (λ path is. absurd (cc (failed, is)))
+    (λ other is. absurd (cc (failed, is))))
+exit_plain version a b f same (inr memory) = moves_same same (λ h. nothing_begun version f h (λ path is. absurd (cc (memory, is)))
+    (λ other is. absurd (cc (memory, is))))
 
 pub exit_begun : (target : Target) (version : Version) → target.version ≡ version → (result : Result Unit InitError) (a b c : Option History) → b ≡ a
     → WhereTold a (λ h. Resolves (tree_of h) nowhere) → WhereTold a (λ h. IsFree (tree_of h) target) → Moves b c (Places target result)
     → Moves a c (Begins version result)
 exit_begun target version is result a b c same none free places =
-    moves_map (λ old new both. begun_of target version is result old new both.1 both.0.1 both.0.0) (moves_where (where_both none free) (moves_after same places))
+    moves_map (λ old new both. begun_of target version is result old new both.1 both.0.1 both.0.0)
+    (moves_where (where_both none free) (moves_after same places))

@@ -68,12 +68,13 @@ module _ (boot : Bool) (name : List ℕ) (version : Version) (was : Bool) (old m
   pub the_same : (before : World) → HasWorld before (tree_of old) → before ≡ this
   the_same before has =
       let one = one_place (tree_of old) before.version version before.directory dir has.links links in
-      let stands : TreeStandsFor dir has.holds.files (tree_of old) = subst (λ (d : Names). TreeStandsFor d has.holds.files (tree_of old)) one.1 has.holds.stands_for in
+      let stands : TreeStandsFor dir has.holds.files (tree_of old) = subst (λ (d : Names). TreeStandsFor d has.holds.files (tree_of old)) one.1
+      has.holds.stands_for in
       let done = r.done has.holds.files stands in
       let meant = one_meaning has.holds.files before.held held before.format 2 has.holds.stands (subst (λ (f : Files). Stands f held 2) done.files_are means) in
       λ i. record { version = one.0 i; directory = one.1 i; format = meant.1 i; held = meant.0 i }
 
-  -- no link stood in the journal's place
+  -- no link was in the journal's place
   no_link : link_in (files_below dir (tree_of old) journal) ≡ None
   no_link = by was refl where
     file_there : (o : Option Node) → is_some (file_in o) ≡ true → link_in o ≡ None

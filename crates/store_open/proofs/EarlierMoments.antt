@@ -1,4 +1,4 @@
--- An opening behind whatever happened before: what a crash might have left so far, and then the world before the step or after it.
+-- An opening after whatever happened before: what a crash might have left so far, and then the world before the step or after it.
 use Rattle.std.proofs.Common.{inl, inr, Bool, Ok, refl, sym, subst}
 use Rattle.outside.specs.Tree.{Tree}
 use Rattle.outside.specs.History.{History, next, synced, tree_of, IsSettled}
@@ -19,10 +19,11 @@ since_opened P boot before start old new so_far each (inr since) =
     since_joined P start (next synced old) new (since_syncs P start old (next synced old) {E = Failed} (Ok tt) so_far refl)
     (since_map (HasEither boot (tree_of old) before) P (next synced old) new each since)
 
--- on a disk that is settled it holds of every image since the start of the call
+-- on a disk that is settled it holds of every crash state since the start of the call
 pub since_settled : (boot : Bool) (before : World) (old new : History) → IsSettled old → HasWorld before (tree_of old)
     → FromSyncOn (EachSince (HasEither boot (tree_of old) before)) old new → EachSince (HasEither boot (tree_of old) before) old new
 since_settled boot before old new settled has from =
     since_opened (HasEither boot (tree_of old) before) boot before old old new
-    (since_start (HasEither boot (tree_of old) before) old (λ image is. subst (HasEither boot (tree_of old) before) (sym (settled_image old settled image is)) (inl has)))
+    (since_start (HasEither boot (tree_of old) before) old (λ image is. subst (HasEither boot (tree_of old) before) (sym (settled_image old settled image is))
+    (inl has)))
     (λ tree is. is) from

@@ -27,7 +27,8 @@ use Rattle.store_open.proofs.Recovered.{one_place, untouched, elsewhere, kept}
 
 -- a refusal that leaves the world as it was
 pub not_taken : (boot : Bool) (e : OpenError) (old new : History) → ((before : World) → HasWorld before (tree_of old) → IsNotTaken before old new)
-    → ((version : Version) (directory : Names) → Resolves (tree_of old) (found version directory) → FromSyncOn (ChangesOnlyBelow directory) old new) → Tells e old new
+    → ((version : Version) (directory : Names) → Resolves (tree_of old) (found version directory) → FromSyncOn (ChangesOnlyBelow directory) old new)
+    → Tells e old new
     → Opens boot (Err e) old new
 not_taken boot e old new stays others tells = record {
   any_moment = λ before has. moment before (stays before has).images;
@@ -66,9 +67,11 @@ only_recovered boot e directory version result old new r links tells =
 pub exit_journal : (boot : Bool) (directory : Names) (version : Version) (e : JournalError) (f : OpenError) (old new : History) → HandsJournal e f
     → Recovers directory (Err e) old new → Resolves (tree_of old) (found version directory) → Opens boot (Err f) old new
 exit_journal boot directory version journal.Failed f old new hands r links =
-    subst (λ (x : OpenError). Opens boot (Err x) old new) (sym hands) (only_recovered boot refused.Failed directory version (Err journal.Failed) old new r links tt)
+    subst (λ (x : OpenError). Opens boot (Err x) old new) (sym hands) (only_recovered boot refused.Failed directory version (Err journal.Failed) old new r links
+    tt)
 exit_journal boot directory version journal.Memory f old new hands r links =
-    subst (λ (x : OpenError). Opens boot (Err x) old new) (sym hands) (only_recovered boot refused.Memory directory version (Err journal.Memory) old new r links tt)
+    subst (λ (x : OpenError). Opens boot (Err x) old new) (sym hands) (only_recovered boot refused.Memory directory version (Err journal.Memory) old new r links
+    tt)
 exit_journal boot directory version (journal.BadJournal path) f old new hands r links =
     let is = r.bad path refl in
     subst (λ (x : OpenError). Opens boot (Err x) old new) (sym hands)
@@ -103,6 +106,7 @@ pub exit_links : {T : Type 0} (boot : Bool) (a b : Option History) (e : LinkErro
 exit_links boot a b link.Failed f same hands bad_is = subst (λ (x : OpenError). Moves a b (Opens boot (Err x))) (sym hands)
     (moves_same same (λ h. nothing_done boot refused.Failed h h refl tt))
 exit_links boot a b (link.BadLink p) f same hands bad_is = subst (λ (x : OpenError). Moves a b (Opens boot (Err x))) (sym hands)
-    (moves_map (λ old new both. nothing_done boot (refused.BadLink p) old new both.1 (both.0, both.1)) (moves_where (bad_is p refl) (moves_same same (λ h. refl))))
+    (moves_map (λ old new both. nothing_done boot (refused.BadLink p) old new both.1 (both.0, both.1))
+    (moves_where (bad_is p refl) (moves_same same (λ h. refl))))
 exit_links boot a b link.Memory f same hands bad_is = subst (λ (x : OpenError). Moves a b (Opens boot (Err x))) (sym hands)
     (moves_same same (λ h. nothing_done boot refused.Memory h h refl tt))

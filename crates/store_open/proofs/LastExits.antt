@@ -34,7 +34,8 @@ module _ (boot : Bool) (name : List ℕ) (version : Version) (was : Bool) (old m
   abbrev after : Held
   after = opened boot image held
 
-  others : FromSyncOn (ChangesOnlyBelow (store name)) old new → (v : Version) (d : Names) → Resolves (tree_of old) (found v d) → FromSyncOn (ChangesOnlyBelow d) old new
+  others : FromSyncOn (ChangesOnlyBelow (store name)) old new → (v : Version) (d : Names) → Resolves (tree_of old) (found v d)
+      → FromSyncOn (ChangesOnlyBelow d) old new
   others is v d led = subst (λ (x : Names). FromSyncOn (ChangesOnlyBelow x) old new) (sym (one_place (tree_of old) v version d (store name) led links).1) is
 
   step_fails : (e : DiskErr) (f : OpenError) → HandsOn e f → Lays (store name) held after (Err e) mid new → Opens boot (Err f) old new
@@ -76,7 +77,13 @@ module _ (boot : Bool) (name : List ℕ) (version : Version) (was : Bool) (old m
   }
     where
       at_rest : IsAtRest (record { version = stored.place.version; directory = stored.place.directory; format = 2; held = stored.held }) new
-      at_rest = subst (λ (w : World). IsAtRest w new) (λ i. record { version = sym version_is i; directory = sym directory_is i; format = 2; held = sym held_is i })
+      at_rest = subst (λ (w : World). IsAtRest w new) (λ i. record {
+        version = sym version_is i;
+        directory = sym directory_is i;
+        format = 2;
+        held =
+            sym held_is i;
+      })
           (rests boot name version was old mid r links held means image read typed (Ok tt) new lays)
 
       step : (before : World) → before ≡ record { version = version; directory = store name; format = 2; held = held } → IsStep boot before stored
@@ -100,7 +107,8 @@ ends_read boot place e mid new fault same old links to = subst (λ (h : History)
 module _ (boot : Bool) (place : Place) (held : Held) (image : Image) (mid new : History) (means : Stands (files_below place.directory (tree_of mid)) held 2)
     (read : IsImageIn (tree_of mid) image) (typed : IsTypedHeld image.model.types held) where
   -- the step failed
-  pub ends_failed : (e : DiskErr) (f : OpenError) → HandsOn e f → Lays place.directory held (opened boot image held) (Err e) mid new → Ends boot place (Err f) mid new
+  pub ends_failed : (e : DiskErr) (f : OpenError) → HandsOn e f → Lays place.directory held (opened boot image held) (Err e) mid new
+      → Ends boot place (Err f) mid new
   ends_failed e f hands lays old links to = let at = in_store (tree_of old) place.version place.directory links in
       subst (λ (d : Names). Resolves (tree_of old) (found place.version d) → Recovers d (Ok to.journal) old mid → Stands (files_below d (tree_of mid)) held 2
       → Lays d held (opened boot image held) (Err e) mid new → Opens boot (Err f) old new)
@@ -108,7 +116,8 @@ module _ (boot : Bool) (place : Place) (held : Held) (image : Image) (mid new : 
       links to.recovers means lays
 
   -- the step was made
-  pub ends_open : (now : Held) → now ≡ opened boot image held → Lays place.directory held (opened boot image held) (Ok tt) mid new → EndsOpen boot place now image mid new
+  pub ends_open : (now : Held) → now ≡ opened boot image held → Lays place.directory held (opened boot image held) (Ok tt) mid new
+      → EndsOpen boot place now image mid new
   ends_open now made lays stored place_is held_is image_is old links to = let at = in_store (tree_of old) place.version place.directory links in
       subst (λ (d : Names). stored.place.directory ≡ d → Resolves (tree_of old) (found place.version d) → Recovers d (Ok to.journal) old mid
       → Stands (files_below d (tree_of mid)) held 2 → Lays d held (opened boot image held) (Ok tt) mid new → Opens boot (Ok stored) old new)

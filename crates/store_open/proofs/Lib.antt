@@ -11,4 +11,6 @@ pub mod EarlierMoments
 pub mod ReadStores
 pub mod OpenedFits
 pub mod OneImage
+pub mod GoodModels
+pub mod GoodImages
 pub mod MachineRuns

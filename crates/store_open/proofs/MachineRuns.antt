@@ -53,7 +53,7 @@ pub machine_step : IsMachineStep
 unfolding opened
 machine_step I image holds boot held = λ i. opened_held (record I { defaults = holds.defaults_are i; text = holds.text_is i }) held boot
 
--- A path behind the folder's name is in the folder of the image.
+-- A path after the folder's name is in the folder of the image.
 in_folder : (name : List ℕ) (rest : Names) → is_image (codes "image" ∷ name ∷ rest) ≡ true
 in_folder name rest = and_from _ _ (lt-ltb 1 _ (omega arith)) refl
 
@@ -67,7 +67,8 @@ module _ (I : Image) (folder : Folder) (W V : World) (old new : History) (disk_a
   only_recovered directory only = recovered I folder W V old new disk_at (led_to directory only) only.leads.links only.journal only.recovers
 
   kept_at : (directory : Names) → IsOnlyRecovered directory old new → IsKeptAt I folder W V old new
-  kept_at directory only = let now : Recovered I folder W V (led_to directory only) old new = only_recovered directory only in record { disk = now.disk; moments = now.moments }
+  kept_at directory only = let now : Recovered I folder W V (led_to directory only) old new = only_recovered directory only in
+      record { disk = now.disk; moments = now.moments }
 
   refusal_keeps : (boot : Bool) (e : OpenError) → IsRefusal e → Opens boot (Err e) old new → IsKeptAt I folder W V old new
   refusal_keeps boot refused.Failed is opens = absurd is
@@ -85,7 +86,8 @@ module _ (I : Image) (folder : Folder) (W V : World) (old new : History) (disk_a
 pub refusals_keep : RefusalsKeep
 refusals_keep I folder W V boot e old new disk_at is opens = refusal_keeps I folder W V old new disk_at boot e is opens
 
-module _ (I : Image) (good : IsGood I) (folder : Folder) (is : IsImageOfFolder I folder) (W V : World) (boot : Bool) (old new : History) (disk_at : DiskAt I folder W V old)
+module _ (I : Image) (good : IsGood I) (folder : Folder) (is : IsImageOfFolder I folder) (W V : World) (boot : Bool) (old new : History)
+    (disk_at : DiskAt I folder W V old)
     (idle : is_running W.job ≡ false) where
   -- the world of the store before the opening
   abbrev before : stored.World
@@ -110,20 +112,24 @@ module _ (I : Image) (good : IsGood I) (folder : Folder) (is : IsImageOfFolder I
       (read : IsImageIn tree image) where
     holds : HoldsImage I image
     holds =
-        let models = models_same (sources_in tree) sources alike image.model is.model image.manifest is.manifest image.templates is.templates image.text I.text read.made
+        let models = models_same (sources_in tree) sources alike image.model is.model image.manifest is.manifest image.templates is.templates image.text I.text
+        read.made
         is.made read.table table in
         record {
           types_are = models.types ∙ is.holds.types_are;
           os_is = models.os ∙ is.holds.os_is;
           defaults_are = models.content ∙ is.holds.defaults_are;
-          manifest_is = manifests_same (sources_in tree) sources alike image.model is.model image.manifest is.manifest image.templates is.templates image.text I.text
+          manifest_is = manifests_same (sources_in tree) sources alike image.model is.model image.manifest is.manifest image.templates is.templates image.text
+              I.text
               read.made is.made read.table table ∙ is.holds.manifest_is;
           templates_are = record {
-            sources = λ f. templates_same (sources_in tree) sources alike image.model is.model image.manifest is.manifest image.templates is.templates image.text I.text
+            sources = λ f. templates_same (sources_in tree) sources alike image.model is.model image.manifest is.manifest image.templates is.templates
+                image.text I.text
                 read.made is.made read.table table f ∙ is.holds.templates_are.sources f;
             trees = is.holds.templates_are.trees;
           };
-          text_is = texts_same (sources_in tree) sources alike image.model is.model image.manifest is.manifest image.templates is.templates image.text I.text read.made
+          text_is = texts_same (sources_in tree) sources alike image.model is.model image.manifest is.manifest image.templates is.templates image.text I.text
+              read.made
               is.made read.table table;
         }
 
@@ -138,7 +144,8 @@ module _ (I : Image) (good : IsGood I) (folder : Folder) (is : IsImageOfFolder I
       → (name : List ℕ) (rest : Names) → sources_in (tree_of new) (name ∷ rest) ≡ sources (name ∷ rest)
   alike_new version directory leads (inl same) name rest = ap (λ (h : History). sources_in (tree_of h) (name ∷ rest)) same ∙ alike_old name rest
   alike_new version directory leads (inr changes) name rest =
-      ap file_in (changes.tree (codes "image" ∷ name ∷ rest) ((dir_apart (tree_of old) version directory leads).image (codes "image" ∷ name ∷ rest) (in_folder name rest)))
+      ap file_in (changes.tree (codes "image" ∷ name ∷ rest) ((dir_apart (tree_of old) version directory leads).image (codes "image" ∷ name ∷ rest)
+      (in_folder name rest)))
       ∙ alike_old name rest
 
   -- ---- the stores
@@ -165,7 +172,11 @@ module _ (I : Image) (good : IsGood I) (folder : Folder) (is : IsImageOfFolder I
   -- ---- an opening that succeeded
 
   made : (store : Opened) → Opens boot (Ok store) old new → OpensTo I folder W V boot store.place store.held old new × HoldsImage I store.image
-  made store opens = (subst (λ (h : Held). OpensTo I folder W V boot store.place h old new) (sym held_is) opens_now, holds (tree_of new) alike store.image opens.done.image)
+  made store opens = (
+    subst (λ (h : Held). OpensTo I folder W V boot store.place h old new) (sym held_is) opens_now,
+    holds (tree_of new) alike store.image
+        opens.done.image,
+  )
     where
       step : IsStep boot before store
       step = opens.taken before there
@@ -186,8 +197,10 @@ module _ (I : Image) (good : IsGood I) (folder : Folder) (is : IsImageOfFolder I
       typed = subst (λ (t : List Row). IsTypedHeld t W.held) (holds (tree_of new) alike store.image opens.done.image).types_are step.typed
 
       opens_now : OpensTo I folder W V boot store.place (opened_held I W.held boot) old new
-      opens_now = opens_to I good folder W V boot old new disk_at store.place leads others typed idle step.format (moments (Ok store) opens) opens.done.rest.links
-          (subst (λ (h : Held). Stands (files_below store.place.directory (tree_of new)) h 2) held_is opens.done.rest.means) opens.done.rest.ready opens.done.rest.settled
+      opens_now = opens_to I good folder W V boot old new disk_at store.place leads others typed idle step.format (moments (Ok store) opens)
+          opens.done.rest.links
+          (subst (λ (h : Held). Stands (files_below store.place.directory (tree_of new)) h 2) held_is opens.done.rest.means) opens.done.rest.ready
+          opens.done.rest.settled
 
   -- ---- one that failed
 
@@ -241,7 +254,8 @@ module _ (I : Image) (good : IsGood I) (folder : Folder) (is : IsImageOfFolder I
 
     ill_typed : (key : List (List ℕ)) → MeansIllTyped directory key (tree_of new) → IsIllTyped I.types W.held key
     ill_typed key means =
-        subst (λ (h : Held). IsIllTyped I.types h key) (sym (one_meaning (files_below directory (tree_of new)) W.held means.held W.format 2 stands_now means.means).0)
+        subst (λ (h : Held). IsIllTyped I.types h key) (sym (one_meaning (files_below directory (tree_of new)) W.held means.held W.format 2 stands_now
+        means.means).0)
         (subst (λ (t : List Row). IsIllTyped t means.held key) (holds (tree_of new) alike means.image means.read).types_are means.ill)
 
   run_of : (result : Result Opened OpenError) → Opens boot result old new → HasRun I folder W V boot result old new

@@ -24,7 +24,8 @@ no_entries [] none = refl
 no_entries (e ∷ es) none = absurd (omega arith)
 
 -- Where the change has no entry, the step leaves what is held.
-pub empty_opens : (boot : Bool) (i : Image) (h : Held) (change : List Entry) → length change ≡ 0 → MakesStep boot i.model.content i.text h change → h ≡ opened boot i h
+pub empty_opens : (boot : Bool) (i : Image) (h : Held) (change : List Entry) → length change ≡ 0 → MakesStep boot i.model.content i.text h change
+    → h ≡ opened boot i h
 empty_opens boot i h change none makes = ap (laid h) (sym (no_entries change none)) ∙ change_opens boot i h change makes
 
 -- What is held after the step fits the image.
@@ -38,7 +39,8 @@ opened_fits i h boot now typed fit is = subst (FitsImage i.model.types i.model.c
   text = refl;
 })
   where
-    of_image : (q : List (List ℕ)) → is_of_image q ≡ true → or_else (cond (is_of_store q) (get h.live.values q) None) (get i.model.content.values q) ≡ get i.model.content.values q
+    of_image : (q : List (List ℕ)) → is_of_image q ≡ true → or_else (cond (is_of_store q) (get h.live.values q) None) (get i.model.content.values q) ≡ get
+        i.model.content.values q
     of_image q mine = by (is_of_store q) (ap not mine) where
       by : (s : Bool) → s ≡ false → or_else (cond s (get h.live.values q) None) (get i.model.content.values q) ≡ get i.model.content.values q
       by false e = refl

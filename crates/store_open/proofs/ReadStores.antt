@@ -25,7 +25,8 @@ use Rattle.store_open.specs.declared.open_error.OpenError.{OpenError}
 use Rattle.store_open.specs.declared.open_error.OpenError.TheVariants as refused
 
 -- the image that was read, with what its table is
-pub told_image : (a : Option History) (i : Image) → IsTable i.model.types → WhereTold a (λ h. IsImageOf (sources_in (tree_of h)) i.model i.manifest i.templates i.text)
+pub told_image : (a : Option History) (i : Image) → IsTable i.model.types
+    → WhereTold a (λ h. IsImageOf (sources_in (tree_of h)) i.model i.manifest i.templates i.text)
     → WhereTold a (λ h. IsImageIn (tree_of h) i)
 told_image a i table made = where_map (λ h is. record { made = is; table = table }) made
 
@@ -47,7 +48,14 @@ module _ (dir : Names) (a : Option History) where
       → (f ≡ refused.Memory) ⊎ ((f ≡ refused.OldFormat dir) × (format ≢ 2)) → WhereTold a (AtFault dir f)
   at_format held format f means (inl is) = subst Fault (sym is) (where_all (λ h. tt))
   at_format held format f means (inr is) = subst Fault (sym is.0)
-      (where_map (λ h s. (refl, record { held = held; means = subst (λ n. Stands (files_below dir (tree_of h)) held n) (one_format s.told format s.format_is is.1) s })) means)
+      (where_map (λ h s. (
+        refl,
+        record {
+          held = held;
+          means = subst (λ n. Stands (files_below dir (tree_of h)) held n)
+              (one_format s.told format s.format_is is.1) s;
+        },
+      )) means)
 
   pub at_image : {T : Type 0} (held : Held) (e : ImageError) (f : OpenError) → HandsImage e f → WhereTold a (λ h. Stands (files_below dir (tree_of h)) held 2)
       → ((file kind at : List ℕ) → IsErrOf {T = T} (Err e) (image.Bad file kind at) → WhereTold a (λ h. IsRefused (sources_in (tree_of h)) file (kind, at)))

@@ -44,10 +44,12 @@ module _ (name : List ℕ) (result : Result Bool JournalError) (old new : Histor
   ]
 
   -- a recovery, whether it was whole or not, keeps the world
-  world_images : (version : Version) (held : Held) (format : ℕ) → Resolves (tree_of old) (found version (store name)) → HoldsIn (store name) held format (tree_of old)
+  world_images : (version : Version) (held : Held) (format : ℕ) → Resolves (tree_of old) (found version (store name))
+      → HoldsIn (store name) held format (tree_of old)
       → FromSyncOn (EachSince (HasWorld (record { version = version; directory = store name; format = format; held = held }))) old new
   world_images version held format links holds = by r.sync_first (r.keeps holds.files holds.stands_for) where
-    by : (new ≡ old) ⊎ Touches (IsBelow (store name)) (next synced old) new → (new ≡ old) ⊎ EachSince (TreeStandsFor (store name) holds.files) (next synced old) new
+    by : (new ≡ old) ⊎ Touches (IsBelow (store name)) (next synced old) new → (new ≡ old) ⊎ EachSince (TreeStandsFor (store name) holds.files) (next synced old)
+        new
         → FromSyncOn (EachSince (HasWorld (world_of version (store name) format held))) old new
     by (inl same) keeps = inl same
     by (inr touches) (inl same) = inl same
@@ -57,7 +59,8 @@ module _ (name : List ℕ) (result : Result Bool JournalError) (old new : Histor
         (since_both (λ image. Resolves image (found version (store name))) (TreeStandsFor (store name) holds.files) (next synced old) new
         (links_since name old new touches (found version (store name)) links) keeps))
 
-  pub kept_at : (version : Version) (held : Held) (format : ℕ) → Resolves (tree_of old) (found version (store name)) → HoldsIn (store name) held format (tree_of old)
+  pub kept_at : (version : Version) (held : Held) (format : ℕ) → Resolves (tree_of old) (found version (store name))
+      → HoldsIn (store name) held format (tree_of old)
       → IsNotTaken (record { version = version; directory = store name; format = format; held = held }) old new
   kept_at version held format links holds = record {
     tree = record {
@@ -68,17 +71,28 @@ module _ (name : List ℕ) (result : Result Bool JournalError) (old new : Histor
     images = world_images version held format links holds;
   }
 
-  pub kept : (version : Version) → Resolves (tree_of old) (found version (store name)) → (before : World) → HasWorld before (tree_of old) → IsNotTaken before old new
+  pub kept : (version : Version) → Resolves (tree_of old) (found version (store name)) → (before : World) → HasWorld before (tree_of old)
+      → IsNotTaken before old new
   kept version links before has =
       let one = one_place (tree_of old) before.version version before.directory (store name) has.links links in
-      subst (λ (w : World). IsNotTaken w old new) (λ i. record { version = before.version; directory = sym one.1 i; format = before.format; held = before.held })
+      subst (λ (w : World). IsNotTaken w old new) (λ i. record {
+        version = before.version;
+        directory = sym one.1 i;
+        format = before.format;
+        held =
+            before.held;
+      })
       (kept_at before.version before.held before.format (subst (λ (d : Names). Resolves (tree_of old) (found before.version d)) one.1 has.links)
       (subst (λ (d : Names). HoldsIn d before.held before.format (tree_of old)) one.1 has.holds))
 
 pub ready_with : (name : List ℕ) (was : Bool) (old mid : History) → Recovers (store name) (Ok was) old mid → (held : Held)
     → Stands (files_below (store name) (tree_of mid)) held 2 → IsReadyWith (store name) held mid
 ready_with name was old mid r held means = record {
-  ready = record { no_journal = stands_without_journal (files_below (store name) (tree_of mid)) held 2 means; settled = λ path. r.settled (store name ++ path) };
+  ready = record {
+    no_journal = stands_without_journal (files_below (store name) (tree_of mid)) held 2 means;
+    settled =
+        λ path. r.settled (store name ++ path);
+  };
   means = means;
   settled = r.settled;
 }

@@ -1,4 +1,4 @@
--- A change of a data directory that stands for what is held, as it is laid over it.
+-- A change of a data directory that represents what is held, as it is laid over it.
 use Rattle.std.proofs.Common.{◌≡◌, inl, inr, List, Result, Ok, Err, refl, sym, subst}
 use Rattle.outside.specs.Names.{Names}
 use Rattle.outside.specs.Tree.{Tree}
@@ -66,8 +66,10 @@ module _ (batch : Changes) (change : List Entry) (follows : Follows change batch
   either_of ready tree (inl is) = inl (before_of ready tree is)
   either_of ready tree (inr is) = inr (after_of ready tree is)
 
-  moments : {E : Type 0} (result : Result Unit E) → Commits batch result old new → IsReadyWith batch.dir held old → EachSince (HoldsEither batch.dir held after) old new
-  moments result commits ready = since_map (StandsForEither batch old) (HoldsEither batch.dir held after) old new (either_of ready) (commits.any_moment ready.ready)
+  moments : {E : Type 0} (result : Result Unit E) → Commits batch result old new → IsReadyWith batch.dir held old
+      → EachSince (HoldsEither batch.dir held after) old new
+  moments result commits ready = since_map (StandsForEither batch old) (HoldsEither batch.dir held after) old new (either_of ready)
+      (commits.any_moment ready.ready)
 
   pub lays_made : {E : Type 0} (done : Unit) → Commits {E = E} batch (Ok done) old new → Lays batch.dir held after (Ok tt) old new
   lays_made {E = E} done commits = record {

@@ -23,14 +23,14 @@ pub may_not : (b : Bool) (P : Type 0) → ((b ≡ false → P) → ⊥) → (b �
 may_not false P not = (refl, λ p. not (λ e. p))
 may_not true P not = absurd (not (λ e. absurd (cc e)))
 
--- what is pending at a key that begins with `settings` may stand there where it is typed
+-- what is pending at a key that begins with `settings` may be there where it is typed
 pub may_typed : (types : List Row) (k : List (List ℕ)) (v : Pending) {E : Type 0} (r : Result Bool E) → IfOk r (λ t. IsTrue t ↔ IsTaken types k v)
     → is_prefix settings_key k ≡ true → IfOk r (λ m. IsTrue m ↔ MayPend types k v)
 may_typed types k v (Ok t) is setting = (λ true_is. record { setting = setting; taken = is.0 true_is }, λ may. is.1 may.taken)
 may_typed types k v (Err e) is setting = tt
 
 module _ (types : List Row) (held : Held) where
-  -- the live value at the key may stand there
+  -- the live value at the key may be there
   abbrev pub FineLive : List (List ℕ) → Type 0
   FineLive k = (v : Scalar) → get held.live.values k ≡ Some v → is_of_image k ≡ false → IsTyped types k v
 
@@ -100,12 +100,16 @@ module _ (types : List Row) (held : Held) where
   pub tx_none : TxUpTo None
   tx_none = fine_none bytes_total bytes_cmp-IsAntisymmetric (HasTypedPendingOf types held) held.pending
 
-  pub tx_next : (after : Option (List ℕ)) (tx : List ℕ) → IsLeastKeyAfter held.pending after tx → TxUpTo after → HasTypedPendingOf types held tx → TxUpTo (Some tx)
+  pub tx_next : (after : Option (List ℕ)) (tx : List ℕ) → IsLeastKeyAfter held.pending after tx → TxUpTo after → HasTypedPendingOf types held tx
+      → TxUpTo (Some tx)
   tx_next after tx next fine here = fine_next bytes_total bytes_cmp-IsAntisymmetric (HasTypedPendingOf types held) held.pending after tx next.least fine here
 
   -- a transaction that is not there has nothing pending
   absent : (tx : List ℕ) → get held.pending tx ≡ None → HasTypedPendingOf types held tx
-  absent tx none = record { pending = λ k v is. absurd (cc (sym is ∙ ap (λ (o : Option (FinMap key_cmp Pending)). get (unwrap_or o empty) k) none ∙ get-empty key_cmp k)) }
+  absent tx none = record {
+    pending = λ k v is. absurd (cc (sym is ∙ ap (λ (o : Option (FinMap key_cmp Pending)). get (unwrap_or o empty) k) none
+        ∙ get-empty key_cmp k));
+  }
 
   each_tx : (P : List ℕ → Type 0) (tx : List ℕ) → (IsSome (get held.pending tx) → HasTypedPendingOf types held tx) → HasTypedPendingOf types held tx
   each_tx P tx there = by (get held.pending tx) refl where

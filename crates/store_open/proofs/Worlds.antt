@@ -55,7 +55,8 @@ module _ (name : List ℕ) where
   sources_kept old new touches p = ap file_in (tree_untouched (IsBelow dir) old new touches (codes "image" ∷ p) (image_apart p))
 
 -- the files themselves, where no journal is there
-pub holds_plain : (directory : Names) (held : Held) (format : ℕ) (tree : Tree) → Stands (files_below directory tree) held format → HoldsIn directory held format tree
+pub holds_plain : (directory : Names) (held : Held) (format : ℕ) (tree : Tree) → Stands (files_below directory tree) held format
+    → HoldsIn directory held format tree
 holds_plain directory held format tree means = record {
   files = files_below directory tree;
   stands_for =

@@ -1,8 +1,9 @@
 -- Laws of openings: what one makes of the machine's run.
-use Rattle.std.specs.Prelude.{◌≡◌, [], ◌∷◌, codes, Bool, false, Result, Ok, Err}
+use Rattle.std.specs.Prelude.{◌≡◌, ℕ, List, [], ◌∷◌, codes, Bool, false, Result, Ok, Err}
 use Rattle.outside.specs.History.{History, tree_of, IsSettled}
 use Rattle.outside.specs.Since.{EachSince}
 use Rattle.settings_tree.specs.declared.held.Held.{Held}
+use Rattle.typed_settings.specs.Order.{IsTable}
 use Rattle.model_file.specs.declared.model.Model.{Model}
 use Rattle.metadata_links.specs.declared.manifest.Manifest.{Manifest}
 use Rattle.template_reader.specs.declared.templates.Templates.{Templates}
@@ -23,7 +24,7 @@ use Rattle.store_open.specs.declared.opened.Opened.{Opened}
 use Rattle.store_open.specs.declared.open_error.OpenError.{OpenError}
 use Rattle.store_open.specs.declared.open_error.OpenError.TheVariants as refused
 
--- On a disk that was settled, each image since the start of the opening has the world before the step or the world after it.
+-- On a disk that was settled, each crash state since the start of the opening has the world before the step or the world after it.
 abbrev pub OpensFromTheStart : Type 0
 OpensFromTheStart = (boot : Bool) (result : Result Opened OpenError) (old new : History) (before : stored.World) → Opens boot result old new → IsSettled old
     → HasWorld before (tree_of old) → EachSince (HasEither boot (tree_of old) before) old new
@@ -39,6 +40,12 @@ pub record IsImageOfFolder (I : Image) (folder : Folder) : Type 0 where
 -- What was read is the machine's image.
 abbrev pub HoldsImage : Image → own.Image → Type 0
 HoldsImage I image = Holds I image.model.types image.model.os image.model.content image.manifest image.templates image.text
+
+-- Where the folder makes the parts of an image, and its types are a table, they are those of an image of the machine, which is good.
+abbrev pub ImagesAreGood : Type 0
+ImagesAreGood = (folder : Folder) (model : Model) (manifest : Manifest) (templates : Templates) (text : List ℕ) → IsTable model.types
+    → IsImageOf (λ path. folder (codes "image" ∷ path)) model manifest templates text
+    → (I : Image) × IsGood I × IsImageOfFolder I folder × Holds I model.types model.os model.content manifest templates text
 
 -- With what was read of an image of the machine, the step is the machine's.
 abbrev pub IsMachineStep : Type 0
@@ -61,10 +68,11 @@ HasRun I folder W V boot (Err _) old new = ⊥
 
 -- Where the disk is at W, which has no running job, and the folder makes the image, an opening makes a part of a run.
 abbrev pub OpeningsRun : Type 0
-OpeningsRun = (I : Image) → IsGood I → (folder : Folder) → IsImageOfFolder I folder → (W V : World) (boot : Bool) (result : Result Opened OpenError) (old new : History)
+OpeningsRun = (I : Image) → IsGood I → (folder : Folder) → IsImageOfFolder I folder → (W V : World) (boot : Bool) (result : Result Opened OpenError)
+    (old new : History)
     → DiskAt I folder W V old → is_running W.job ≡ false → Opens boot result old new → HasRun I folder W V boot result old new
 
--- It was refused for what stands there, and neither the disk nor memory failed it.
+-- It was refused because of what is there, and neither the disk nor memory failed it.
 abbrev pub IsRefusal : OpenError → Type 0
 IsRefusal refused.Failed = ⊥
 IsRefusal refused.Memory = ⊥

@@ -69,7 +69,7 @@ pub record LeadTo (directory : Names) (tree : Tree) : Type 0 where
   pub version : Version
   pub links : Resolves tree (found version directory)
 
--- The data directory stands for something in this format.
+-- The data directory represents something in this format.
 pub record Means (directory : Names) (format : ℕ) (tree : Tree) : Type 0 where
   pub held : Held
   pub means : Stands (files_below directory tree) held format

@@ -37,7 +37,7 @@ AtFault directory (refused.IllTyped key) h = MeansIllTyped directory key (tree_o
 AtFault directory refused.Failed h = ⊤
 AtFault directory refused.Memory h = ⊤
 
--- The directory is ready, and its files stand for this in format 2.
+-- The directory is ready, and its files represent this in format 2.
 pub record IsReadyWith (directory : Names) (held : Held) (history : History) : Type 0 where
   pub ready : IsReady directory history
   pub means : Stands (files_below directory (tree_of history)) held 2
@@ -56,7 +56,8 @@ pub record IsKept (directory : Names) (held : Held) (old new : History) : Type 0
 pub record Lays (directory : Names) (held after : Held) (result : Result (Unit {0}) DiskErr) (old new : History) : Type 0 where
   pub any_moment : IsReadyWith directory held old → EachSince (HoldsEither directory held after) old new
   pub done : OnOk result (IsReadyWith directory held old → IsReadyWith directory after new)
-  pub failed : OnErr result (IsReadyWith directory held old → IsKept directory held old new ⊎ (HoldsIn directory after 2 (tree_of new) × (result ≡ Err device.Failed)))
+  pub failed : OnErr result (IsReadyWith directory held old → IsKept directory held old new
+      ⊎ (HoldsIn directory after 2 (tree_of new) × (result ≡ Err device.Failed)))
   pub touches : Touches (IsBelow directory) old new
 
 -- The journal of the directory was carried out, if there is one.
@@ -75,7 +76,8 @@ Ends boot place result mid new = (old : History) → Resolves (tree_of old) (fou
 
 -- And it ended with an open store in which this is held, with this image.
 abbrev pub EndsOpen : Bool → Place → Held → Image → History → History → Type 0
-EndsOpen boot place held image mid new = (stored : Opened) → stored.place ≡ place → stored.held ≡ held → stored.image ≡ image → Ends boot place (Ok stored) mid new
+EndsOpen boot place held image mid new = (stored : Opened) → stored.place ≡ place → stored.held ≡ held → stored.image ≡ image
+    → Ends boot place (Ok stored) mid new
 
 -- A refusal for another cause than the disk or memory comes without a failure of the disk.
 abbrev pub IsFaultless : OpenError → ℕ → ℕ → Type 0

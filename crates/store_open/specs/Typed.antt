@@ -36,7 +36,7 @@ pub record IsBadLive (types : List Row) (held : Held) (key : List (List ℕ)) : 
   pub setting : is_of_image key ≡ false
   pub untyped : IsTyped types key value → ⊥
 
--- What is pending for the key in the transaction may not stand there.
+-- What is pending for the key in the transaction may not be there.
 pub record IsBadPending (types : List Row) (held : Held) (tx : List ℕ) (key : List (List ℕ)) : Type 0 where
   pub value : Pending
   pub there : value_at held.pending tx key ≡ Some value

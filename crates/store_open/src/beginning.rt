@@ -63,7 +63,7 @@ fn begin<D: Disk>(alloc: Global, disk: &mut D, version: &Version) -> Result<(), 
 ///
 /// Where no store is there and the disk is settled, a crash leaves no store or the new one, whole; after Ok it is on the
 /// disk. `AlreadyThere` exactly where the links lead to a data directory, with its version; `BadLink` where a link of the
-/// chain is missing or bad; `Failed` where the disk failed, `Memory` where memory is wanting. Where the links lead to a data
+/// chain is missing or bad; `Failed` where the disk failed, `Memory` where it ran out of memory. Where the links lead to a data
 /// directory or a link is bad, nothing is changed, whatever is answered.
 pub fn init<D: Disk>(alloc: Global, disk: &mut D, version: &Version) -> Result<(), InitError>
     ensures begins { Moves (D.told disk.old) (D.told disk.new) (Begins version.now result) }

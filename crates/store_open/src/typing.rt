@@ -36,7 +36,7 @@ fn is_typed_pending(types: &Types, key: &Key, value: &Pending) -> Result<bool, A
     }
 }
 
-// Whether what is pending may stand at the key.
+// Whether what is pending may be at the key.
 fn may_pend(types: &Types, key: &Key, value: &Pending) -> Result<bool, AllocError>
     ensures { IfOk result (λ may. IsTrue may ↔ MayPend types.now key.now value.now) }
 {
@@ -46,7 +46,7 @@ fn may_pend(types: &Types, key: &Key, value: &Pending) -> Result<bool, AllocErro
     is_typed_pending(types, key, value)
 }
 
-// Whether the live value may stand at the key: it is typed, or the image says what stands there.
+// Whether the live value may be at the key: it is typed, or the image says what is there.
 fn may_live(types: &Types, key: &Key, value: &Scalar) -> Result<bool, AllocError>
     ensures { IfOk result (λ may. IsTrue may ↔ (is_of_image key.now ≡ false → IsTyped types.now key.now value.now)) }
 {
@@ -72,7 +72,7 @@ fn bad_live<'a>(types: &Types, held: &'a Held) -> Result<Option<&'a Key>, AllocE
     Ok(None)
 }
 
-// The first key of the transaction at which something is pending that may not stand there.
+// The first key of the transaction at which something is pending that may not be there.
 fn bad_pending_of<'a>(
     types: &Types,
     held: &'a Held,
@@ -113,7 +113,7 @@ fn ill_typed(key: &Key) -> Result<OpenError, AllocError>
     Ok(OpenError::IllTyped { key })
 }
 
-/// Checks that each live setting is typed, and that all that is pending may stand at its key: it is typed, or of a removal
+/// Checks that each live setting is typed, and that all that is pending may be at its key: it is typed, or of a removal
 /// the key is matched by a row. `IllTyped` exactly where this is not so, with the first such live setting, and else with the
 /// first such key of the first transaction. It takes a logarithmic step for each value, and the time of its check.
 #[tactic(auto, using(crate::proofs::Typings::typed_whole))]

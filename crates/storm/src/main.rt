@@ -1,7 +1,7 @@
-//! `storm FIRST COUNT`: random runs of the program `settings` over devices in memory, each beside the machine in memory.
+//! `storm FIRST COUNT`: deterministic simulation of the program `settings` over devices in memory, each run next to the reference model.
 //!
 //! It goes through so many seeds from the first on. A seed makes the same steps whenever it is run. Where the program and the machine
-//! differ, the seed is printed with the first difference, and the run ends with status 1; else it says how much was done.
+//! differ, the seed is printed with the first difference, and the run ends with exit status 1; else it says how much was done.
 #![tactic(auto)]
 
 mod host;

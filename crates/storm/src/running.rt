@@ -82,7 +82,7 @@ fn run_over(
     })
 }
 
-/// Makes the step, but for the failing of the power behind it. A disk whose calls fail ever serves again only behind a crash.
+/// Makes the step, but for the failing of the power after it. A disk whose calls fail ever serves again only after a crash.
 pub fn run_step(alloc: Global, disk: &mut MemoryDisk, step: &Step) -> Result<Seen, AllocError> {
     let statuses = step.statuses.to_vec(alloc)?;
     let inputs = inputs(alloc, step)?;

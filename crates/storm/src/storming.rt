@@ -38,7 +38,7 @@ fn crash(alloc: Global, disk: &mut MemoryDisk, dice: &mut Dice) -> Result<(), Al
     Ok(())
 }
 
-// One step: it is run, the power fails behind it or not, the machine follows, and becomes the one with which the next step goes on.
+// One step: it is run, the power fails after it or not, the machine follows, and becomes the one with which the next step goes on.
 fn go_step(
     alloc: Global,
     replay: &mut Replay,

@@ -15,7 +15,7 @@ pub struct Tally {
     pub programs: u64,
     /// Steps in which a call of the disk failed while the power stayed.
     pub faults: u64,
-    /// Steps behind which the power failed.
+    /// Steps after which the power failed.
     pub stops: u64,
     /// Moves to other versions.
     pub moves: u64,

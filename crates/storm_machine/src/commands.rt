@@ -13,7 +13,7 @@ use std::mem;
 use storm_steps::{Order, Sent, Step};
 use version_links::Version;
 
-// Why a command ends at what is told, if it does; None stands for a disk that failed.
+// Why a command ends at `told`, if it does; None represents a disk that failed.
 fn refused(told: Option<Told>) -> Option<Refusal> {
     match told {
         Some(Told::Refused(refusal)) => Some(Refusal::Refused(refusal)),

@@ -1,4 +1,4 @@
-//! What stands on a disk, beside the machine.
+//! What is on a disk, next to the machine.
 ghost use Rattle.std.specs.Prelude.{◌≡◌, length};
 
 use crate::programs::machine_lines;
@@ -94,7 +94,7 @@ fn bytes_in<'a>(host: &'a Host, name: &Text) -> Option<&'a [u8]> {
     }
 }
 
-// The files that are due: all that what is owed concerns, and all where the store was opened with another image.
+// The files that are due: all that what is owed affects, and all where the store was opened with another image.
 fn due_files(host: &Host, owed: &Owed) -> Result<Vec<Text>, AllocError> {
     if host.machine.held.image.as_slice() == host.image.text.as_slice() {
         return host.image.manifest.files_of(owed);
@@ -128,7 +128,7 @@ fn check_file(alloc: Global, host: &Host, disk: &MemoryDisk, name: &Text) -> Res
     same(alloc, shown, wanted, at)
 }
 
-/// Each file that isn't due has to be current, and each file the machine's; but behind a crash those that are due may be anything.
+/// Each file that isn't due has to be current, and each file the machine's; but after a crash those that are due may be anything.
 pub fn check_files(
     alloc: Global,
     replay: &Replay,
@@ -153,7 +153,7 @@ pub fn check_files(
     Ok(())
 }
 
-// Takes what stands on the disk for the file.
+// Takes what is on the disk for the file.
 fn take_file(
     alloc: Global,
     host: &mut Host,

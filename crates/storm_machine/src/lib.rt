@@ -1,4 +1,4 @@
-//! The machine in memory beside runs of the program `settings` over devices in memory: it goes through the events of a run, and
+//! The reference model next to runs of the program `settings` over devices in memory: it goes through the events of a run, and
 //! what was seen, what the store holds and each configuration file have to be its own.
 //!
 //! Where the disk failed it goes through the run once for each event that may have failed, until one agrees.

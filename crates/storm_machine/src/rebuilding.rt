@@ -82,7 +82,7 @@ fn set_pending(alloc: Global, host: &mut Host, held: &Held) -> Result<(), Troubl
     Ok(())
 }
 
-// The machine owes the same, beside the same image.
+// The machine owes the same, with the same image.
 fn set_owed(host: &mut Host, held: &Held) -> Result<(), AllocError> {
     host.machine.held.owed = held.owed.copy()?;
     host.machine.held.image = held.image.copy()?;

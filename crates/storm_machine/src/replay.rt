@@ -12,7 +12,7 @@ use settings_tree::Held;
 use std::alloc::{AllocError, Global};
 use version_links::Version;
 
-/// A host beside a run.
+/// A host next to a run.
 #[derive(Drop)]
 pub struct Replay {
     /// The host.
@@ -60,7 +60,7 @@ fn next_file(job: &Job) -> Option<&Text> {
     }
 }
 
-// What a failed write leaves at the path of the file that is next: what stood there.
+// What a failed write leaves at the path of the file that is next: what was there.
 fn left(host: &Host) -> Result<Option<Bytes>, AllocError> {
     let Some(file) = next_file(&host.machine.job) else {
         return Ok(None);

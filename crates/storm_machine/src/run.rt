@@ -24,6 +24,6 @@ pub struct Run<'a> {
     pub step: &'a Step,
     /// What was seen.
     pub seen: &'a Seen,
-    /// The disk behind it, and behind the crash that followed.
+    /// The disk after it, and after the crash that followed.
     pub disk: &'a MemoryDisk,
 }

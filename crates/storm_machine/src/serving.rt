@@ -10,7 +10,7 @@ use settings_machine::Request;
 use std::alloc::{AllocError, Global};
 use storm_steps::{Sent, Serving, Step};
 
-// The reply to what is told; None stands for a disk that failed.
+// The reply to `told`; None represents a disk that failed.
 fn printed(alloc: Global, told: Option<Told>) -> Result<Reply, AllocError> {
     match told {
         Some(told) => told.reply(alloc),
@@ -80,7 +80,7 @@ fn accepted<'a>(step: &'a Step, serving: &Serving) -> &'a [Sent] {
     step.sent.as_slice().get(..count).unwrap_or(&[])
 }
 
-// Whether the accept behind so many connections is asked for and fails.
+// Whether the accept after so many connections is asked for and fails.
 fn door_fails(step: &Step, serving: &Serving, count: usize) -> bool {
     let number = (count as u64).saturating_add(1);
     let is_asked = serving.connections.is_none_or(|most| count < most as usize);

@@ -18,7 +18,7 @@ fn settle(alloc: Global, host: &mut Host, disk: &mut MemoryDisk) -> Result<(), T
     }
 }
 
-/// The machine behind the run becomes one with which the next step goes on: that of the moved store, where the store was moved, and
+/// The machine after the run becomes one with which the next step goes on: that of the moved store, where the store was moved, and
 /// with the files of the disk. Where it is asked for, or the store was moved or the disk failed, the store is opened. The host is kept.
 pub fn go_on(
     alloc: Global,

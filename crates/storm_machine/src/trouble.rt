@@ -4,7 +4,7 @@ use std::alloc::{AllocError, AllocFailed, Global};
 /// What ends a seed too soon.
 #[derive(Drop)]
 pub enum Trouble {
-    /// Memory was wanting.
+    /// It ran out of memory.
     Memory,
     /// The program and the machine differ, as the text tells.
     Differs(String),

@@ -1,4 +1,4 @@
-//! Random numbers, alike for each seed.
+//! Random numbers that a seed determines.
 ghost use Rattle.std.specs.Prelude.{◌<◌};
 
 use rand_core::{Rng, SeedableRng};

@@ -1,4 +1,4 @@
-//! Random steps of a storm, alike for each seed: runs of the program `settings` with what clients send, the statuses of programs, and
+//! Random steps of a storm, which a seed determines: runs of the program `settings` with what clients send, the statuses of programs, and
 //! which calls of the disk fail.
 #![tactic(auto)]
 

@@ -6,7 +6,7 @@ use std::alloc::{AllocError, Global};
 pub struct Serving {
     /// Whether all is applied first.
     pub boot: bool,
-    /// How many turns are made behind each connection; without a number all.
+    /// How many turns are made after each connection; without a number all.
     pub slice: Option<u32>,
     /// How many connections are served; without a number all.
     pub connections: Option<u32>,
@@ -51,14 +51,14 @@ pub struct Sent {
 pub enum Fault {
     /// None.
     Never,
-    /// The one behind so many of the step.
+    /// The one after so many of the step.
     Once(u64),
-    /// Each one behind so many of the step.
+    /// Each one after so many of the step.
     Ever(u64),
 }
 
 impl Fault {
-    /// Whether no call behind a failing one serves.
+    /// Whether no call after a failing one serves.
     pub fn is_lasting(self) -> bool {
         match self {
             Fault::Ever(_) => true,
@@ -78,11 +78,11 @@ pub struct Step {
     pub sent: Vec<Sent>,
     /// The number of the accept that fails, from 1.
     pub accept_fails: Option<u64>,
-    /// The statuses with which programs end, 0 behind these. One without a status can't be run.
+    /// The statuses with which programs end, 0 after these. One without a status can't be run.
     pub statuses: Vec<Option<u16>>,
     /// Which calls of the disk fail.
     pub fault: Fault,
-    /// Whether the power fails behind it.
+    /// Whether the power fails after it.
     pub crash: bool,
 }
 

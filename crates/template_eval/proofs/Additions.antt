@@ -13,7 +13,7 @@ onto-both : (bytes more : List ℕ) (r : Rendered) → onto bytes (onto more r) 
 onto-both bytes more (Ok last) = ap (λ (l : List ℕ). Ok l) (sym (append_assoc bytes more last))
 onto-both bytes more (Err e) = refl
 
--- Bytes, and then what is rendered behind them.
+-- Bytes, and then what is rendered after them.
 pub adds_onto : (bytes : List ℕ) (r : Rendered) (old mid new : List ℕ) → mid ≡ old ++ bytes → Adds r mid new → Adds (onto bytes r) old new
 adds_onto bytes r old mid new first a = record {
   bytes = bytes ++ a.bytes;

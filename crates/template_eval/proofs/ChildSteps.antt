@@ -1,5 +1,6 @@
 -- The children of a path, one after another.
-use Rattle.std.proofs.Common.{◌≡◌, ◌<◌, ℕ, suc, List, [], ◌∷◌, ◌++◌, length, map, Bool, true, false, cond, Option, Some, None, refl, sym, ◌∙◌, ap, arith, append-nil, length-append}
+use Rattle.std.proofs.Common.{◌≡◌, ◌<◌, ℕ, suc, List, [], ◌∷◌, ◌++◌, length, map, Bool, true}
+use Rattle.std.proofs.Common.{false, cond, Option, Some, None, refl, sym, ◌∙◌, ap, arith, append-nil, length-append}
 use Rattle.std.specs.Prelude.{◌==◌, ◌&&◌, not, slice_get, is_some, IfSome, IfNone}
 use Rattle.std.specs.Borrow.{Bor}
 use Rattle.std.specs.Ordering.{is_eq, is_gt}
@@ -31,8 +32,10 @@ module _ {X : Type 0} (values : FinMap key_cmp X) (p : Path) where
   -- The next child is the first of those that are left.
   pub next_child_is : (after key : Path) (x : X) → IsNextChild values p after key x → children_past after ≡ child p (name_at p key) ∷ children_past key
   next_child_is after key x next =
-      ap (λ es. map (λ e. child p e.0) es) (walk_next bytes_total bytes_cmp-IsAntisymmetric (names_below values p) (name_below p after) (name_at p key) tt next.next)
-      ∙ ap (λ (o : Option (List ℕ)). child p (name_at p key) ∷ map (λ e. child p e.0) (entries_past (names_below values p) o)) (sym (name_there p key next.begins next.longer))
+      ap (λ es. map (λ e. child p e.0) es) (walk_next bytes_total bytes_cmp-IsAntisymmetric (names_below values p) (name_below p after) (name_at p key) tt
+      next.next)
+      ∙ ap (λ (o : Option (List ℕ)). child p (name_at p key) ∷ map (λ e. child p e.0) (entries_past (names_below values p) o))
+      (sym (name_there p key next.begins next.longer))
 
   -- Where no name is left, no child is.
   pub no_child_is : (after : Path) → HasNoneAfter (names_below values p) (name_below p after) → children_past after ≡ []
@@ -53,7 +56,8 @@ module _ {X : Type 0} (values : FinMap key_cmp X) (p : Path) where
   -- All children are past the path itself.
   pub children_start : children_below values p ≡ children_past p
   children_start =
-      mapped (entries (names_below values p)) ∙ ap (λ es. map (λ e. child p e.0) es) (sym (walk_start bytes_total bytes_cmp-IsAntisymmetric (names_below values p)))
+      mapped (entries (names_below values p)) ∙ ap (λ es. map (λ e. child p e.0) es)
+      (sym (walk_start bytes_total bytes_cmp-IsAntisymmetric (names_below values p)))
       ∙ ap (λ (o : Option (List ℕ)). map (λ e. child p e.0) (entries_past (names_below values p) o)) (sym (name_of_itself (is_prefix p p)))
 
   -- Nothing is below a path: no value, and no child.
@@ -70,20 +74,25 @@ module _ {X : Type 0} (values : FinMap key_cmp X) (p : Path) where
   not_first [] low = refl
   not_first (n ∷ rest) low = absurd (cc low)
 
-  -- Where the first key from a path on goes on beyond it, no value stands at the path.
+  -- Where the first key from a path on goes on beyond it, no value is at the path.
   pub no_value : (k : Path) (x : X) → IsLeastBelow values p None k x → length p < length k → get values p ≡ None
-  no_value k x first longer = nothing (get values p) (λ has. by (behind p k first.begins).0 (behind p k first.begins).1 (first.least p tt (prefix_itself p) has)) where
-    by : (rest : Path) → k ≡ p ++ rest → is_gt (key_cmp k p) ≡ false → ⊥
-    by rest is low =
-        let empty : rest ≡ [] = not_first rest (ap is_gt (sym (ap (λ (l : Path). key_cmp l p) is ∙ ap (key_cmp (p ++ rest)) (sym (append-nil p)) ∙ cmp-behind p rest [])) ∙ low) in
-        omega (arith, ap length is, length-append p rest, ap length empty)
+  no_value k x first longer = nothing (get values p) (λ has. by (behind p k first.begins).0 (behind p k first.begins).1
+      (first.least p tt (prefix_itself p) has)) where
+        by : (rest : Path) → k ≡ p ++ rest → is_gt (key_cmp k p) ≡ false → ⊥
+        by rest is low =
+            let empty : rest ≡ [] = not_first rest (ap is_gt (sym (ap (λ (l : Path). key_cmp l p) is ∙ ap (key_cmp (p ++ rest)) (sym (append-nil p))
+            ∙ cmp-behind p rest [])) ∙ low) in
+            omega (arith, ap length is, length-append p rest, ap length empty)
 
   -- And the path has a child.
-  pub some_child : (k : Path) (x : X) → IsLeastBelow values p None k x → length p < length k → (c : Place) × (cs : List Place) × (children_below values p ≡ c ∷ cs)
+  pub some_child : (k : Path) (x : X) → IsLeastBelow values p None k x → length p < length k
+      → (c : Place) × (cs : List Place) × (children_below values p ≡ c ∷ cs)
   some_child k x first longer =
-      by (entries (names_below values p)) refl (sym (get-entries (names_below values p) (name_at p k)) ∙ name_of_key p values k x (name_at p k) first.stands (name_there p k first.begins longer))
+      by (entries (names_below values p)) refl (sym (get-entries (names_below values p) (name_at p k))
+      ∙ name_of_key p values k x (name_at p k) first.stands (name_there p k first.begins longer))
     where
-      by : (es : List (List ℕ × Unit {0})) → entries (names_below values p) ≡ es → find bytes_cmp (name_at p k) (entries (names_below values p)) ≡ Some tt → (c : Place) × (cs : List Place) × (children_below values p ≡ c ∷ cs)
+      by : (es : List (List ℕ × Unit {0})) → entries (names_below values p) ≡ es → find bytes_cmp (name_at p k) (entries (names_below values p)) ≡ Some tt
+          → (c : Place) × (cs : List Place) × (children_below values p ≡ c ∷ cs)
       by [] is has = absurd (cc (sym has ∙ ap (find bytes_cmp (name_at p k)) is))
       by (e ∷ es) is has = (child p e.0, map (child p) (map (λ e. e.0) es), ap (λ (l : List (List ℕ × Unit {0})). map (child p) (map (λ e. e.0) l)) is)
 
@@ -91,7 +100,8 @@ module _ {X : Type 0} (values : FinMap key_cmp X) (p : Path) where
   nonzero n = grind arith
 
   -- Whether there is no child past a key.
-  pub no_children : (after : Path) (o : Option (Bor Path × Bor X)) (b : Bool) → is_some o ≡ not b → IfSome o (λ e. IsNextChild values p after e.0.now e.1.now) → IfNone o (HasNoneAfter (names_below values p) (name_below p after))
+  pub no_children : (after : Path) (o : Option (Bor Path × Bor X)) (b : Bool) → is_some o ≡ not b → IfSome o (λ e. IsNextChild values p after e.0.now e.1.now)
+      → IfNone o (HasNoneAfter (names_below values p) (name_below p after))
       → b ≡ (length (children_past after) == 0)
   no_children after None true is next none = sym (ap (λ (l : List Place). length l == 0) (no_child_is after none))
   no_children after None false is next none = absurd (cc is)

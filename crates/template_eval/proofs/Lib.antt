@@ -7,3 +7,5 @@ pub mod ChildSteps
 pub mod Additions
 pub mod Trees
 pub mod Entries
+pub mod Quoted
+pub mod ReadBack

@@ -1,5 +1,6 @@
 -- Keys that are made of others.
-use Rattle.std.proofs.Common.{◌≡◌, ◌<◌, ◌+◌, ℕ, List, [], ◌∷◌, ◌++◌, length, take, Bool, true, false, Some, None, IsTrue, refl, sym, ◌∙◌, ap, arith, append_assoc, append-nil, length-append}
+use Rattle.std.proofs.Common.{◌≡◌, ◌<◌, ◌+◌, ℕ, List, [], ◌∷◌, ◌++◌, length, take, Bool, true}
+use Rattle.std.proofs.Common.{false, Some, None, IsTrue, refl, sym, ◌∙◌, ap, arith, append_assoc, append-nil, length-append}
 use Rattle.std.specs.Prelude.{slice_index_or, if◌then◌else◌}
 use Rattle.json_trees.proofs.Segments.{is_key-first}
 use Rattle.key_names.specs.Key.{is_key, is_prefix}
@@ -15,7 +16,8 @@ some_if true k j is = (refl, cc is)
 some_if false k j is = absurd (cc is)
 
 -- The loop goes on with a key that is longer by a name.
-pub goes_on : (key names joined k : Path) (i : ℕ) (n : List ℕ) → i < length names → joined ≡ key ++ take i names → n ≡ slice_index_or names i [] → Some k ≡ (if is_key (joined ++ n ∷ []) then Some (joined ++ n ∷ []) else None)
+pub goes_on : (key names joined k : Path) (i : ℕ) (n : List ℕ) → i < length names → joined ≡ key ++ take i names → n ≡ slice_index_or names i []
+    → Some k ≡ (if is_key (joined ++ n ∷ []) then Some (joined ++ n ∷ []) else None)
     → (k ≡ key ++ take (i + 1) names) × (0 < i + 1 → IsTrue (is_key k))
 goes_on key names joined k i n low is name made =
     let found = some_if (is_key (joined ++ n ∷ [])) k (joined ++ n ∷ []) made in
@@ -49,5 +51,6 @@ no_rest (n ∷ rest) e = absurd (omega arith)
 pub is_child : (p k : Path) → is_prefix p k ≡ true → length k ≡ length p + 1 → k ≡ p ++ name_at p k ∷ []
 is_child p k begins one =
     let parts = parted p k begins (omega arith) in
-    parts.1 ∙ ap (λ (l : Path). (p ++ name_at p k ∷ []) ++ l) (no_rest parts.0 (omega (arith, ap length parts.1, length-append (p ++ name_at p k ∷ []) parts.0, length-append p (name_at p k ∷ []))))
+    parts.1 ∙ ap (λ (l : Path). (p ++ name_at p k ∷ []) ++ l) (no_rest parts.0
+    (omega (arith, ap length parts.1, length-append (p ++ name_at p k ∷ []) parts.0, length-append p (name_at p k ∷ []))))
     ∙ append-nil (p ++ name_at p k ∷ [])

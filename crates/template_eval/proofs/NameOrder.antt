@@ -1,5 +1,6 @@
 -- Keys below a path are ordered by the names directly below it.
-use Rattle.std.proofs.Common.{◌≡◌, ◌<◌, ℕ, List, [], ◌∷◌, ◌++◌, length, Bool, true, false, cond, Option, Some, None, refl, sym, ◌∙◌, ap, subst, arith, zero, suc, length-append}
+use Rattle.std.proofs.Common.{◌≡◌, ◌<◌, ℕ, List, [], ◌∷◌, ◌++◌, length, Bool, true, false, cond}
+use Rattle.std.proofs.Common.{Option, Some, None, refl, sym, ◌∙◌, ap, subst, arith, zero, suc, length-append}
 use Rattle.std.specs.Prelude.{slice_get, slice_index_or}
 use Rattle.std.specs.declared.cmp.Ordering.{Ordering}
 use Rattle.std.specs.declared.cmp.Ordering.TheVariants.{Less, Equal, Greater}
@@ -15,17 +16,17 @@ use Rattle.template_eval.specs.Children.{name_below}
 use Rattle.template_eval.specs.Steps.{name_at}
 use Rattle.key_names.proofs.Prefixes.{behind}
 
--- Keys that begin with a path are ordered by what they have behind it.
+-- Keys that begin with a path are ordered by what they have after it.
 pub cmp-behind : (p a b : Path) → key_cmp (p ++ a) (p ++ b) ≡ key_cmp a b
 cmp-behind [] a b = refl
 cmp-behind (n ∷ p) a b = ap (λ r. ordering_then r (key_cmp (p ++ a) (p ++ b))) (tied_itself bytes_total n) ∙ cmp-behind p a b
 
--- The first name behind a path, by its index in the key.
+-- The first name after a path, by its index in the key.
 pub get-behind : (p a : Path) → slice_get (p ++ a) (length p) ≡ slice_get a 0
 get-behind [] a = refl
 get-behind (n ∷ p) a = get-behind p a
 
--- The same, where an empty name stands for none.
+-- The same, where an empty name represents none.
 pub index-behind : (p a : Path) → slice_index_or (p ++ a) (length p) [] ≡ slice_index_or a 0 []
 index-behind [] a = refl
 index-behind (n ∷ p) a = index-behind p a
@@ -42,7 +43,8 @@ not_less : (r : Ordering) → ordering_then Greater r ≡ Less → ⊥
 not_less r e = cc e
 
 -- A later key that has another name has a later one.
-first_later : (a k : Path) → key_cmp a k ≡ Less → (slice_get a 0 ≡ slice_get k 0 → ⊥) → (0 < length k) × IsPast bytes_cmp (slice_get a 0) (slice_index_or k 0 [])
+first_later : (a k : Path) → key_cmp a k ≡ Less → (slice_get a 0 ≡ slice_get k 0 → ⊥) → (0 < length k) × IsPast bytes_cmp (slice_get a 0)
+    (slice_index_or k 0 [])
 first_later [] [] less other = absurd (other refl)
 first_later (x ∷ a) [] less other = absurd (cc less)
 first_later [] (y ∷ k) less other = (omega arith, tt)
@@ -83,27 +85,35 @@ key_later p a k s begins has past =
     let longer : is_prefix p k ≡ true = begins-name_below p k s has in
     let firsts = behind p a begins in
     let seconds = behind p k longer in
-    let named : name_below p a ≡ slice_get firsts.0 0 = name_below-begins p a begins ∙ ap (λ (x : Path). slice_get x (length p)) firsts.1 ∙ get-behind p firsts.0 in
-    let first : slice_get seconds.0 0 ≡ Some s = sym (name_below-begins p k longer ∙ ap (λ (x : Path). slice_get x (length p)) seconds.1 ∙ get-behind p seconds.0) ∙ has in
+    let named : name_below p a ≡ slice_get firsts.0 0 = name_below-begins p a begins ∙ ap (λ (x : Path). slice_get x (length p)) firsts.1
+    ∙ get-behind p firsts.0 in
+    let first : slice_get seconds.0 0 ≡ Some s = sym (name_below-begins p k longer ∙ ap (λ (x : Path). slice_get x (length p)) seconds.1
+    ∙ get-behind p seconds.0) ∙ has in
     ap (λ (x : Path). key_cmp x k) firsts.1 ∙ ap (key_cmp (p ++ firsts.0)) seconds.1 ∙ cmp-behind p firsts.0 seconds.0
     ∙ later_first firsts.0 seconds.0 s (subst (λ (o : Option (List ℕ)). IsPast bytes_cmp o s) named past) first
 
--- What is said of a key's first name behind a path, said of the key.
-lifted : (p a k r : Path) (o : Option (List ℕ)) → k ≡ p ++ r → o ≡ slice_get a 0 → (0 < length r) × IsPast bytes_cmp (slice_get a 0) (slice_index_or r 0 []) → (length p < length k) × IsPast bytes_cmp o (name_at p k)
+-- What is said of a key's first name after a path, said of the key.
+lifted : (p a k r : Path) (o : Option (List ℕ)) → k ≡ p ++ r → o ≡ slice_get a 0 → (0 < length r) × IsPast bytes_cmp (slice_get a 0) (slice_index_or r 0 [])
+    → (length p < length k) × IsPast bytes_cmp o (name_at p k)
 lifted p a k r o is named found = (
   omega (arith, ap length is, length-append p r, found.0),
-  subst (λ (n : List ℕ). IsPast bytes_cmp o n) (sym (ap (name_at p) is ∙ index-behind p r)) (subst (λ (x : Option (List ℕ)). IsPast bytes_cmp x (slice_index_or r 0 [])) (sym named) found.1),
+  subst (λ (n : List ℕ). IsPast bytes_cmp o n) (sym (ap (name_at p) is ∙ index-behind p r))
+      (subst (λ (x : Option (List ℕ)). IsPast bytes_cmp x (slice_index_or r 0 [])) (sym named) found.1),
 )
 
 -- A later key that has another name below a path goes on beyond it, by a later name.
-pub name_later : (p a k : Path) → is_prefix p a ≡ true → is_prefix p k ≡ true → key_cmp a k ≡ Less → (slice_get a (length p) ≡ slice_get k (length p) → ⊥) → (length p < length k) × IsPast bytes_cmp (name_below p a) (name_at p k)
+pub name_later : (p a k : Path) → is_prefix p a ≡ true → is_prefix p k ≡ true → key_cmp a k ≡ Less → (slice_get a (length p) ≡ slice_get k (length p) → ⊥)
+    → (length p < length k) × IsPast bytes_cmp (name_below p a) (name_at p k)
 name_later p a k begins longer less other =
     let firsts = behind p a begins in
     let seconds = behind p k longer in
-    let low : key_cmp firsts.0 seconds.0 ≡ Less = sym (cmp-behind p firsts.0 seconds.0) ∙ sym (ap (λ (x : Path). key_cmp x k) firsts.1 ∙ ap (key_cmp (p ++ firsts.0)) seconds.1) ∙ less in
-    let named : name_below p a ≡ slice_get firsts.0 0 = name_below-begins p a begins ∙ ap (λ (x : Path). slice_get x (length p)) firsts.1 ∙ get-behind p firsts.0 in
+    let low : key_cmp firsts.0 seconds.0 ≡ Less = sym (cmp-behind p firsts.0 seconds.0)
+    ∙ sym (ap (λ (x : Path). key_cmp x k) firsts.1 ∙ ap (key_cmp (p ++ firsts.0)) seconds.1) ∙ less in
+    let named : name_below p a ≡ slice_get firsts.0 0 = name_below-begins p a begins ∙ ap (λ (x : Path). slice_get x (length p)) firsts.1
+    ∙ get-behind p firsts.0 in
     let apart : slice_get firsts.0 0 ≡ slice_get seconds.0 0 → ⊥ =
-    λ same. other (ap (λ (x : Path). slice_get x (length p)) firsts.1 ∙ get-behind p firsts.0 ∙ same ∙ sym (ap (λ (x : Path). slice_get x (length p)) seconds.1 ∙ get-behind p seconds.0)) in
+    λ same. other (ap (λ (x : Path). slice_get x (length p)) firsts.1 ∙ get-behind p firsts.0 ∙ same
+    ∙ sym (ap (λ (x : Path). slice_get x (length p)) seconds.1 ∙ get-behind p seconds.0)) in
     lifted p firsts.0 k seconds.0 (name_below p a) seconds.1 named (first_later firsts.0 seconds.0 low apart)
 
 -- Of two keys that go on beyond a path, one that isn't later has no later name.
@@ -113,9 +123,12 @@ name_le p k q s t has other low =
     let along : is_prefix p q ≡ true = begins-name_below p q t other in
     let seconds = behind p k longer in
     let thirds = behind p q along in
-    let first : slice_get seconds.0 0 ≡ Some s = sym (name_below-begins p k longer ∙ ap (λ (x : Path). slice_get x (length p)) seconds.1 ∙ get-behind p seconds.0) ∙ has in
-    let second : slice_get thirds.0 0 ≡ Some t = sym (name_below-begins p q along ∙ ap (λ (x : Path). slice_get x (length p)) thirds.1 ∙ get-behind p thirds.0) ∙ other in
-    first_le seconds.0 thirds.0 s t first second (ap is_gt (sym (cmp-behind p seconds.0 thirds.0) ∙ sym (ap (λ (x : Path). key_cmp x q) seconds.1 ∙ ap (key_cmp (p ++ seconds.0)) thirds.1)) ∙ low)
+    let first : slice_get seconds.0 0 ≡ Some s = sym (name_below-begins p k longer ∙ ap (λ (x : Path). slice_get x (length p)) seconds.1
+    ∙ get-behind p seconds.0) ∙ has in
+    let second : slice_get thirds.0 0 ≡ Some t = sym (name_below-begins p q along ∙ ap (λ (x : Path). slice_get x (length p)) thirds.1 ∙ get-behind p thirds.0)
+    ∙ other in
+    first_le seconds.0 thirds.0 s t first second (ap is_gt (sym (cmp-behind p seconds.0 thirds.0)
+    ∙ sym (ap (λ (x : Path). key_cmp x q) seconds.1 ∙ ap (key_cmp (p ++ seconds.0)) thirds.1)) ∙ low)
 
 get-index : (k : Path) (n : ℕ) → n < length k → slice_get k n ≡ Some (slice_index_or k n [])
 get-index [] n h = absurd (omega arith)

@@ -31,7 +31,8 @@ module _ {X : Type 0} (p : Path) where
   later : (e : Path × X) (es : List (Path × X)) (q : List ℕ) → Named es q → Named (e ∷ es) q
   later e es q found = (found.0, there (eq_by_cmp key_cmp found.0 e.0) e.1 (find key_cmp found.0 es) found.1, found.2)
 
-  here : (e : Path × X) (es : List (Path × X)) (q s : List ℕ) (b : Bool) → name_below p e.0 ≡ Some s → eq_by_cmp bytes_cmp q s ≡ b → IsSome (cond b (Some tt) (find bytes_cmp q (names es)))
+  here : (e : Path × X) (es : List (Path × X)) (q s : List ℕ) (b : Bool) → name_below p e.0 ≡ Some s → eq_by_cmp bytes_cmp q s ≡ b
+      → IsSome (cond b (Some tt) (find bytes_cmp q (names es)))
       → (IsSome (find bytes_cmp q (names es)) → Named es q) → Named (e ∷ es) q
   here e es q s true is same has rest = (
     e.0,
@@ -41,7 +42,8 @@ module _ {X : Type 0} (p : Path) where
   here e es q s false is same has rest = later e es q (rest has)
 
   first_or_later : (e : Path × X) (es : List (Path × X)) (q : List ℕ) (o : Option (List ℕ)) → name_below p e.0 ≡ o
-      → IsSome (find bytes_cmp q (cons_option (option_map (λ (name : List ℕ). (name, tt)) o) (names es))) → (IsSome (find bytes_cmp q (names es)) → Named es q) → Named (e ∷ es) q
+      → IsSome (find bytes_cmp q (cons_option (option_map (λ (name : List ℕ). (name, tt)) o) (names es))) → (IsSome (find bytes_cmp q (names es)) → Named es q)
+      → Named (e ∷ es) q
   first_or_later e es q None is has rest = later e es q (rest has)
   first_or_later e es q (Some s) is has rest = here e es q s (eq_by_cmp bytes_cmp q s) is refl has rest
 
@@ -50,34 +52,40 @@ module _ {X : Type 0} (p : Path) where
   from_key [] q has = absurd (grind arith)
   from_key (e ∷ es) q has = first_or_later e es q (name_below p e.0) refl has (from_key es q)
 
-  first_name : (es : List (Path × X)) (s : List ℕ) (o : Option (List ℕ)) → o ≡ Some s → find bytes_cmp s (cons_option (option_map (λ (name : List ℕ). (name, tt)) o) (names es)) ≡ Some tt
+  first_name : (es : List (Path × X)) (s : List ℕ) (o : Option (List ℕ)) → o ≡ Some s
+      → find bytes_cmp s (cons_option (option_map (λ (name : List ℕ). (name, tt)) o) (names es)) ≡ Some tt
   first_name es s None is = absurd (cc is)
   first_name es s (Some t) is =
       let one : t ≡ s = cc is in
       cond-true _ (Some tt) (find bytes_cmp s (names es)) (ap (eq_by_cmp bytes_cmp s) one ∙ ap is_eq (tied_itself bytes_total s))
 
-  skipped : (es : List (Path × X)) (s : List ℕ) (o : Option (List ℕ)) → find bytes_cmp s (names es) ≡ Some tt → find bytes_cmp s (cons_option (option_map (λ (name : List ℕ). (name, tt)) o) (names es)) ≡ Some tt
+  skipped : (es : List (Path × X)) (s : List ℕ) (o : Option (List ℕ)) → find bytes_cmp s (names es) ≡ Some tt
+      → find bytes_cmp s (cons_option (option_map (λ (name : List ℕ). (name, tt)) o) (names es)) ≡ Some tt
   skipped es s None is = is
   skipped es s (Some t) is = either (eq_by_cmp bytes_cmp s t) _ is
 
-  name_in : (e : Path × X) (es : List (Path × X)) (k : Path) (x : X) (s : List ℕ) (b : Bool) → eq_by_cmp key_cmp k e.0 ≡ b → cond b (Some e.1) (find key_cmp k es) ≡ Some x → name_below p k ≡ Some s
+  name_in : (e : Path × X) (es : List (Path × X)) (k : Path) (x : X) (s : List ℕ) (b : Bool) → eq_by_cmp key_cmp k e.0 ≡ b
+      → cond b (Some e.1) (find key_cmp k es) ≡ Some x → name_below p k ≡ Some s
       → (find key_cmp k es ≡ Some x → find bytes_cmp s (names es) ≡ Some tt) → find bytes_cmp s (names (e ∷ es)) ≡ Some tt
   name_in e es k x s true same has named rest =
       first_name es s (name_below p e.0) (ap (name_below p) (sym (key_cmp-IsAntisymmetric k e.0 (tied_by (key_cmp k e.0) same))) ∙ named)
   name_in e es k x s false same has named rest = skipped es s (name_below p e.0) (rest has)
 
   -- Each key gives its name.
-  to_name : (es : List (Path × X)) (k : Path) (x : X) (s : List ℕ) → find key_cmp k es ≡ Some x → name_below p k ≡ Some s → find bytes_cmp s (names es) ≡ Some tt
+  to_name : (es : List (Path × X)) (k : Path) (x : X) (s : List ℕ) → find key_cmp k es ≡ Some x → name_below p k ≡ Some s
+      → find bytes_cmp s (names es) ≡ Some tt
   to_name [] k x s has named = absurd (cc has)
   to_name (e ∷ es) k x s has named = name_in e es k x s (eq_by_cmp key_cmp k e.0) refl has named (λ rest. to_name es k x s rest named)
 
   -- A name of the set comes from a key.
-  pub key_of_name : (values : FinMap key_cmp X) (q : List ℕ) → IsSome (get (names_below values p) q) → (k : Path) × IsSome (get values k) × (name_below p k ≡ Some q)
+  pub key_of_name : (values : FinMap key_cmp X) (q : List ℕ) → IsSome (get (names_below values p) q)
+      → (k : Path) × IsSome (get values k) × (name_below p k ≡ Some q)
   key_of_name values q has =
       let found = from_key (entries values) q (subst IsSome (get-from_entries bytes_total (names (entries values)) q) has) in
       (found.0, subst IsSome (sym (get-entries values found.0)) found.1, found.2)
 
   -- The name of a key is in the set.
-  pub name_of_key : (values : FinMap key_cmp X) (k : Path) (x : X) (s : List ℕ) → get values k ≡ Some x → name_below p k ≡ Some s → get (names_below values p) s ≡ Some tt
+  pub name_of_key : (values : FinMap key_cmp X) (k : Path) (x : X) (s : List ℕ) → get values k ≡ Some x → name_below p k ≡ Some s
+      → get (names_below values p) s ≡ Some tt
   name_of_key values k x s has named =
       get-from_entries bytes_total (names (entries values)) s ∙ to_name (entries values) k x s (sym (get-entries values k) ∙ has) named

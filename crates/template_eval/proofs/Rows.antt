@@ -1,8 +1,9 @@
--- Worked rows: the definitions compute to what is written beside them.
+-- Worked rows: the definitions compute to what is written next to them.
 use Rattle.std.proofs.Common.{◌≡◌, ℕ, List, [], ◌∷◌, Some, None, Ok, Err, refl, codes}
 use Rattle.std.specs.Prelude.{pos, true, false}
 use Rattle.std.specs.Fmt.{digits}
 use Rattle.key_names.specs.Key.{printed}
+use Rattle.json.specs.Print.{escape_byte}
 use Rattle.json_trees.specs.declared.item.Item.TheVariants as value
 use Rattle.settings_tree.specs.Content.{Contents}
 use Rattle.settings_tree.specs.declared.os.OsName.{OsName}
@@ -10,10 +11,11 @@ use Rattle.template_reader.specs.Tree.{Tree, done, node, text, print}
 use Rattle.template_reader.specs.declared.expr.Expr.TheVariants.{Plain}
 use Rattle.template_reader.specs.declared.walk.Walk.TheVariants.{Root, This, AtKey, AtIndex}
 use Rattle.base64.proofs.OnLiterals.{base64_on_literals}
-use Rattle.template_eval.specs.Node.{Node, missing, scalar, label, items, is_true}
+use Rattle.template_eval.specs.Place.{in_tree}
+use Rattle.template_eval.specs.Node.{Node, missing, scalar, label, items, children, is_true}
 use Rattle.template_eval.specs.Written.{path_text, child_text}
 use Rattle.template_eval.specs.Rendered.{joined}
-use Rattle.template_eval.specs.Render.{node_text, default_text, decode_text, join_array_text, join_map_text, each_text, render}
+use Rattle.template_eval.specs.Render.{node_text, default_text, decode_text, json_node, join_array_text, join_map_text, each_text, render}
 use Rattle.template_eval.specs.declared.render_error.RenderError.TheVariants.{Missing, NotScalar, NotList, BadBase64}
 
 -- The list `["a","b"]`.
@@ -41,7 +43,8 @@ module _ (content : Contents) (os : List OsName) where
   no_items = refl
 
   -- The index and the key of the items of a list.
-  indices : each_text [] (λ h. render content os source (node (print (Plain AtIndex)) (node (print (Plain AtKey)) done)) (Some h)) (Ok []) servers ≡ Ok (codes "0011")
+  indices : each_text [] (λ h. render content os source (node (print (Plain AtIndex)) (node (print (Plain AtKey)) done)) (Some h)) (Ok []) servers ≡ Ok
+      (codes "0011")
   unfolding digits
   indices = refl
 
@@ -61,7 +64,7 @@ absent = refl
 list_printed : node_text (path_text (This None)) servers ≡ Err (NotScalar (codes "this"))
 list_printed = refl
 
--- A default where nothing stands.
+-- A default where there is nothing.
 defaulted : default_text (codes "0") (codes "a") missing ≡ Ok (codes "0")
 defaulted = refl
 
@@ -76,7 +79,7 @@ children_joined = refl
 refused_joined : joined (codes ",") (Ok (codes "a=1") ∷ Err (NotScalar (codes "b")) ∷ Err (Missing (codes "c")) ∷ []) ≡ Err (NotScalar (codes "b"))
 refused_joined = refl
 
--- A map where nothing stands.
+-- A map where there is nothing.
 no_map : join_map_text (λ p. Ok []) [] false (codes "a") missing ≡ Ok []
 no_map = refl
 
@@ -88,6 +91,22 @@ hello = refl
 unpadded : decode_text (codes "a") (scalar (value.Text (codes "aGVsbG8"))) ≡ Err (BadBase64 (codes "a"))
 unfolding base64_on_literals
 unpadded = refl
+
+-- Values as JSON.
+json_text : json_node (codes "a") (scalar (value.Text (34 ∷ 92 ∷ 47 ∷ 10 ∷ 31 ∷ 127 ∷ []))) ≡ Ok (codes "\"\\\"\\\\/\\n\\u001f\\u007f\"")
+unfolding escape_byte
+json_text = refl
+
+json_list : json_node (codes "a") (items (value.Text (codes "a") ∷ value.Int (pos 2) ∷ value.Bool false ∷ [])) ≡ Ok (codes "[\"a\",2,false]")
+unfolding escape_byte digits
+json_list = refl
+
+json_name : json_node (codes "@key") (label (codes "0")) ≡ Ok (codes "\"0\"")
+unfolding escape_byte
+json_name = refl
+
+json_map : json_node (codes "a") (children (in_tree motd ∷ [])) ≡ Err (NotScalar (codes "a"))
+json_map = refl
 
 -- The path of a child in quotes.
 quoted_child : child_text (This None) (codes "c.d") ≡ codes "this.\"c.d\""

@@ -16,10 +16,12 @@ use Rattle.template_eval.specs.Lies.{Lies, LiesOne, size, size_one}
 add-one' : (i : ℕ) → suc i ≡ i + 1
 add-one' i = omega arith
 
--- The node that stands next.
-pub next_node : (nodes : List Node) (i : ℕ) (n : Node) → i < length nodes → n ≡ get_or nodes i n → tree_of (drop i nodes) ≡ node (branch_of n) (tree_of (drop (i + 1) nodes))
+-- The node that is next.
+pub next_node : (nodes : List Node) (i : ℕ) (n : Node) → i < length nodes → n ≡ get_or nodes i n
+    → tree_of (drop i nodes) ≡ node (branch_of n) (tree_of (drop (i + 1) nodes))
 next_node nodes i n h e =
-    ap tree_of (drop-cons nodes i n h) ∙ ap (λ (x : Node). node (branch_of x) (tree_of (drop (suc i) nodes))) (sym e) ∙ ap (λ k. node (branch_of n) (tree_of (drop k nodes))) (add-one' i)
+    ap tree_of (drop-cons nodes i n h) ∙ ap (λ (x : Node). node (branch_of x) (tree_of (drop (suc i) nodes))) (sym e)
+    ∙ ap (λ k. node (branch_of n) (tree_of (drop k nodes))) (add-one' i)
 
 -- No node is left.
 pub no_node : (nodes : List Node) (i : ℕ) → length nodes ≤ i → tree_of (drop i nodes) ≡ done
@@ -30,8 +32,9 @@ pub record Left (source : List ℕ) (nodes : List Node) (i : ℕ) : Type 0 where
   pub lies : Lies (length source) (tree_of (drop i nodes))
   pub small : size (tree_of (drop i nodes)) ≤ size (tree_of nodes)
 
--- The next node lies in the source and is smaller than all nodes, and so are those behind it.
-pub next_lies : (source : List ℕ) (nodes : List Node) (i : ℕ) (n : Node) → Left source nodes i → i < length nodes → n ≡ get_or nodes i n → LiesOne (length source) (branch_of n) × (size_one (branch_of n) + 1 < size (tree_of nodes)) × Left source nodes (i + 1)
+-- The next node lies in the source and is smaller than all nodes, and so are those after it.
+pub next_lies : (source : List ℕ) (nodes : List Node) (i : ℕ) (n : Node) → Left source nodes i → i < length nodes → n ≡ get_or nodes i n
+    → LiesOne (length source) (branch_of n) × (size_one (branch_of n) + 1 < size (tree_of nodes)) × Left source nodes (i + 1)
 next_lies source nodes i n l h e =
     let k = next_node nodes i n h e in
     let P : Tree → Type 0 = λ t. Lies (length source) t in

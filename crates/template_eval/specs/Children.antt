@@ -1,4 +1,4 @@
--- The children of a path: what stands directly below it in the tree of the values.
+-- The children of a path: what is directly below it in the tree of the values.
 use Rattle.std.specs.Prelude.{ℕ, List, [], ◌∷◌, ◌++◌, map, length, slice_get, Option, None, if◌then◌else◌}
 use Rattle.std.specs.Option.{option_map}
 use Rattle.std.specs.List.{filter_map}

@@ -2,6 +2,7 @@ pub mod Place
 pub mod Children
 pub mod Node
 pub mod Written
+pub mod Quoting
 pub mod Rendered
 pub mod Render
 pub mod Kept

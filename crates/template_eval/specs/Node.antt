@@ -1,4 +1,4 @@
--- What stands at a place of the tree: of the live values whose key doesn't begin with `os`, and of `os`,
+-- What is at a place of the tree: of the live values whose key doesn't begin with `os`, and of `os`,
 -- a map of the names of the operating system to their texts.
 use Rattle.std.specs.Prelude.{ℕ, pos, Bool, false, not, ◌&&◌, ◌==◌, List, [], ◌∷◌, map, drop, find, length, Option, Some, None, codes, if◌then◌else◌}
 use Rattle.std.specs.FinMap.{get}
@@ -30,7 +30,7 @@ scalar_node (Int z) = scalar (value.Int z)
 scalar_node (Text t) = scalar (value.Text t)
 scalar_node (Listed is) = items is
 
--- A value stands there, or else children do, or nothing.
+-- A value is there, or else children are, or nothing.
 abbrev pub value_node : Option Scalar → List Place → Node
 value_node (Some s) places = scalar_node s
 value_node None [] = missing
@@ -41,7 +41,7 @@ abbrev pub text_node : Option OsName → Node
 text_node None = missing
 text_node (Some s) = scalar (value.Text s.text)
 
--- What stands below `os`.
+-- What is below `os`.
 abbrev pub os_node : List OsName → Path → Node
 os_node os [] = children (map system os)
 os_node os (name ∷ []) = text_node (find (λ s. bytes_eq s.name name) os)
@@ -51,12 +51,12 @@ os_node os (name ∷ next ∷ more) = missing
 abbrev pub os_path : Path
 os_path = codes "os" ∷ []
 
--- What stands at a path of the tree.
+-- What is at a path of the tree.
 abbrev pub tree_node : Contents → List OsName → Path → Node
 tree_node content os path =
     if is_prefix os_path path then os_node os (drop 1 path) else value_node (get content.values path) (children_below content.values path)
 
--- What stands at a place.
+-- What is at a place.
 abbrev pub node : Contents → List OsName → Place → Node
 node content os nowhere = missing
 node content os (in_tree path) = tree_node content os path

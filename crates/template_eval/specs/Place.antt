@@ -42,7 +42,7 @@ key_place (system s) n = label s.name
 key_place (item i) n = index_place n
 key_place (label name) n = nowhere
 
--- The place below another, by these names. Nothing stands at a path that is beyond the limits of keys.
+-- The place below another, by these names. Nothing is at a path that is beyond the limits of keys.
 abbrev pub place_below : Place → Path → Place
 place_below nowhere names = nowhere
 place_below (in_tree path) names = if is_key (path ++ names) then in_tree (path ++ names) else nowhere

@@ -6,18 +6,20 @@ use Rattle.base64.specs.GeneralPurpose.{decode_of}
 use Rattle.base64.specs.declared.decode.DecodeError.{DecodeError}
 use Rattle.json_trees.specs.declared.item.Item.{Item}
 use Rattle.json_trees.specs.declared.item.Item.TheVariants as value
+use Rattle.json_trees.specs.declared.scalar.Scalar.TheVariants.{Text, List as Listed}
 use Rattle.settings_tree.specs.Content.{Contents}
 use Rattle.settings_tree.specs.declared.os.OsName.{OsName}
 use Rattle.template_reader.specs.Bytes.{part}
 use Rattle.template_reader.specs.Tree.{Tree, Branch, walk_of, done, node, text, print, block, test, each}
 use Rattle.template_reader.specs.declared.expr.Expr.{Expr}
-use Rattle.template_reader.specs.declared.expr.Expr.TheVariants.{Plain, Default, Decode, JoinArray, JoinMap}
+use Rattle.template_reader.specs.declared.expr.Expr.TheVariants.{Plain, Default, Decode, Json, JoinArray, JoinMap}
 use Rattle.template_reader.specs.declared.walk.Walk.{Walk}
 use Rattle.template_eval.specs.Place.{Place, item, Here, place_at, key_place}
 use Rattle.template_eval.specs.Place as place
 use Rattle.template_eval.specs.Node.{Node, missing, scalar, label, items, children, is_true}
 use Rattle.template_eval.specs.Node as nodes
 use Rattle.template_eval.specs.Written.{item_text, literal_text, path_text, child_text}
+use Rattle.template_eval.specs.Quoting.{scalar_json, item_value}
 use Rattle.template_eval.specs.Rendered.{Rendered, onto, both, joined}
 use Rattle.template_eval.specs.declared.render_error.RenderError.TheVariants.{Missing, NotScalar, NotList, BadBase64}
 
@@ -29,7 +31,7 @@ node_text path (label name) = Ok name
 node_text path (items is) = Err (NotScalar path)
 node_text path (children places) = Err (NotScalar path)
 
--- `default`: the literal's text where nothing stands.
+-- `default`: the literal's text where there is nothing.
 abbrev pub default_text : List ℕ → List ℕ → Node → Rendered
 default_text literal path missing = Ok literal
 default_text literal path n = node_text path n
@@ -53,6 +55,14 @@ decode_text path (label name) = decoded path (decode_of standard name)
 decode_text path (items is) = Err (NotScalar path)
 decode_text path (children places) = Err (NotScalar path)
 
+-- `json`: a scalar or a list, but no map.
+abbrev pub json_node : List ℕ → Node → Rendered
+json_node path missing = Err (Missing path)
+json_node path (scalar i) = Ok (scalar_json (item_value i))
+json_node path (label name) = Ok (scalar_json (Text name))
+json_node path (items is) = Ok (scalar_json (Listed is))
+json_node path (children places) = Err (NotScalar path)
+
 -- `join_array`.
 abbrev pub join_array_text : List ℕ → List ℕ → Node → Rendered
 join_array_text joiner path missing = Err (Missing path)
@@ -71,7 +81,7 @@ name_of (place.label name) = []
 abbrev pub child_pair : Contents → List OsName → List ℕ → Walk → Place → Rendered
 child_pair content os joiner path p = onto (name_of p ++ joiner) (node_text (child_text path (name_of p)) (nodes.node content os p))
 
--- `join_map` where nothing stands.
+-- `join_map` where there is nothing.
 abbrev pub no_map_text : Bool → List ℕ → Rendered
 no_map_text fail path = if fail then Err (Missing path) else Ok []
 
@@ -81,15 +91,16 @@ join_map_text pair separator fail path missing = no_map_text fail path
 join_map_text pair separator fail path (children places) = joined separator (map pair places)
 join_map_text pair separator fail path n = Err (NotList path)
 
--- What stands where a path leads.
+-- What is where a path leads.
 abbrev pub node_at : Contents → List OsName → Option Here → Walk → Node
 node_at content os here path = nodes.node content os (place_at here path)
 
--- What an expression prints of what stands where its path leads.
+-- What an expression prints of what is where its path leads.
 abbrev pub print_text : Contents → List OsName → Expr → Node → Rendered
 print_text content os (Plain path) n = node_text (path_text path) n
 print_text content os (Default literal path) n = default_text (literal_text literal) (path_text path) n
 print_text content os (Decode path) n = decode_text (path_text path) n
+print_text content os (Json path) n = json_node (path_text path) n
 print_text content os (JoinArray joiner path) n = join_array_text joiner (path_text path) n
 print_text content os (JoinMap joiner separator fail path) n = join_map_text (child_pair content os joiner path) separator fail (path_text path) n
 
@@ -119,7 +130,7 @@ each_text path first other (children places) = each_of first other places
 abbrev pub is_first : Bool → Bool → Bool
 is_first unless truth = if unless then not truth else truth
 
--- What nodes render to, one after another, behind the item or the child of the innermost each.
+-- What nodes render to, one after another, with the item or the child of the innermost each as `here`.
 abbrev mutual
   pub render : Contents → List OsName → List ℕ → Tree → Option Here → Rendered
   render content os source done here = Ok []

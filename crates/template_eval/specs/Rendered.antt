@@ -16,7 +16,7 @@ abbrev pub both : Rendered → Rendered → Rendered
 both (Ok bytes) r = onto bytes r
 both (Err e) r = Err e
 
--- Each behind the separator.
+-- Each after the separator.
 abbrev pub led : List ℕ → List Rendered → Rendered
 led separator [] = Ok []
 led separator (r ∷ rs) = both (onto separator r) (led separator rs)

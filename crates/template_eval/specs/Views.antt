@@ -3,6 +3,8 @@ use Rattle.std.specs.Prelude.{ℕ, pos, List, map, Option, Some, None}
 use Rattle.std.specs.Borrow.{Bor}
 use Rattle.std.specs.Fmt.{decimal, signed_decimal}
 use Rattle.json_trees.specs.declared.item.Item.TheVariants as value
+use Rattle.json_trees.specs.declared.scalar.Scalar.{Scalar}
+use Rattle.json_trees.specs.declared.scalar.Scalar.TheVariants as scalars
 use Rattle.settings_tree.specs.Content.{Contents}
 use Rattle.settings_tree.specs.Walks.{entries_past}
 use Rattle.template_eval.specs.Place.{Place, Here, nowhere, in_tree, system, item, label, index_place}
@@ -66,7 +68,7 @@ atom_node (atoms.Text t) = scalar (value.Text t.now)
 atom_node (atoms.Index n) = scalar (value.Int (pos n))
 atom_node (atoms.Name name) = nodes.label name.now
 
--- What stands at a place.
+-- What is at a place.
 abbrev pub node_of : Contents → TheirNode → Node
 node_of content theirs.Missing = missing
 node_of content (theirs.Atom a) = atom_node a
@@ -81,15 +83,23 @@ atom_text (atoms.Text t) = t.now
 atom_text (atoms.Index n) = decimal n
 atom_text (atoms.Name name) = name.now
 
+-- The value that such a scalar is; a name is a text.
+abbrev pub atom_value : Atom → Scalar
+atom_value (atoms.Bool b) = scalars.Bool b
+atom_value (atoms.Int z) = scalars.Int z
+atom_value (atoms.Text t) = scalars.Text t.now
+atom_value (atoms.Index n) = scalars.Int (pos n)
+atom_value (atoms.Name name) = scalars.Text name.now
+
 -- The places that are still to come, with these inputs.
 abbrev pub places_in : Inputs → Places → List Place
 places_in i places = places_of i.content.now places
 
--- What stands at a place, with these inputs.
+-- What is at a place, with these inputs.
 abbrev pub node_in : Inputs → TheirNode → Node
 node_in i n = node_of i.content.now n
 
--- What stands where a path leads, with these inputs.
+-- What is where a path leads, with these inputs.
 abbrev pub found : Inputs → Option Here → Walk → Node
 found i here path = node_at i.content.now i.os.now here path
 

@@ -1,4 +1,4 @@
--- What is written: the texts of scalars and literals, and paths as they stand in a template.
+-- What is written: the texts of scalars and literals, and paths as they are in a template.
 use Rattle.std.specs.Prelude.{ℕ, Bool, List, ◌∷◌, ◌++◌, Some, None, codes, if◌then◌else◌}
 use Rattle.std.specs.Fmt.{signed_decimal}
 use Rattle.key_names.specs.Segment.{printed_segment}

@@ -3,7 +3,7 @@ ghost use Rattle.std.specs.Prelude.{◌≡◌, ◌≢◌, IfErr, OnOk, Err};
 ghost use Rattle.base64.specs.Engines.{standard};
 ghost use Rattle.base64.specs.GeneralPurpose.{decode_of};
 ghost use Rattle.template_eval.specs.Written.{path_text, literal_text};
-ghost use Rattle.template_eval.specs.Render.{node_text, default_text, decoded, decode_text, join_array_text, join_map_text};
+ghost use Rattle.template_eval.specs.Render.{node_text, default_text, decoded, decode_text, json_node, join_array_text, join_map_text};
 ghost use Rattle.template_eval.specs.Kept.{KeepsHere};
 ghost use Rattle.template_eval.specs.Steps.{Adds};
 ghost use Rattle.template_eval.specs.Views.{atom_node, node_in, seen, pair_of, printing, expression};
@@ -14,6 +14,7 @@ use crate::joins::{push_children, push_items};
 use crate::node::{Atom, Node};
 use crate::nodes::node;
 use crate::place::{Here, place_at};
+use crate::quoting::{push_json, push_json_list};
 use crate::refusals::{bad_base64, missing, not_list, not_scalar};
 use crate::scalars::{push_atom, push_literal};
 use base64::DecodeAllocError;
@@ -45,7 +46,7 @@ fn push_node(
     }
 }
 
-// Adds the text of a node, or of the literal where nothing stands.
+// Adds the text of a node, or of the literal where there is nothing.
 fn push_default(
     inputs: &Inputs<'_>,
     node: &Node<'_>,
@@ -103,7 +104,7 @@ fn push_decoded_atom(
 {
     match atom {
         Atom::Text(text) => push_decoded(alloc, text.as_str().as_bytes(), path, out),
-        Atom::Name(name) => push_decoded(alloc, name, path, out),
+        Atom::Name(name) => push_decoded(alloc, name.as_bytes(), path, out),
         Atom::Bool(_) => Err(bad_base64(alloc, path)),
         Atom::Int(_) => Err(bad_base64(alloc, path)),
         Atom::Index(_) => Err(bad_base64(alloc, path)),
@@ -126,6 +127,33 @@ fn push_decoded_node(
         Node::Missing => Err(missing(inputs.alloc, path)),
         Node::Atom(atom) => push_decoded_atom(inputs.alloc, *atom, path, out),
         Node::Items(_) => Err(not_scalar(inputs.alloc, path)),
+        Node::Children(_) => Err(not_scalar(inputs.alloc, path)),
+    }
+}
+
+// Adds a scalar or a list as JSON.
+#[tactic(auto, using(crate::proofs::Quoted::atom_json))]
+fn push_json_node(
+    inputs: &Inputs<'_>,
+    node: &Node<'_>,
+    path: &Walk,
+    out: &mut Vec<u8>,
+) -> Result<(), RenderError>
+    ensures ok { OnOk result
+        (Adds (json_node (path_text path.now) (node_in inputs.now node.now)) out.old.items out.new.items) }
+    ensures err { IfErr result (λ e. e ≢ RenderError.Memory
+        → json_node (path_text path.now) (node_in inputs.now node.now) ≡ Err e) }
+{
+    match node {
+        Node::Missing => Err(missing(inputs.alloc, path)),
+        Node::Atom(atom) => {
+            push_json(inputs.alloc, *atom, out)?;
+            Ok(())
+        }
+        Node::Items(items) => {
+            push_json_list(inputs.alloc, *items, out)?;
+            Ok(())
+        }
         Node::Children(_) => Err(not_scalar(inputs.alloc, path)),
     }
 }
@@ -155,7 +183,7 @@ fn push_array(
     }
 }
 
-// What `join_map` has beside its path.
+// What `join_map` has besides its path.
 #[derive(Clone, Copy, Drop)]
 struct MapForm<'a> {
     joiner: &'a Text,
@@ -201,7 +229,7 @@ fn push_map(
     }
 }
 
-// Adds what the expression prints of what stands where its path leads.
+// Adds what the expression prints of what is where its path leads.
 fn push_print(
     inputs: &Inputs<'_>,
     expr: &Expr,
@@ -217,6 +245,7 @@ fn push_print(
         Expr::Plain { path } => push_node(inputs, node, path, out),
         Expr::Default { literal, path } => push_default(inputs, node, literal, path, out),
         Expr::Decode { path } => push_decoded_node(inputs, node, path, out),
+        Expr::Json { path } => push_json_node(inputs, node, path, out),
         Expr::JoinArray { joiner, path } => push_array(inputs, node, joiner, path, out),
         Expr::JoinMap {
             joiner,
@@ -234,7 +263,7 @@ fn push_print(
     }
 }
 
-/// Adds what the expression prints, behind the item or the child of the innermost each.
+/// Adds what the expression prints, with the item or the child of the innermost each as `here`.
 pub fn push_expr(
     inputs: &Inputs<'_>,
     expr: &Expr,

@@ -1,7 +1,6 @@
 //! Items and children, joined.
 ghost use Rattle.std.specs.Prelude.{◌≡◌, ◌≢◌, ◌++◌, map, IfErr, OnOk, Err};
 ghost use Rattle.std.specs.List.{join_by};
-ghost use Rattle.template_eval.specs.Place.{last_name};
 ghost use Rattle.template_eval.specs.Written.{item_text};
 ghost use Rattle.template_eval.specs.Rendered.{onto, joined};
 ghost use Rattle.template_eval.specs.Render.{name_of};
@@ -18,12 +17,11 @@ use crate::place::Place;
 use crate::places::Places;
 use crate::refusals::{child_missing, child_not_scalar};
 use crate::scalars::{push_atom, push_item};
-use key_names::Key;
 use settings_tree::Item;
 use std::alloc::AllocError;
 use template_reader::Walk;
 
-/// Adds the texts of the items, joined. The only error is want of memory.
+/// Adds the texts of the items, joined. The only error is out of memory.
 pub fn push_items(items: &[Item], joiner: &[u8], out: &mut Vec<u8>) -> Result<(), AllocError>
     ensures { OnOk result
         (out.new.items ≡ out.old.items ++ join_by item_text joiner.now items.now) }
@@ -39,21 +37,14 @@ pub fn push_items(items: &[Item], joiner: &[u8], out: &mut Vec<u8>) -> Result<()
     Ok(())
 }
 
-fn last_text(key: &Key) -> &str
-    ensures { result.now ≡ last_name key.now }
-{
-    let name = std::str::from_utf8(last_name(key));
-    name.unwrap()
-}
-
 // The name of a child.
 fn name_of<'a>(place: &'a Place<'a>) -> &'a str
     ensures { result.now ≡ name_of (place_of place.now) }
 {
     match place {
-        Place::At(key) => last_text(key),
-        Place::Made(key) => last_text(key),
-        Place::Leaf { key, .. } => last_text(key),
+        Place::At(key) => last_name(key),
+        Place::Made(key) => last_name(key),
+        Place::Leaf { key, .. } => last_name(key),
         Place::System(name) => name.name.as_str(),
         _ => "",
     }
@@ -88,7 +79,7 @@ fn push_child(
     }
 }
 
-// Adds a child behind what leads it.
+// Adds a child after what leads it.
 fn push_behind(
     inputs: &Inputs<'_>,
     place: &Place<'_>,

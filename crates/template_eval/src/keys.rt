@@ -7,12 +7,19 @@ ghost use Rattle.template_eval.specs.Place.{last_name};
 use key_names::{Key, KeyFault};
 use std::alloc::AllocError;
 
-/// The last segment of the key.
-pub fn last_name(key: &Key) -> &[u8]
+fn last_segment(key: &Key) -> &[u8]
     ensures bytes { result.now ≡ last_name key.now }
     ensures valid { IsTrue (is_segment result.now) }
 {
     key.segment(key.len() - 1)
+}
+
+/// The last segment of the key, which is ASCII.
+pub fn last_name(key: &Key) -> &str
+    ensures { result.now ≡ last_name key.now }
+{
+    let name = std::str::from_utf8(last_segment(key));
+    name.unwrap()
 }
 
 // The key with one segment more, None exactly where that is no key.
@@ -29,8 +36,8 @@ fn longer(key: &Key, name: &[u8]) -> Result<Option<Key>, AllocError>
     }
 }
 
-/// The key with the segments of another behind its own, None exactly where that is no key, beyond
-/// the limits. The only error is want of memory.
+/// The key with the segments of another after its own, None exactly where that is no key, beyond
+/// the limits. The only error is out of memory.
 pub fn joined(key: &Key, names: &Key) -> Result<Option<Key>, AllocError>
     ensures { IfOk result (λ o. o ≡ (if is_key (key.now ++ names.now)
         then Some (key.now ++ names.now) else None)) }
@@ -45,7 +52,7 @@ pub fn joined(key: &Key, names: &Key) -> Result<Option<Key>, AllocError>
     Ok(Some(joined))
 }
 
-/// The key with one segment more, which together are a key. The only error is want of memory.
+/// The key with one segment more, which together are a key. The only error is out of memory.
 pub fn child_key(key: &Key, name: &[u8]) -> Result<Key, AllocError>
     requires { IsTrue (is_key (key.now ++ name.now ∷ [])) }
     ensures { IfOk result (λ child. child ≡ key.now ++ name.now ∷ []) }

@@ -8,15 +8,18 @@ mod expressions;
 mod inputs;
 mod joins;
 mod keys;
+mod law;
 mod node;
 mod nodes;
 mod place;
 mod places;
+mod quoting;
 mod refusals;
 mod render_error;
 mod rendering;
 mod scalars;
 mod written;
 
+pub use law::laws;
 pub use render_error::RenderError;
 pub use rendering::render;

@@ -1,4 +1,4 @@
-//! What stands at a place.
+//! What is at a place.
 use crate::places::Places;
 use key_names::Text;
 use settings_tree::Item;
@@ -12,10 +12,10 @@ pub enum Atom<'a> {
     /// The index of an item or a child.
     Index(usize),
     /// The name of a child.
-    Name(&'a [u8]),
+    Name(&'a str),
 }
 
-/// What stands at a place: nothing, a scalar, the items of a list, or the children of a map.
+/// What is at a place: nothing, a scalar, the items of a list, or the children of a map.
 #[derive(Clone, Copy, Drop)]
 pub enum Node<'a> {
     Missing,

@@ -40,7 +40,7 @@ fn scalar_node(scalar: &Scalar) -> Node<'_>
     }
 }
 
-// What stands at a key of the values, by one look-up.
+// What is at a key of the values, by one look-up.
 fn value_node<'a>(content: &'a Content, key: &'a Key) -> Node<'a>
     requires { is_prefix os_path key.now ≡ false }
     ensures { node_of content.now result
@@ -80,7 +80,7 @@ fn named<'a>(os: &'a Os, name: &[u8]) -> Node<'a>
     }
 }
 
-// What stands at a key that begins with `os`.
+// What is at a key that begins with `os`.
 fn os_node<'a>(os: &'a Os, key: &Key) -> Node<'a>
     ensures { (content : Contents) → node_of content result ≡ os_node os.now (drop 1 key.now) }
 {
@@ -110,7 +110,7 @@ fn tree_node<'a>(content: &'a Content, os: &'a Os, key: &'a Key) -> Node<'a>
     }
 }
 
-/// What stands at the place. It is logarithmic in the values, but constant where the place keeps a
+/// What is at the place. It is logarithmic in the values, but constant where the place keeps a
 /// value, and takes no memory.
 pub fn node<'a>(content: &'a Content, os: &'a Os, place: &'a Place<'a>) -> Node<'a>
     requires { Keeps content.now place.now }

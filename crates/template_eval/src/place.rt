@@ -19,7 +19,7 @@ pub enum Place<'a> {
     At(&'a Key),
     /// The same, by a key that was made for it.
     Made(Key),
-    /// To a path of the tree at which a value stands, and that value, which is not looked up again.
+    /// To a path of the tree at which a value is, and that value, which is not looked up again.
     Leaf { key: &'a Key, scalar: &'a Scalar },
     /// To a name of the operating system and its text.
     System(&'a OsName),
@@ -28,7 +28,7 @@ pub enum Place<'a> {
     /// To the index of an item or a child.
     Index(usize),
     /// To the name of a child.
-    Name(&'a [u8]),
+    Name(&'a str),
 }
 
 /// The item of a list, or the child of a map, for which the first part of an each is rendered, and
@@ -71,7 +71,7 @@ impl<'a> Place<'a> {
     }
 }
 
-// The place of a key with the segments of another behind its own.
+// The place of a key with the segments of another after its own.
 fn place_below(key: &Key, names: &Key) -> Result<Place<'static>, AllocError>
     ensures leads { IfOk result (λ p. place_of p ≡ place_below (in_tree key.now) names.now) }
     ensures kept { (content : Contents) → IfOk result (Keeps content) }
@@ -92,7 +92,7 @@ impl<'a> Here<'a> {
             Place::At(key) => Place::Name(last_name(key)),
             Place::Made(key) => Place::Name(last_name(key)),
             Place::Leaf { key, .. } => Place::Name(last_name(key)),
-            Place::System(name) => Place::Name(name.name.as_str().as_bytes()),
+            Place::System(name) => Place::Name(name.name.as_str()),
             Place::Item(_) => Place::Index(self.index),
             Place::Index(_) => Place::Index(self.index),
             _ => Place::Nowhere,
@@ -101,7 +101,7 @@ impl<'a> Here<'a> {
 }
 
 /// Where the path leads, from the root or from the item or the child of the innermost each. The
-/// only error is want of memory.
+/// only error is out of memory.
 pub fn place_at<'a>(here: Option<&'a Here<'a>>, path: &'a Walk) -> Result<Place<'a>, AllocError>
     ensures leads { IfOk result (λ p. place_of p ≡ place_at (seen here.entry) path.now) }
     ensures kept { (content : Contents) → KeepsHere content here.entry → IfOk result (Keeps content) }

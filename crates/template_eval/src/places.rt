@@ -24,7 +24,7 @@ pub enum Places<'a> {
     Children(Children<'a>),
 }
 
-/// A place, and those behind it.
+/// A place, and those after it.
 #[derive(Drop)]
 pub struct Split<'a> {
     pub first: Place<'a>,
@@ -101,9 +101,9 @@ fn split_names<'a>(names: &'a [OsName]) -> Option<Split<'a>>
 }
 
 impl<'a> Places<'a> {
-    /// The first place and those behind it, None exactly where there is none. It is constant for
+    /// The first place and those after it, None exactly where there is none. It is constant for
     /// items and names, and takes a logarithmic step for each value that it passes. The only error
-    /// is want of memory.
+    /// is out of memory.
     pub fn split_first(self, content: &'a Content) -> Result<Option<Split<'a>>, AllocError>
         ensures parts { IfOk result (λ o. MatchOption o (places_of content.now self.entry ≡ [])
             (λ s. places_of content.now self.entry

@@ -7,7 +7,7 @@ use crate::written::{child_text, path_text};
 use std::alloc::Global;
 use template_reader::Walk;
 
-/// `Missing`, or want of memory.
+/// `Missing`, or out of memory.
 pub fn missing(alloc: Global, path: &Walk) -> RenderError
     ensures { result ≢ RenderError.Memory → result ≡ RenderError.Missing (path_text path.now) }
 {
@@ -17,7 +17,7 @@ pub fn missing(alloc: Global, path: &Walk) -> RenderError
     }
 }
 
-/// `NotScalar`, or want of memory.
+/// `NotScalar`, or out of memory.
 pub fn not_scalar(alloc: Global, path: &Walk) -> RenderError
     ensures { result ≢ RenderError.Memory → result ≡ RenderError.NotScalar (path_text path.now) }
 {
@@ -27,7 +27,7 @@ pub fn not_scalar(alloc: Global, path: &Walk) -> RenderError
     }
 }
 
-/// `NotList`, or want of memory.
+/// `NotList`, or out of memory.
 pub fn not_list(alloc: Global, path: &Walk) -> RenderError
     ensures { result ≢ RenderError.Memory → result ≡ RenderError.NotList (path_text path.now) }
 {
@@ -37,7 +37,7 @@ pub fn not_list(alloc: Global, path: &Walk) -> RenderError
     }
 }
 
-/// `BadBase64`, or want of memory.
+/// `BadBase64`, or out of memory.
 pub fn bad_base64(alloc: Global, path: &Walk) -> RenderError
     ensures { result ≢ RenderError.Memory → result ≡ RenderError.BadBase64 (path_text path.now) }
 {
@@ -47,7 +47,7 @@ pub fn bad_base64(alloc: Global, path: &Walk) -> RenderError
     }
 }
 
-/// `Missing` of a child, or want of memory.
+/// `Missing` of a child, or out of memory.
 pub fn child_missing(alloc: Global, path: &Walk, name: &str) -> RenderError
     ensures { result ≢ RenderError.Memory
         → result ≡ RenderError.Missing (child_text path.now name.now) }
@@ -58,7 +58,7 @@ pub fn child_missing(alloc: Global, path: &Walk, name: &str) -> RenderError
     }
 }
 
-/// `NotScalar` of a child, or want of memory.
+/// `NotScalar` of a child, or out of memory.
 pub fn child_not_scalar(alloc: Global, path: &Walk, name: &str) -> RenderError
     ensures { result ≢ RenderError.Memory
         → result ≡ RenderError.NotScalar (child_text path.now name.now) }

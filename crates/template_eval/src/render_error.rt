@@ -7,16 +7,16 @@ use std::alloc::AllocError;
 /// written in the template with its key printed: `settings.motd`, `this`, `this.name`.
 #[derive(Debug, Drop)]
 pub enum RenderError {
-    /// Nothing stands at the path.
+    /// Nothing is at the path.
     Missing { path: Text },
-    /// A list or a map stands at the path, where a scalar is wanted.
+    /// A list or a map is at the path, where a scalar is wanted.
     NotScalar { path: Text },
-    /// No list stands at the path where one is wanted, or no map where one is wanted, or neither in
+    /// No list is at the path where one is wanted, or no map where one is wanted, or neither in
     /// an `each`.
     NotList { path: Text },
-    /// What stands at the path is no text that is padded base64 of RFC 4648.
+    /// What is at the path is no text that is padded base64 of RFC 4648.
     BadBase64 { path: Text },
-    /// Memory was wanting. It says nothing of the template and the values.
+    /// It ran out of memory. It says nothing of the template and the values.
     Memory,
 }
 

@@ -11,7 +11,8 @@ ghost use Rattle.template_eval.specs.Node.{is_true};
 ghost use Rattle.template_eval.specs.Lies.{Lies, LiesOne};
 ghost use Rattle.template_eval.specs.Kept.{Keeps, KeepsHere};
 ghost use Rattle.template_eval.specs.Steps.{Adds};
-ghost use Rattle.template_eval.specs.Views.{node_of, place_of, places_of, places_in, seen, found, rendering, rendering_one, each_rendering, places_rendering, firsts_rendering};
+ghost use Rattle.template_eval.specs.Views.{node_of, place_of, places_of, places_in, seen};
+ghost use Rattle.template_eval.specs.Views.{found, rendering, rendering_one, each_rendering, places_rendering, firsts_rendering};
 
 use crate::RenderError;
 use crate::expressions::push_expr;

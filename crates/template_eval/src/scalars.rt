@@ -31,7 +31,7 @@ fn push_index(out: &mut Vec<u8>, n: usize) -> Result<(), AllocError>
     out.extend_from_slice(buffer.format(n).as_bytes())
 }
 
-/// Adds the text of the scalar, or of the name or the index of a child. The only error is want of
+/// Adds the text of the scalar, or of the name or the index of a child. The only error is out of
 /// memory.
 pub fn push_atom(out: &mut Vec<u8>, atom: Atom<'_>) -> Result<(), AllocError>
     ensures { OnOk result (out.new.items ≡ out.old.items ++ atom_text atom.entry) }
@@ -41,11 +41,11 @@ pub fn push_atom(out: &mut Vec<u8>, atom: Atom<'_>) -> Result<(), AllocError>
         Atom::Int(n) => push_int(out, n),
         Atom::Text(text) => out.extend_from_slice(text.as_str().as_bytes()),
         Atom::Index(n) => push_index(out, n),
-        Atom::Name(name) => out.extend_from_slice(name),
+        Atom::Name(name) => out.extend_from_slice(name.as_bytes()),
     }
 }
 
-/// Adds the text of the item. The only error is want of memory.
+/// Adds the text of the item. The only error is out of memory.
 pub fn push_item(out: &mut Vec<u8>, item: &Item) -> Result<(), AllocError>
     ensures { OnOk result (out.new.items ≡ out.old.items ++ item_text item.now) }
 {
@@ -56,7 +56,7 @@ pub fn push_item(out: &mut Vec<u8>, item: &Item) -> Result<(), AllocError>
     }
 }
 
-/// Adds the text of the literal. The only error is want of memory.
+/// Adds the text of the literal. The only error is out of memory.
 pub fn push_literal(out: &mut Vec<u8>, literal: &Literal) -> Result<(), AllocError>
     ensures { OnOk result (out.new.items ≡ out.old.items ++ literal_text literal.now) }
 {
@@ -67,7 +67,7 @@ pub fn push_literal(out: &mut Vec<u8>, literal: &Literal) -> Result<(), AllocErr
     }
 }
 
-/// Whether what stands there counts as true.
+/// Whether what is there counts as true.
 pub fn is_true(content: &Content, node: Node<'_>) -> bool
     ensures { result ≡ is_true (node_of content.now node.entry) }
 {
@@ -87,6 +87,6 @@ fn is_true_atom(atom: Atom<'_>) -> bool
         Atom::Int(n) => n != 0,
         Atom::Text(text) => !text.as_str().is_empty(),
         Atom::Index(n) => n != 0,
-        Atom::Name(name) => !name.is_empty() && name != b"0".as_slice(),
+        Atom::Name(name) => !name.is_empty() && name.as_bytes() != b"0".as_slice(),
     }
 }

@@ -6,7 +6,7 @@ use key_names::{Text, are_bare};
 use std::alloc::{AllocError, Global};
 use template_reader::Walk;
 
-/// The path as it is written, its key printed. The only error is want of memory.
+/// The path as it is written, its key printed. The only error is out of memory.
 pub fn path_text(alloc: Global, path: &Walk) -> Result<Text, AllocError>
     ensures { IfOk result (λ text. text ≡ path_text path.now) }
 {
@@ -26,7 +26,7 @@ fn below_this(alloc: Global, key: &str) -> Result<Text, AllocError>
     Ok(Text::of(text))
 }
 
-/// The path of a child, as it would be written. The only error is want of memory.
+/// The path of a child, as it would be written. The only error is out of memory.
 pub fn child_text(alloc: Global, path: &Walk, name: &str) -> Result<Text, AllocError>
     ensures { IfOk result (λ text. text ≡ child_text path.now name.now) }
 {

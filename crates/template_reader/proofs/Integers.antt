@@ -1,5 +1,6 @@
 -- What std's `parse` reads as an integer, and a tag as one.
-use Rattle.std.proofs.Common.{◌≡◌, ℕ, zero, suc, ◌<◌, Bool, true, false, List, [], ◌∷◌, length, drop, Option, Some, None, refl, sym, ap, ◌∙◌, arith, subst, if◌then◌else◌}
+use Rattle.std.proofs.Common.{◌≡◌, ℕ, zero, suc, ◌<◌, Bool, true, false, List, [], ◌∷◌}
+use Rattle.std.proofs.Common.{length, drop, Option, Some, None, refl, sym, ap, ◌∙◌, arith, subst, if◌then◌else◌}
 use Rattle.std.specs.Prelude.{ℤ, pos, codes, ◌&&◌, ◌==◌, Result, Ok, Err, cond}
 use lib.IntN.{negsuc}
 use mir.Syntax.{w64}
@@ -60,7 +61,7 @@ plus-false (b ∷ bs) e =
 pub plus_none : (word : List ℕ) → begins word (codes "+") ≡ true → None ≡ integer_of word
 plus_none word e = read-as word false (plus-false word e)
 
--- Without a plus, the digits stand behind the minus alone.
+-- Without a plus, the digits are after the minus alone.
 sign-minus : (word : List ℕ) → begins word (codes "+") ≡ false → without_leading_sign word ≡ without_minus word
 sign-minus [] e = refl
 sign-minus (b ∷ bs) e =
@@ -89,7 +90,8 @@ means-to word plain m =
     let P : List ℕ → Type 0 = λ ds. IsNumeral 10 ds in
     let n : IsNumeral 10 (without_minus word) = subst P (sign-minus word plain) m.numeral in
     and_from (has_bytes (without_minus word) && all_ascii_digits (without_minus word)) (fits_i64 (signed_digits_value 10 word))
-    (and_from (has_bytes (without_minus word)) (all_ascii_digits (without_minus word)) (some-bytes (without_minus word) n.0) (own.from (without_minus word) n.1))
+    (and_from (has_bytes (without_minus word)) (all_ascii_digits (without_minus word)) (some-bytes (without_minus word) n.0)
+    (own.from (without_minus word) n.1))
     (fits-to (signed_digits_value 10 word) m.fits)
 
 -- A word that fails the test is no integer.
@@ -107,7 +109,8 @@ parsed-is {E} word (Ok z) plain p =
 parsed-is {E} word (Err e) plain p = none-unless word (λ f. let m = means-from word plain f in p (m.numeral, m.fits))
 
 -- What the parse of a word without `+` answers is the integer that the word is.
-pub parsed_integer : {E : Type 0} (word text : List ℕ) (r : Result ℤ E) (o : Option ℤ) → begins word (codes "+") ≡ false → text ≡ word → ParsesSigned w64 10 text r → o ≡ result_ok r → o ≡ integer_of word
+pub parsed_integer : {E : Type 0} (word text : List ℕ) (r : Result ℤ E) (o : Option ℤ) → begins word (codes "+") ≡ false → text ≡ word
+    → ParsesSigned w64 10 text r → o ≡ result_ok r → o ≡ integer_of word
 parsed_integer {E} word text r o plain same p is =
     let P : List ℕ → Type 0 = λ w. ParsesSigned w64 10 w r in
     is ∙ parsed-is word r plain (subst P same p)
@@ -127,13 +130,14 @@ ascii-digits (d ∷ ds) e i =
     small : (d : ℕ) → is_ascii_digit d ≡ true → d < 128
     small d e = grind (arith, nat_tests)
 
--- So is a word of digits behind a minus or without.
+-- So is a word of digits after a minus or without.
 ascii-integer : (word : List ℕ) → all_ascii_digits (without_minus word) ≡ true → IsAscii word
 ascii-integer [] e = ascii-digits [] refl
 ascii-integer (b ∷ bs) e = by (b == 45) refl
   where
     by : (t : Bool) → (b == 45) ≡ t → IsAscii (b ∷ bs)
-    by true f = ascii-cons b bs (let g = eqb-true b 45 f in omega arith) (ascii-digits bs (sym (ap (λ (t : Bool). all_ascii_digits (if t then bs else b ∷ bs)) f) ∙ e))
+    by true f = ascii-cons b bs (let g = eqb-true b 45 f in omega arith)
+        (ascii-digits bs (sym (ap (λ (t : Bool). all_ascii_digits (if t then bs else b ∷ bs)) f) ∙ e))
     by false f = ascii-digits (b ∷ bs) (sym (ap (λ (t : Bool). all_ascii_digits (if t then bs else b ∷ bs)) f) ∙ e)
 
 -- A word that is no UTF-8 is no integer.

@@ -52,7 +52,8 @@ module _ {K X : Type 0} (name : K → List ℕ) where
   abbrev placed : K × X → List (K × X) → K → X → Ordering → List (K × X)
   placed e es k x r = match_ordering r ((k, x) ∷ e ∷ es) ((e.0, x) ∷ es) (e ∷ insert_entry (order name) es k x)
 
-  lookup-insert : (q : List ℕ) (es : List (K × X)) (k : K) (x : X) → lookup (at name q) (insert_entry (order name) es k x) ≡ cond (at name q k) (Some x) (lookup (at name q) es)
+  lookup-insert : (q : List ℕ) (es : List (K × X)) (k : K) (x : X) → lookup (at name q) (insert_entry (order name) es k x) ≡ cond (at name q k) (Some x)
+      (lookup (at name q) es)
   lookup-insert q [] k x = refl
   lookup-insert q (e ∷ es) k x = by (order name k e.0) refl (lookup-insert q es k x)
     where

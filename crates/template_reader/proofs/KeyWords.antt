@@ -1,5 +1,6 @@
 -- A word spells at most one key, and the parts between its dots tell which.
-use Rattle.std.proofs.Common.{◌≡◌, ℕ, suc, ◌-◌, ◌*◌, ◌<◌, Bool, true, false, not, List, [], ◌∷◌, ◌++◌, length, map, Option, Some, None, refl, sym, ap, ◌∙◌, arith, append_assoc, subst, if◌then◌else◌, inl, inr}
+use Rattle.std.proofs.Common.{◌≡◌, ℕ, suc, ◌-◌, ◌*◌, ◌<◌, Bool, true, false, not, List, [], ◌∷◌, ◌++◌}
+use Rattle.std.proofs.Common.{length, map, Option, Some, None, refl, sym, ap, ◌∙◌, arith, append_assoc, subst, if◌then◌else◌, inl, inr}
 use Rattle.std.specs.Prelude.{◌&&◌, ◌||◌, ◌==◌, ◌⊎◌, IsTrue}
 use Rattle.std.specs.List.{list_all}
 use Rattle.std.proofs.Math.Bool.{and-true, and-false}
@@ -112,7 +113,8 @@ tested-spelling w h =
     let p = and_parts (is_segment (unquoted w)) (is w (quoted (unquoted w)) || list_all is_bare w) h in
     record { valid = p.0; form = by (or_cases (is w (quoted (unquoted w))) (list_all is_bare w) p.1) }
   where
-    by : (is w (quoted (unquoted w)) ≡ true) ⊎ (list_all is_bare w ≡ true) → (w ≡ quoted (unquoted w)) ⊎ ((w ≡ unquoted w) × IsTrue (list_all is_bare (unquoted w)))
+    by : (is w (quoted (unquoted w)) ≡ true) ⊎ (list_all is_bare w ≡ true)
+        → (w ≡ quoted (unquoted w)) ⊎ ((w ≡ unquoted w) × IsTrue (list_all is_bare (unquoted w)))
     by (inl e) = inl ((bytes_eq-Decides w (quoted (unquoted w))).0 e)
     by (inr e) = inr (sym (bare-unquoted w e), ap (list_all is_bare) (bare-unquoted w e) ∙ e)
 
@@ -121,10 +123,11 @@ one-part : (w s : List ℕ) → IsSpelling w s → parts is_dot false w ≡ w �
 unfolding parts
 one-part w s h = ap (parts is_dot false) (sym (append-nil w)) ∙ spelled-parts w s [] h ∙ onto-cons w [] [] ∙ ap (λ (w : List ℕ). w ∷ []) (append-nil w)
 
--- A dot behind a spelling ends its part.
+-- A dot after a spelling ends its part.
 more-parts : (front s rest : List ℕ) → IsSpelling front s → parts is_dot false (front ++ (46 ∷ rest)) ≡ front ∷ parts is_dot false rest
 unfolding parts
-more-parts front s rest h = spelled-parts front s (46 ∷ rest) h ∙ onto-cons front [] (parts is_dot false rest) ∙ ap (λ (w : List ℕ). w ∷ parts is_dot false rest) (append-nil front)
+more-parts front s rest h = spelled-parts front s (46 ∷ rest) h ∙ onto-cons front [] (parts is_dot false rest)
+    ∙ ap (λ (w : List ℕ). w ∷ parts is_dot false rest) (append-nil front)
 
 -- The parts pass the test, and are the segments of the key without their quotes.
 record AreSpelled (ss key : List (List ℕ)) : Type 0 where
@@ -150,7 +153,8 @@ spelled-by (s ∷ t ∷ key) word h =
     (ap (parts is_dot false) h.2 ∙ more-parts h.0 s h.1 h.3)
 
 -- Parts that spell a key within the limits are its key.
-chosen : (ss key : List (List ℕ)) → AreSpelled ss key → IsTrue (fits key) → (if list_all is_spelling ss && fits (map unquoted ss) then Some (map unquoted ss) else None) ≡ Some key
+chosen : (ss key : List (List ℕ)) → AreSpelled ss key → IsTrue (fits key)
+    → (if list_all is_spelling ss && fits (map unquoted ss) then Some (map unquoted ss) else None) ≡ Some key
 chosen ss key a within = rw (a.tested, a.key_is, within) refl
 
 -- The key that a word spells is the key of the word.

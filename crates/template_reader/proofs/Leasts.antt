@@ -1,5 +1,6 @@
 -- The scans stop at the least places that pass their tests.
-use Rattle.std.proofs.Common.{arith, ◌≡◌, ℕ, zero, suc, ◌+◌, ◌<◌, Bool, true, false, not, cond, ◌==◌, List, [], ◌∷◌, length, take, Option, Some, None, ◌⊎◌, inl, inr, refl, sym, ◌∙◌, ap, subst}
+use Rattle.std.proofs.Common.{arith, ◌≡◌, ℕ, zero, suc, ◌+◌, ◌<◌, Bool, true, false, not, cond, ◌==◌, List}
+use Rattle.std.proofs.Common.{[], ◌∷◌, length, take, Option, Some, None, ◌⊎◌, inl, inr, refl, sym, ◌∙◌, ap, subst}
 use Rattle.std.specs.Prelude.{◌&&◌, ◌||◌, codes}
 use Rattle.std.proofs.lemmas.Bool.{and_from}
 use Rattle.template_reader.specs.Bytes.{begins, more}
@@ -31,7 +32,7 @@ least_same : (one other : ℕ → Bool) (place : Option ℕ) → ((n : ℕ) → 
 least_same one other None same none = λ n. sym (same n) ∙ none n
 least_same one other (Some n) same least = (sym (same n) ∙ least.0, λ m low. sym (same m) ∙ least.1 m low)
 
--- Nothing stands behind the end.
+-- Nothing is after the end.
 nil_stands : (c : ℕ) (cs : List ℕ) (n : ℕ) → stands (c ∷ cs) [] n ≡ false
 nil_stands c cs zero = refl
 nil_stands c cs (suc n) = refl
@@ -52,23 +53,36 @@ texts_end [] = inr (nil_stands 123 (123 ∷ []), refl)
 texts_end (b ∷ bs) = by (begins (b ∷ bs) (codes "{{")) refl (texts_end bs) where
   by : (t : Bool) → begins (b ∷ bs) (codes "{{") ≡ t
       → (IsLeast (stands (codes "{{") bs) (Some (text_length bs))) ⊎ ((IsLeast (stands (codes "{{") bs) None) × (text_length bs ≡ length bs))
-      → (IsLeast (stands (codes "{{") (b ∷ bs)) (Some (text_length (b ∷ bs)))) ⊎ ((IsLeast (stands (codes "{{") (b ∷ bs)) None) × (text_length (b ∷ bs) ≡ length (b ∷ bs)))
-  by true is rest = inl (subst (λ (k : ℕ). IsLeast (stands (codes "{{") (b ∷ bs)) (Some k)) (sym (texts_next b bs true is)) (least_here (stands (codes "{{") (b ∷ bs)) is))
-  by false is (inl least) = inl (subst (λ (k : ℕ). IsLeast (stands (codes "{{") (b ∷ bs)) (Some k)) (sym (texts_next b bs false is)) (least_later (stands (codes "{{") (b ∷ bs)) (Some (text_length bs)) is least))
+      → (IsLeast (stands (codes "{{") (b ∷ bs)) (Some (text_length (b ∷ bs))))
+      ⊎ ((IsLeast (stands (codes "{{") (b ∷ bs)) None) × (text_length (b ∷ bs) ≡ length (b ∷ bs)))
+  by true is rest = inl (subst (λ (k : ℕ). IsLeast (stands (codes "{{") (b ∷ bs)) (Some k)) (sym (texts_next b bs true is))
+      (least_here (stands (codes "{{") (b ∷ bs)) is))
+  by false is (inl least) = inl (subst (λ (k : ℕ). IsLeast (stands (codes "{{") (b ∷ bs)) (Some k)) (sym (texts_next b bs false is))
+      (least_later (stands (codes "{{") (b ∷ bs)) (Some (text_length bs)) is least))
   by false is (inr none) = inr (least_later (stands (codes "{{") (b ∷ bs)) None is none.0, texts_next b bs false is ∙ omega (arith, none.1))
 
 -- ---- comments
 
-pub through_least : (c : ℕ) (cs : List ℕ) (bytes : List ℕ) → (place : Option ℕ) × IsLeast (stands (c ∷ cs) bytes) place × (through (c ∷ cs) bytes ≡ more (length (c ∷ cs)) place)
+pub through_least : (c : ℕ) (cs : List ℕ) (bytes : List ℕ) → (place : Option ℕ) × IsLeast (stands (c ∷ cs) bytes) place
+    × (through (c ∷ cs) bytes ≡ more (length (c ∷ cs)) place)
 unfolding through
 through_least c cs [] = (None, nil_stands c cs, refl)
 through_least c cs (b ∷ bs) = by (begins (b ∷ bs) (c ∷ cs)) refl (through_least c cs bs) where
   by : (t : Bool) → begins (b ∷ bs) (c ∷ cs) ≡ t
       → ((place : Option ℕ) × IsLeast (stands (c ∷ cs) bs) place × (through (c ∷ cs) bs ≡ more (length (c ∷ cs)) place))
       → (place : Option ℕ) × IsLeast (stands (c ∷ cs) (b ∷ bs)) place × (through (c ∷ cs) (b ∷ bs) ≡ more (length (c ∷ cs)) place)
-  by true is rest = (Some 0, least_here (stands (c ∷ cs) (b ∷ bs)) is, ap (λ t. cond t (Some (length (c ∷ cs))) (more 1 (through (c ∷ cs) bs))) is ∙ ap (λ (l : ℕ). Some l) (omega arith))
-  by false is rest =
-      (more 1 rest.0, least_later (stands (c ∷ cs) (b ∷ bs)) rest.0 is rest.1, ap (λ t. cond t (Some (length (c ∷ cs))) (more 1 (through (c ∷ cs) bs))) is ∙ ap (more 1) rest.2 ∙ more_swap 1 (length (c ∷ cs)) rest.0)
+  by true is rest = (
+    Some 0,
+    least_here (stands (c ∷ cs) (b ∷ bs)) is,
+    ap (λ t. cond t (Some (length (c ∷ cs))) (more 1 (through (c ∷ cs) bs))) is
+        ∙ ap (λ (l : ℕ). Some l) (omega arith),
+  )
+  by false is rest = (
+    more 1 rest.0,
+    least_later (stands (c ∷ cs) (b ∷ bs)) rest.0 is rest.1,
+    ap (λ t. cond t (Some (length (c ∷ cs))) (more 1 (through (c ∷ cs) bs))) is
+        ∙ ap (more 1) rest.2 ∙ more_swap 1 (length (c ∷ cs)) rest.0,
+  )
 
 pub comments_end : CommentsEnd
 comments_end [] bytes low = absurd (omega (arith, low))
@@ -84,7 +98,8 @@ ends_more : (b : ℕ) (bs : List ℕ) (o : Option ℕ) → more 1 (dashes_end bs
 ends_more b bs None = refl
 ends_more b bs (Some n) =
     let next : suc n ≡ 1 + n = omega arith in
-    ap (λ (l : ℕ). Some l) (let assoc : 1 + (n + cond (stands (codes "--}}") bs n) 4 5) ≡ (1 + n) + cond (stands (codes "--}}") bs n) 4 5 = omega arith in assoc)
+    ap (λ (l : ℕ). Some l) (let assoc : 1 + (n + cond (stands (codes "--}}") bs n) 4 5) ≡ (1 + n) + cond (stands (codes "--}}") bs n) 4 5 = omega arith in
+    assoc)
     ∙ ap (λ (t : Bool). Some ((1 + n) + cond t 4 5)) (ap (stands (codes "--}}") (b ∷ bs)) next)
 
 pub dashes_least : DashesEnd
@@ -97,17 +112,20 @@ dashes_least (b ∷ bs) = by (begins (b ∷ bs) (codes "--}}")) refl (begins (b 
   by true is u other rest = (
     Some 0,
     least_here (dashes_stand (b ∷ bs)) (ap (λ t. t || begins (b ∷ bs) (codes "--~}}")) is),
-    ap (λ t. cond t (Some 4) (cond (begins (b ∷ bs) (codes "--~}}")) (Some 5) (more 1 (through_dashes bs)))) is ∙ ap (λ (t : Bool). Some (0 + cond t 4 5)) (sym is),
+    ap (λ t. cond t (Some 4) (cond (begins (b ∷ bs) (codes "--~}}")) (Some 5) (more 1 (through_dashes bs)))) is
+        ∙ ap (λ (t : Bool). Some (0 + cond t 4 5)) (sym is),
   )
   by false is true other rest = (
     Some 0,
     least_here (dashes_stand (b ∷ bs)) (ap (λ t. t || begins (b ∷ bs) (codes "--~}}")) is ∙ other),
-    ap (λ t. cond t (Some 4) (cond (begins (b ∷ bs) (codes "--~}}")) (Some 5) (more 1 (through_dashes bs)))) is ∙ ap (λ t. cond t (Some 5) (more 1 (through_dashes bs))) other ∙ ap (λ (t : Bool). Some (0 + cond t 4 5)) (sym is),
+    ap (λ t. cond t (Some 4) (cond (begins (b ∷ bs) (codes "--~}}")) (Some 5) (more 1 (through_dashes bs)))) is
+        ∙ ap (λ t. cond t (Some 5) (more 1 (through_dashes bs))) other ∙ ap (λ (t : Bool). Some (0 + cond t 4 5)) (sym is),
   )
   by false is false other rest = (
     more 1 rest.0,
     least_later (dashes_stand (b ∷ bs)) rest.0 (ap (λ t. t || begins (b ∷ bs) (codes "--~}}")) is ∙ other) rest.1,
-    ap (λ t. cond t (Some 4) (cond (begins (b ∷ bs) (codes "--~}}")) (Some 5) (more 1 (through_dashes bs)))) is ∙ ap (λ t. cond t (Some 5) (more 1 (through_dashes bs))) other ∙ ap (more 1) rest.2 ∙ ends_more b bs rest.0,
+    ap (λ t. cond t (Some 4) (cond (begins (b ∷ bs) (codes "--~}}")) (Some 5) (more 1 (through_dashes bs)))) is
+        ∙ ap (λ t. cond t (Some 5) (more 1 (through_dashes bs))) other ∙ ap (more 1) rest.2 ∙ ends_more b bs rest.0,
   )
 
 -- ---- other tags
@@ -116,7 +134,7 @@ and_no : (b : Bool) → (b && false) ≡ false
 and_no true = refl
 and_no false = refl
 
--- Whether quotes are closed behind the bytes, where they are open before them or not.
+-- Whether quotes are closed after the bytes, where they are open before them or not.
 abbrev pub closed : Bool → List ℕ → Bool
 closed true bytes = not (is_even (quotes_in bytes))
 closed false bytes = is_even (quotes_in bytes)
@@ -140,11 +158,12 @@ closed_false b bs = by (b == 34) where
   by true = refl
   by false = refl
 
--- Whether the mark stands at the place, and quotes are closed there.
+-- Whether the mark is at the place, and quotes are closed there.
 abbrev pub passes : List ℕ → Bool → List ℕ → ℕ → Bool
 passes mark q bytes n = stands mark bytes n && closed q (take n bytes)
 
-pub tag_least : (c : ℕ) (cs : List ℕ) (q : Bool) (bytes : List ℕ) → (place : Option ℕ) × IsLeast (passes (c ∷ cs) q bytes) place × (through_unquoted (c ∷ cs) q bytes ≡ more (length (c ∷ cs)) place)
+pub tag_least : (c : ℕ) (cs : List ℕ) (q : Bool) (bytes : List ℕ) → (place : Option ℕ) × IsLeast (passes (c ∷ cs) q bytes) place
+    × (through_unquoted (c ∷ cs) q bytes ≡ more (length (c ∷ cs)) place)
 unfolding through_unquoted is_even
 tag_least c cs q [] = (None, λ n. ap (λ t. t && closed q (take n [])) (nil_stands c cs n), refl)
 tag_least c cs true (b ∷ bs) = by (tag_least c cs (not (b == 34)) bs) where
@@ -153,7 +172,8 @@ tag_least c cs true (b ∷ bs) = by (tag_least c cs (not (b == 34)) bs) where
   by rest = (
     more 1 rest.0,
     least_later (passes (c ∷ cs) true (b ∷ bs)) rest.0 (and_no (begins (b ∷ bs) (c ∷ cs)))
-        (least_same (passes (c ∷ cs) (not (b == 34)) bs) (λ n. passes (c ∷ cs) true (b ∷ bs) (suc n)) rest.0 (λ n. ap (λ t. stands (c ∷ cs) bs n && t) (sym (closed_true b (take n bs)))) rest.1),
+        (least_same (passes (c ∷ cs) (not (b == 34)) bs) (λ n. passes (c ∷ cs) true (b ∷ bs) (suc n)) rest.0
+        (λ n. ap (λ t. stands (c ∷ cs) bs n && t) (sym (closed_true b (take n bs)))) rest.1),
     ap (more 1) rest.2 ∙ more_swap 1 (length (c ∷ cs)) rest.0,
   )
 tag_least c cs false (b ∷ bs) = by (begins (b ∷ bs) (c ∷ cs)) refl (tag_least c cs (b == 34) bs) where
@@ -168,7 +188,8 @@ tag_least c cs false (b ∷ bs) = by (begins (b ∷ bs) (c ∷ cs)) refl (tag_le
   by false is rest = (
     more 1 rest.0,
     least_later (passes (c ∷ cs) false (b ∷ bs)) rest.0 (ap (λ t. t && closed false []) is)
-        (least_same (passes (c ∷ cs) (b == 34) bs) (λ n. passes (c ∷ cs) false (b ∷ bs) (suc n)) rest.0 (λ n. ap (λ t. stands (c ∷ cs) bs n && t) (sym (closed_false b (take n bs)))) rest.1),
+        (least_same (passes (c ∷ cs) (b == 34) bs) (λ n. passes (c ∷ cs) false (b ∷ bs) (suc n)) rest.0
+        (λ n. ap (λ t. stands (c ∷ cs) bs n && t) (sym (closed_false b (take n bs)))) rest.1),
     ap (λ t. cond t (Some (length (c ∷ cs))) (more 1 (through_unquoted (c ∷ cs) (b == 34) bs))) is ∙ ap (more 1) rest.2 ∙ more_swap 1 (length (c ∷ cs)) rest.0,
   )
 

@@ -1,5 +1,6 @@
 -- The next text and tag, in the words of the contracts.
-use Rattle.std.proofs.Common.{◌≡◌, ℕ, zero, suc, ◌+◌, ◌-◌, ◌<◌, ◌≤◌, Bool, true, false, List, [], ◌∷◌, ◌++◌, length, take, drop, Option, Some, None, refl, sym, ap, ◌∙◌, arith, zero-add, add-zero, subst, true≢false}
+use Rattle.std.proofs.Common.{◌≡◌, ℕ, zero, suc, ◌+◌, ◌-◌, ◌<◌, ◌≤◌, Bool, true, false, List, [], ◌∷◌, ◌++◌}
+use Rattle.std.proofs.Common.{length, take, drop, Option, Some, None, refl, sym, ap, ◌∙◌, arith, zero-add, add-zero, subst, true≢false}
 use Rattle.std.proofs.Math.Bool.{and-false}
 use Rattle.std.proofs.lemmas.Bool.Decides.{nat_tests}
 use Rattle.std.specs.Prelude.{codes, nat_lt, ◌&&◌, ◌==◌}
@@ -23,12 +24,13 @@ take-more (suc n) zero [] = rw add-zero refl
 take-more (suc n) (suc m) [] = let e : suc n + suc m ≡ suc (n + suc m) = omega arith in rw e refl
 take-more (suc n) m (b ∷ bs) = let e : suc n + m ≡ suc (n + m) = omega arith in rw e (ap (λ (l : List ℕ). b ∷ l) (take-more n m bs))
 
--- No tag stands behind the text, or the text ends with no backslash.
+-- No tag is after the text, or the text ends with no backslash.
 abbrev IsPlain : List ℕ → Type 0
 IsPlain rest = (begins (drop (text_length rest) rest) (codes "{{") && ends (take (text_length rest) rest) (92 ∷ [])) ≡ false
 
 -- An empty text changes no fault.
-nowhere : (place : ℕ) (blocks : List Block) (rest : List ℕ) → text_length rest ≡ 0 → fault_in place blocks (cut rest) ≡ fault_in (place + text_length rest) blocks (cut (drop (text_length rest) rest))
+nowhere : (place : ℕ) (blocks : List Block) (rest : List ℕ) → text_length rest ≡ 0 → fault_in place blocks (cut rest) ≡ fault_in (place + text_length rest)
+    blocks (cut (drop (text_length rest) rest))
 nowhere place blocks rest e = sym (ap (λ k. fault_in (place + k) blocks (cut (drop k rest))) e ∙ ap (λ k. fault_in k blocks (cut rest)) (add-zero place))
 
 -- No bytes have no text before a tag.
@@ -59,9 +61,10 @@ fault-escape place blocks rest h e f g =
     let size : length (take n rest) ≡ n = length-take-le n rest (text-reaches rest).0 in
     ap (fault_in place blocks) (cut-text rest h e) ∙ rw (bytes-cut, f, g, size) refl
 
--- The fault of a tag, or else the first one behind it.
+-- The fault of a tag, or else the first one after it.
 fault-tag : (place : ℕ) (blocks : List Block) (rest : List ℕ) (n : ℕ) → begins rest (codes "{{") ≡ true → tag_length rest ≡ Some n → n ≤ length rest
-    → fault_in place blocks (cut rest) ≡ option_or (at place (tag_fault blocks (tag_of (take n rest)))) (fault_in (place + n) (after_tag place blocks (tag_of (take n rest))) (cut (drop n rest)))
+    → fault_in place blocks (cut rest) ≡ option_or (at place (tag_fault blocks (tag_of (take n rest))))
+    (fault_in (place + n) (after_tag place blocks (tag_of (take n rest))) (cut (drop n rest)))
 unfolding fault_in piece_fault
 fault-tag place blocks rest n e f h =
     let size : length (take n rest) ≡ n = length-take-le n rest h in
@@ -81,22 +84,25 @@ nat_lt-false m n h = grind (arith, nat_tests)
 none-left : (base : ℕ) (m n : ℕ) → n ≤ m → text_item base m n ≡ []
 none-left base m n h = rw (nat_lt-false m n h) refl
 
--- What a tag says, and then what stands behind it.
+-- What a tag says, and then what is after it.
 items-tag : (base : ℕ) (before : List ℕ) (front : ℕ) (rest : List ℕ) (n : ℕ) → begins rest (codes "{{") ≡ true → tag_length rest ≡ Some n → n ≤ length rest
-    → items_in base before front (cut rest) ≡ tag_item (tag_of (take n rest)) ++ items_in base (before ++ take n rest) (tag_takes_after (tag_of (take n rest)) before (drop n rest)) (cut (drop n rest))
+    → items_in base before front (cut rest) ≡ tag_item (tag_of (take n rest))
+    ++ items_in base (before ++ take n rest) (tag_takes_after (tag_of (take n rest)) before (drop n rest)) (cut (drop n rest))
 unfolding items_in
 items-tag base before front rest n e f h = ap (items_in base before front) (cut-tag rest n e f h) ∙ rw bytes-cut refl
 
 -- What a tag takes of the bytes before it.
 first_takes-tag : (before : List ℕ) (rest : List ℕ) (n : ℕ) → begins rest (codes "{{") ≡ true → tag_length rest ≡ Some n → n ≤ length rest
     → first_takes before (cut rest) ≡ tag_takes_before (tag_of (take n rest)) before (drop n rest)
-first_takes-tag before rest n e f h = ap (first_takes before) (cut-tag rest n e f h) ∙ ap (tag_takes_before (tag_of (take n rest)) before) (bytes-cut (drop n rest))
+first_takes-tag before rest n e f h = ap (first_takes before) (cut-tag rest n e f h) ∙ ap (tag_takes_before (tag_of (take n rest)) before)
+    (bytes-cut (drop n rest))
 
 -- A text, maybe an empty one, and then a tag.
 items-text : (base : ℕ) (t : Bool) (before : List ℕ) (front : ℕ) (rest : List ℕ) (k : ℕ) → begins rest (codes "{{") ≡ t
     → begins (drop (text_length rest) rest) (codes "{{") ≡ true → tag_length (drop (text_length rest) rest) ≡ Some k → k ≤ length (drop (text_length rest) rest)
     → items_in base before front (cut rest)
-    ≡ text_item base (length before + front) (length before + text_length rest - first_takes (before ++ take (text_length rest) rest) (cut (drop (text_length rest) rest)))
+    ≡ text_item base (length before + front) (length before + text_length rest - first_takes (before ++ take (text_length rest) rest)
+    (cut (drop (text_length rest) rest)))
     ++ items_in base (before ++ take (text_length rest) rest) 0 (cut (drop (text_length rest) rest))
 unfolding items_in tag_takes_after
 items-text base true before front rest k e f g h =
@@ -110,7 +116,8 @@ items-text base true before front rest k e f g h =
     items-tag base before front rest k e g' h' ∙ sym (items-tag base before 0 rest k e g' h')
     ∙ ap (λ b. items_in base b 0 (cut rest)) (sym (append-nil before))
     ∙ sym (ap (λ n. items_in base (before ++ take n rest) 0 (cut (drop n rest))) z) in
-    same ∙ ap (λ (l : List Item). l ++ items_in base (before ++ take (text_length rest) rest) 0 (cut (drop (text_length rest) rest))) (sym (none-left base _ _ (omega (arith, z))))
+    same ∙ ap (λ (l : List Item). l ++ items_in base (before ++ take (text_length rest) rest) 0 (cut (drop (text_length rest) rest)))
+    (sym (none-left base _ _ (omega (arith, z))))
 items-text base false before front [] k e f g h = absurd (true≢false (sym f ∙ ap (λ l. begins l (codes "{{")) (drop_all (text_length []) [] (omega arith))))
 items-text base false before front (b ∷ bs) k e f g h =
     let rest = b ∷ bs in
@@ -141,7 +148,7 @@ pub record Cuts (body : List ℕ) (from : ℕ) (rest words behind : List ℕ) (s
   pub behind_is : behind ≡ drop (text_length rest) rest
   pub start_is : start ≡ from + length words
 
--- Between the two places a text stands, maybe an empty one, and no `{{`.
+-- Between the two places is a text, maybe an empty one, and no `{{`.
 pub record Found (body : List ℕ) (from start : ℕ) : Type 0 where
   pub size : start ≡ from + text_length (drop from body)
   pub within : start ≤ length body
@@ -165,12 +172,18 @@ found body from rest words behind start c =
       length_from = length-take-le from body c.inside;
     }
 
--- A tag stands where the text ends before the end.
+-- A tag begins where the text ends, if that is before the end of the body.
 pub tag-stands : (body : List ℕ) (from start : ℕ) → Found body from start → start < length body → begins (drop start body) (codes "{{") ≡ true
 tag-stands body from start f h =
     let r = text-reaches (drop from body) in
     let over : length (drop (text_length (drop from body)) (drop from body)) ≡ length (drop start body) = ap length f.behind_is in
-    sym (ap (λ l. begins l (codes "{{")) f.behind_is) ∙ r.1 (omega (arith, over, length-drop start body, length-drop (text_length (drop from body)) (drop from body)))
+    sym (ap (λ l. begins l (codes "{{")) f.behind_is) ∙ r.1 (omega (
+      arith,
+      over,
+      length-drop start body,
+      length-drop (text_length (drop from body))
+          (drop from body),
+    ))
 
 -- Where the text goes to the end of the body, it is the last.
 pub is_last : (body : List ℕ) (from start : ℕ) → Found body from start → start ≡ length body → from ≤ length body → IsLast body from
@@ -182,9 +195,11 @@ is_last body from start f e inside =
     let whole : text_length rest ≡ length rest = omega (arith, f.size, length-drop from body) in
     let plain : IsPlain rest = ap (λ l. begins l (codes "{{") && ends (take (text_length rest) rest) (92 ∷ [])) over in
     record {
-      fault = λ blocks. fault-text (begins rest (codes "{{")) from blocks rest refl plain ∙ ap (λ l. fault_in (from + text_length rest) blocks (cut l)) over ∙ ap (fault_in (from + text_length rest) blocks) cut-none;
+      fault = λ blocks. fault-text (begins rest (codes "{{")) from blocks rest refl plain ∙ ap (λ l. fault_in (from + text_length rest) blocks (cut l)) over
+          ∙ ap (fault_in (from + text_length rest) blocks) cut-none;
       items = λ base front. items-last base (begins rest (codes "{{")) (take from body) front rest refl whole
-          ∙ ap (λ k. text_item base (k + front) (k + length rest)) f.length_from ∙ ap (λ k. text_item base (from + front) k) (omega (arith, length-drop from body));
+          ∙ ap (λ k. text_item base (k + front) (k + length rest)) f.length_from
+          ∙ ap (λ k. text_item base (from + front) k) (omega (arith, length-drop from body));
     }
 
 -- A text without a backslash at its end has no fault.
@@ -196,7 +211,7 @@ to_tag body from start f plain blocks =
     fault-text (begins rest (codes "{{")) from blocks rest refl is_plain
     ∙ ap (λ l. fault_in (from + text_length rest) blocks (cut l)) f.behind_is ∙ ap (λ k. fault_in k blocks (cut (drop start body))) (sym f.size)
 
--- A tag behind the text is the next one.
+-- A tag after the text is the next one.
 pub is_next : (body : List ℕ) (from start n stop : ℕ) (t : Tag) → Found body from start → start < length body
     → ends (take (text_length (drop from body)) (drop from body)) (92 ∷ []) ≡ false
     → tag_length (drop start body) ≡ Some n → 2 ≤ n → n ≤ length (drop start body) → stop ≡ start + n → Some t ≡ tag_of (take n (drop start body))
@@ -212,8 +227,10 @@ is_next body from start n stop t f h plain size two fits stop_is said =
     let fits' : n ≤ length (drop (text_length rest) rest) = omega (arith, ap length f.behind_is) in
     let S = take start body in
     let g = take n tail in
-    let G : ℕ → ℕ → List ℕ → List ℕ → ℕ → List Item = λ base a b l front. text_item base (a + front) (a + text_length rest - first_takes b (cut l)) ++ items_in base b 0 (cut l) in
-    let H : ℕ → Option Tag → List ℕ → List ℕ → ℕ → List Item = λ base o b l front. text_item base (from + front) (start - tag_takes_before o S l) ++ (tag_item o ++ items_in base b (tag_takes_after o S l) (cut l)) in
+    let G : ℕ → ℕ → List ℕ → List ℕ → ℕ → List Item = λ base a b l front. text_item base (a + front) (a + text_length rest - first_takes b (cut l))
+    ++ items_in base b 0 (cut l) in
+    let H : ℕ → Option Tag → List ℕ → List ℕ → ℕ → List Item = λ base o b l front. text_item base (from + front) (start - tag_takes_before o S l)
+    ++ (tag_item o ++ items_in base b (tag_takes_after o S l) (cut l)) in
     record {
       ordered = omega (arith, f.size);
       some = omega arith;
@@ -221,8 +238,10 @@ is_next body from start n stop t f h plain size two fits stop_is said =
       fault = λ blocks.
           to_tag body from start f plain blocks
           ∙ fault-tag start blocks tail n stands size fits
-          ∙ ap (λ l. option_or (at start (tag_fault blocks (tag_of (take n tail)))) (fault_in (start + n) (after_tag start blocks (tag_of (take n tail))) (cut l))) after
-          ∙ ap (λ k. option_or (at start (tag_fault blocks (tag_of (take n tail)))) (fault_in k (after_tag start blocks (tag_of (take n tail))) (cut (drop stop body)))) (sym stop_is)
+          ∙ ap (λ l. option_or (at start (tag_fault blocks (tag_of (take n tail))))
+          (fault_in (start + n) (after_tag start blocks (tag_of (take n tail))) (cut l))) after
+          ∙ ap (λ k. option_or (at start (tag_fault blocks (tag_of (take n tail))))
+          (fault_in k (after_tag start blocks (tag_of (take n tail))) (cut (drop stop body)))) (sym stop_is)
           ∙ ap (λ o. option_or (at start (tag_fault blocks o)) (fault_in stop (after_tag start blocks o) (cut (drop stop body)))) (sym said);
       items = λ base front.
           items-text base (begins rest (codes "{{")) (take from body) front rest n refl stands' size' fits'
@@ -243,7 +262,8 @@ no-escape rest e = ap (λ k. ends (take k rest) (92 ∷ [])) e
 
 -- A backslash at the end of a text is the fault, at its place.
 escape-at : (t : Bool) (body : List ℕ) (from start : ℕ) → begins (drop from body) (codes "{{") ≡ t → Found body from start → start < length body
-    → ends (take (text_length (drop from body)) (drop from body)) (92 ∷ []) ≡ true → (blocks : List Block) → fault_at body from blocks ≡ Some (record { kind = Escape; place = start - 1 })
+    → ends (take (text_length (drop from body)) (drop from body)) (92 ∷ []) ≡ true → (blocks : List Block)
+    → fault_at body from blocks ≡ Some (record { kind = Escape; place = start - 1 })
 escape-at true body from start e f h escaped blocks = absurd (true≢false (sym escaped ∙ no-escape (drop from body) (text-none (drop from body) e)))
 escape-at false body from start e f h escaped blocks =
     let rest = drop from body in
@@ -259,7 +279,8 @@ is_escape body from start f h escaped = record { fault = escape-at (begins (drop
 
 -- A tag without an end is the fault.
 pub is_unclosed : (body : List ℕ) (from start : ℕ) → Found body from start → start < length body
-    → ends (take (text_length (drop from body)) (drop from body)) (92 ∷ []) ≡ false → tag_length (drop start body) ≡ None → IsWrong body from (record { kind = Unclosed; place = start })
+    → ends (take (text_length (drop from body)) (drop from body)) (92 ∷ []) ≡ false → tag_length (drop start body) ≡ None
+    → IsWrong body from (record { kind = Unclosed; place = start })
 is_unclosed body from start f h plain size =
     record { fault = λ blocks. to_tag body from start f plain blocks ∙ fault-unclosed start blocks (drop start body) (tag-stands body from start f h) size }
 
@@ -280,21 +301,30 @@ pub record Call (body : List ℕ) (from : ℕ) (words behind : List ℕ) : Type 
   pub behind_is : behind ≡ drop (from + length words) body
   pub words_are : words ≡ take (text_length (drop from body)) (drop from body)
 
--- The bytes of the call are the text and what stands behind it.
+-- The bytes of the call are the text and what is after it.
 pub called : (body : List ℕ) (from : ℕ) (rest words behind : List ℕ) (k : ℕ) → from ≤ length body → rest ≡ drop from body → k ≡ text_length rest
     → words ≡ take k rest → behind ≡ drop k rest → Call body from words behind
 called body from rest words behind k h rest_is k_is words_is behind_is =
     let k' : k ≡ text_length (drop from body) = k_is ∙ ap text_length rest_is in
-    let words_are : words ≡ take (text_length (drop from body)) (drop from body) = words_is ∙ ap (λ l. take k l) rest_is ∙ ap (λ n. take n (drop from body)) k' in
-    let f = found body from rest words behind (from + length words) (record { inside = h; rest_is = rest_is; text_is = words_is ∙ ap (λ n. take n rest) k_is; behind_is = behind_is ∙ ap (λ n. drop n rest) k_is; start_is = refl }) in
+    let words_are : words ≡ take (text_length (drop from body)) (drop from body) = words_is ∙ ap (λ l. take k l) rest_is
+    ∙ ap (λ n. take n (drop from body)) k' in
+    let f = found body from rest words behind (from + length words) (record {
+      inside = h;
+      rest_is = rest_is;
+      text_is = words_is
+          ∙ ap (λ n. take n rest) k_is;
+      behind_is = behind_is ∙ ap (λ n. drop n rest) k_is;
+      start_is = refl;
+    }) in
     record {
       found = f;
       behind_is = behind_is ∙ ap (λ l. drop k l) rest_is ∙ ap (λ n. drop n (drop from body)) k' ∙ f.behind_is;
       words_are = words_are;
     }
 
--- Where some byte stands behind the text, the text ends before the body does.
-pub before_end : (body : List ℕ) (from : ℕ) (words behind : List ℕ) (b : Bool) → Call body from words behind → b ≡ (length behind == 0) → b ≡ false → from + length words < length body
+-- Where some byte is after the text, the text ends before the body does.
+pub before_end : (body : List ℕ) (from : ℕ) (words behind : List ℕ) (b : Bool) → Call body from words behind → b ≡ (length behind == 0) → b ≡ false
+    → from + length words < length body
 before_end body from words behind b c e f =
     let some : 0 < length behind = some_behind behind b e f in
     omega (arith, some, ap length c.behind_is, length-drop (from + length words) body)
@@ -303,14 +333,21 @@ before_end body from words behind b c e f =
     some_behind [] b e f = absurd (true≢false (sym e ∙ f))
     some_behind (x ∷ xs) b e f = omega arith
 
--- The test for no byte behind says that there is none.
+-- The test for no byte after the text says that there is none.
 no_behind : (behind : List ℕ) (b : Bool) → b ≡ (length behind == 0) → b ≡ true → length behind ≡ 0
 no_behind behind b e f = let g : (length behind == 0) ≡ true = sym e ∙ f in grind (arith, nat_tests)
 
--- Where no byte stands behind the text, it is the last.
-pub at_end : (body : List ℕ) (from : ℕ) (words behind : List ℕ) (b : Bool) → Call body from words behind → b ≡ (length behind == 0) → b ≡ true → from ≤ length body → IsLast body from
+-- Where no byte is after the text, it is the last.
+pub at_end : (body : List ℕ) (from : ℕ) (words behind : List ℕ) (b : Bool) → Call body from words behind → b ≡ (length behind == 0) → b ≡ true
+    → from ≤ length body → IsLast body from
 at_end body from words behind b c e f h =
-    is_last body from (from + length words) c.found (omega (arith, no_behind behind b e f, ap length c.behind_is, length-drop (from + length words) body, c.found.within)) h
+    is_last body from (from + length words) c.found (omega (
+      arith,
+      no_behind behind b e f,
+      ap length c.behind_is,
+      length-drop (from + length words) body,
+      c.found.within,
+    )) h
 
 -- The text that was cut off ends with a backslash exactly where the bytes before the tag do.
 pub ends-words : (body : List ℕ) (from : ℕ) (words behind : List ℕ) (b t : Bool) → Call body from words behind → b ≡ ends words (92 ∷ []) → b ≡ t

@@ -1,5 +1,6 @@
 -- Steps, parts and blocks, one after another.
-use Rattle.std.proofs.Common.{◌≡◌, ℕ, suc, ◌+◌, ◌-◌, ◌≤◌, ◌<◌, Bool, true, false, not, List, [], ◌∷◌, ◌++◌, length, take, drop, Some, refl, sym, ap, ◌∙◌, arith, append_assoc, subst, inl, inr}
+use Rattle.std.proofs.Common.{◌≡◌, ℕ, suc, ◌+◌, ◌-◌, ◌≤◌, ◌<◌, Bool, true, false, not, List, [], ◌∷◌}
+use Rattle.std.proofs.Common.{◌++◌, length, take, drop, Some, refl, sym, ap, ◌∙◌, arith, append_assoc, subst, inl, inr}
 use Rattle.std.specs.Prelude.{nat_le, ◌⊎◌, ◌&&◌, ◌||◌}
 use Rattle.std.proofs.lemmas.List.{append-nil, length-drop}
 use Rattle.std.proofs.Math.Bool.{and-true, and-false}
@@ -12,7 +13,8 @@ use Rattle.template_reader.specs.Tree as trees
 use Rattle.template_reader.specs.Taken.{Item, text_item, form_item, tag_takes_before, tag_takes_after}
 use Rattle.template_reader.specs.Taken as item
 use Rattle.template_reader.specs.Nest.{Spells, SpellsOne, begin_item, finish_item}
-use Rattle.template_reader.specs.Reading.{items_at, IsLast, IsNext, Passes, Moves, Stops, Fails, FailsIn, Others, Blocks, Fits, stop_fault, stop_items, opened, head, text_tree}
+use Rattle.template_reader.specs.Reading.{items_at, IsLast, IsNext, Passes, Moves, Stops, Fails, FailsIn}
+use Rattle.template_reader.specs.Reading.{Others, Blocks, Fits, stop_fault, stop_items, opened, head, text_tree}
 use Rattle.template_reader.specs.declared.tag.Form.{Form}
 use Rattle.template_reader.specs.declared.tag.Form.TheVariants as form
 use Rattle.template_reader.specs.declared.tag.Name.{Name}
@@ -28,7 +30,8 @@ use Rattle.template_reader.proofs.Trees.{joined-joined, spells-text, spells-one,
 
 -- One part was read, and then another.
 pub moved_more : (base : ℕ) (body : List ℕ) (from front depth : ℕ) (in_each : Bool) (old mid new : Tree) (at skip place next : ℕ)
-    → Moves base body from front depth in_each old mid at skip → Moves base body at skip depth in_each mid new place next → Moves base body from front depth in_each old new place next
+    → Moves base body from front depth in_each old mid at skip → Moves base body at skip depth in_each mid new place next
+    → Moves base body from front depth in_each old new place next
 moved_more base body from front depth in_each old mid new at skip place next a b =
     let p = a.items in
     let q = b.items in
@@ -47,7 +50,8 @@ moved_more base body from front depth in_each old mid new at skip place next a b
 
 -- A part was read, and then what ends it.
 pub moved_stop : (base : ℕ) (body : List ℕ) (from front depth : ℕ) (in_each : Bool) (old mid new : Tree) (at skip : ℕ) (s : Stop) (place end next : ℕ)
-    → Moves base body from front depth in_each old mid at skip → Stops base body at skip depth in_each mid new s place end next → Stops base body from front depth in_each old new s place end next
+    → Moves base body from front depth in_each old mid at skip → Stops base body at skip depth in_each mid new s place end next
+    → Stops base body from front depth in_each old new s place end next
 moved_stop base body from front depth in_each old mid new at skip s place end next a b =
     let p = a.items in
     let q = b.items in
@@ -65,18 +69,28 @@ moved_stop base body from front depth in_each old mid new at skip s place end ne
     }
 
 -- The last text.
-pub last_stop : (base : ℕ) (body : List ℕ) (at front depth : ℕ) (in_each : Bool) (old new : Tree) → at + front ≤ length body → IsLast body at → new ≡ joined old (text_tree base (at + front) (length body))
+pub last_stop : (base : ℕ) (body : List ℕ) (at front depth : ℕ) (in_each : Bool) (old new : Tree) → at + front ≤ length body → IsLast body at
+    → new ≡ joined old (text_tree base (at + front) (length body))
     → Stops base body at front depth in_each old new stop.End (length body) (length body) 0
 last_stop base body at front depth in_each old new h l grown = record {
   later = omega arith;
   inside = omega arith;
   fault = λ blocks fits. l.fault blocks;
-  items = (text_tree base (at + front) (length body), text_item base (at + front) (length body), grown, spells-text base (at + front) (length body), l.items base front ∙ sym (append-nil (text_item base (at + front) (length body))));
+  items = (
+    text_tree base (at + front) (length body),
+    text_item base (at + front) (length body),
+    grown,
+    spells-text base (at + front) (length body),
+    l.items
+        base front ∙ sym (append-nil (text_item base (at + front) (length body))),
+  );
 }
 
 -- A tag and the text before it.
-pub passed : (base : ℕ) (body : List ℕ) (at front : ℕ) (old new : Tree) (start end before skip : ℕ) (t : Tag) (b a : List ℕ) → IsNext body at start end t → b ≡ take start body → a ≡ drop end body
-    → before ≡ tag_takes_before (Some t) b a → skip ≡ tag_takes_after (Some t) b a → skip ≤ length a → new ≡ joined old (text_tree base (at + front) (start - before))
+pub passed : (base : ℕ) (body : List ℕ) (at front : ℕ) (old new : Tree) (start end before skip : ℕ) (t : Tag) (b a : List ℕ) → IsNext body at start end t
+    → b ≡ take start body → a ≡ drop end body
+    → before ≡ tag_takes_before (Some t) b a → skip ≡ tag_takes_after (Some t) b a → skip ≤ length a
+    → new ≡ joined old (text_tree base (at + front) (start - before))
     → Passes base body at front old new t.form start end skip
 passed base body at front old new start end before skip t b a next b_is a_is before_is skip_is fits grown =
     let k = before_is ∙ ap (λ l. tag_takes_before (Some t) l a) b_is ∙ ap (λ l. tag_takes_before (Some t) (take start body) l) a_is in
@@ -91,13 +105,15 @@ passed base body at front old new start end before skip t b a next b_is a_is bef
         grown,
         spells-text base (at + front) (start - before),
         next.items base front
-            ∙ ap (λ k. text_item base (at + front) (start - k) ++ (form_item t.form ++ items_at base body end (tag_takes_after (Some t) (take start body) (drop end body)))) (sym k)
+            ∙ ap (λ k. text_item base (at + front) (start - k) ++ (form_item t.form
+            ++ items_at base body end (tag_takes_after (Some t) (take start body) (drop end body)))) (sym k)
             ∙ ap (λ m. text_item base (at + front) (start - before) ++ (form_item t.form ++ items_at base body end m)) (sym m),
       );
     }
 
 -- A comment, or a tag that prints.
-pub passed_comment : (base : ℕ) (body : List ℕ) (at front depth : ℕ) (in_each : Bool) (old new : Tree) (f : Form) (start end skip : ℕ) → Passes base body at front old new f start end skip
+pub passed_comment : (base : ℕ) (body : List ℕ) (at front depth : ℕ) (in_each : Bool) (old new : Tree) (f : Form) (start end skip : ℕ)
+    → Passes base body at front old new f start end skip
     → f ≡ form.Comment → Moves base body at front depth in_each old new end skip
 unfolding form_fault
 passed_comment base body at front depth in_each old new f start end skip p said =
@@ -114,8 +130,10 @@ is_in : (in_each : Bool) (w : Walk) (blocks : List Block) (t : Bool) → is_in_e
 is_in in_each w blocks t e h = ap (λ b. not (is_root w || b)) e ∙ ap not h
 
 -- A tag that prints is one node.
-pub passed_print : (base : ℕ) (body : List ℕ) (at front depth : ℕ) (in_each : Bool) (old mid new : Tree) (f : Form) (start end skip : ℕ) (e : Expr) → Passes base body at front old mid f start end skip
-    → f ≡ form.Print e → (is_root (walk_of e) || in_each) ≡ true → new ≡ joined mid (node (trees.print e) done) → Moves base body at front depth in_each old new end skip
+pub passed_print : (base : ℕ) (body : List ℕ) (at front depth : ℕ) (in_each : Bool) (old mid new : Tree) (f : Form) (start end skip : ℕ) (e : Expr)
+    → Passes base body at front old mid f start end skip
+    → f ≡ form.Print e → (is_root (walk_of e) || in_each) ≡ true → new ≡ joined mid (node (trees.print e) done)
+    → Moves base body at front depth in_each old new end skip
 unfolding form_fault
 passed_print base body at front depth in_each old mid new f start end skip e p said good more =
     let q = p.items in
@@ -133,14 +151,16 @@ passed_print base body at front depth in_each old mid new f start end skip e p s
     }
 
 -- A tag that prints what belongs to an each is a fault outside every each.
-pub outside_print : (base : ℕ) (body : List ℕ) (at front depth : ℕ) (in_each : Bool) (old new : Tree) (f : Form) (start end skip : ℕ) (e : Expr) (x : TemplateError) → Passes base body at front old new f start end skip
+pub outside_print : (base : ℕ) (body : List ℕ) (at front depth : ℕ) (in_each : Bool) (old new : Tree) (f : Form) (start end skip : ℕ) (e : Expr)
+    (x : TemplateError) → Passes base body at front old new f start end skip
     → f ≡ form.Print e → (is_root (walk_of e) || in_each) ≡ false → x ≡ record { kind = NotInEach; place = start } → Fails body at depth in_each x
 unfolding form_fault
 outside_print base body at front depth in_each old new f start end skip e x p said bad is =
     record { fault = λ blocks fits. p.fault blocks ∙ rw (said, is_in in_each (walk_of e) blocks false fits.each_is bad) (ap Some (sym is)) }
 
 -- So is a begin with such a path.
-pub outside_begin : (base : ℕ) (body : List ℕ) (at front depth : ℕ) (in_each : Bool) (old new : Tree) (f : Form) (start end skip : ℕ) (n : Name) (w : Walk) (x : TemplateError) → Passes base body at front old new f start end skip
+pub outside_begin : (base : ℕ) (body : List ℕ) (at front depth : ℕ) (in_each : Bool) (old new : Tree) (f : Form) (start end skip : ℕ) (n : Name) (w : Walk)
+    (x : TemplateError) → Passes base body at front old new f start end skip
     → f ≡ form.Begin n w → (is_root w || in_each) ≡ false → x ≡ record { kind = NotInEach; place = start } → Fails body at depth in_each x
 unfolding form_fault
 outside_begin base body at front depth in_each old new f start end skip n w x p said bad is =
@@ -155,22 +175,40 @@ nat_le-false : (m n : ℕ) → n < m → nat_le m n ≡ false
 nat_le-false m n h = grind (arith, nat_tests)
 
 -- A begin within 32 blocks is a fault.
-pub deep_begin : (base : ℕ) (body : List ℕ) (at front depth : ℕ) (in_each : Bool) (old new : Tree) (f : Form) (start end skip : ℕ) (n : Name) (w : Walk) (x : TemplateError) → Passes base body at front old new f start end skip
+pub deep_begin : (base : ℕ) (body : List ℕ) (at front depth : ℕ) (in_each : Bool) (old new : Tree) (f : Form) (start end skip : ℕ) (n : Name) (w : Walk)
+    (x : TemplateError) → Passes base body at front old new f start end skip
     → f ≡ form.Begin n w → (is_root w || in_each) ≡ true → 32 ≤ depth → x ≡ record { kind = TooDeep; place = start } → Fails body at depth in_each x
 unfolding form_fault
 deep_begin base body at front depth in_each old new f start end skip n w x p said good h is =
-    record { fault = λ blocks fits. p.fault blocks ∙ rw (said, is_in in_each w blocks true fits.each_is good, nat_le-true 32 (length blocks) (omega (arith, fits.depth_is))) (ap Some (sym is)) }
+    record {
+      fault = λ blocks fits. p.fault blocks ∙ rw (
+        said,
+        is_in in_each w blocks true fits.each_is good,
+        nat_le-true 32 (length blocks)
+            (omega (arith, fits.depth_is)),
+      ) (ap Some (sym is));
+    }
 
 -- A fault within the block that is begun is the first one.
-pub failed_begin : (base : ℕ) (body : List ℕ) (at front depth : ℕ) (in_each : Bool) (old new : Tree) (f : Form) (start end skip : ℕ) (n : Name) (w : Walk) (x : TemplateError) → Passes base body at front old new f start end skip
+pub failed_begin : (base : ℕ) (body : List ℕ) (at front depth : ℕ) (in_each : Bool) (old new : Tree) (f : Form) (start end skip : ℕ) (n : Name) (w : Walk)
+    (x : TemplateError) → Passes base body at front old new f start end skip
     → f ≡ form.Begin n w → (is_root w || in_each) ≡ true → depth < 32 → FailsIn body end depth in_each (opened n false start) x → Fails body at depth in_each x
 unfolding form_fault
 failed_begin base body at front depth in_each old new f start end skip n w x p said good h b =
-    record { fault = λ blocks fits. p.fault blocks ∙ rw (said, is_in in_each w blocks true fits.each_is good, nat_le-false 32 (length blocks) (omega (arith, fits.depth_is))) (b.fault blocks fits) }
+    record {
+      fault = λ blocks fits. p.fault blocks ∙ rw (
+        said,
+        is_in in_each w blocks true fits.each_is good,
+        nat_le-false 32 (length blocks)
+            (omega (arith, fits.depth_is)),
+      ) (b.fault blocks fits);
+    }
 
 -- A begin and its block are one node.
-pub passed_begin : (base : ℕ) (body : List ℕ) (at front depth : ℕ) (in_each : Bool) (old mid new : Tree) (f : Form) (start end skip : ℕ) (n : Name) (w : Walk) (b : Branch) (place next : ℕ)
-    → Passes base body at front old mid f start end skip → f ≡ form.Begin n w → (is_root w || in_each) ≡ true → depth < 32 → Blocks base body end skip depth in_each n w start b place next
+pub passed_begin : (base : ℕ) (body : List ℕ) (at front depth : ℕ) (in_each : Bool) (old mid new : Tree) (f : Form) (start end skip : ℕ) (n : Name) (w : Walk)
+    (b : Branch) (place next : ℕ)
+    → Passes base body at front old mid f start end skip → f ≡ form.Begin n w → (is_root w || in_each) ≡ true → depth < 32
+    → Blocks base body end skip depth in_each n w start b place next
     → new ≡ joined mid (node b done) → Moves base body at front depth in_each old new place next
 unfolding form_fault
 passed_begin base body at front depth in_each old mid new f start end skip n w b place next p said good h k more =
@@ -179,7 +217,12 @@ passed_begin base body at front depth in_each old mid new f start end skip n w b
     record {
       later = omega (arith, p.later, k.later);
       inside = k.inside;
-      fault = λ blocks fits. p.fault blocks ∙ rw (said, is_in in_each w blocks true fits.each_is good, nat_le-false 32 (length blocks) (omega (arith, fits.depth_is))) (k.fault blocks fits);
+      fault = λ blocks fits. p.fault blocks ∙ rw (
+        said,
+        is_in in_each w blocks true fits.each_is good,
+        nat_le-false 32 (length blocks)
+            (omega (arith, fits.depth_is)),
+      ) (k.fault blocks fits);
       items = (
         joined q.0 (node b done),
         q.1 ++ (item.begin n w ∷ c.0),
@@ -214,17 +257,26 @@ inner_other depth in_each name start blocks fits =
 
 -- An else in the other part is the second.
 pub other_twice : (base : ℕ) (body : List ℕ) (from front depth : ℕ) (in_each : Bool) (name : Name) (start : ℕ) (t : Tree) (s : Stop) (place end skip : ℕ)
-    → Stops base body from front (depth + 1) in_each done t s place end skip → s ≡ stop.Otherwise → FailsIn body from depth in_each (opened name true start) (record { kind = TwoElse; place = place })
+    → Stops base body from front (depth + 1) in_each done t s place end skip → s ≡ stop.Otherwise
+    → FailsIn body from depth in_each (opened name true start) (record { kind = TwoElse; place = place })
 unfolding form_fault
 other_twice base body from front depth in_each name start t s place end skip p e =
-    record { fault = λ blocks fits. p.fault (opened name true start ∷ blocks) (inner_other depth in_each name start blocks fits) ∙ ap (λ s. stop_fault body (opened name true start ∷ blocks) s place end) e }
+    record {
+      fault = λ blocks fits. p.fault (opened name true start ∷ blocks) (inner_other depth in_each name start blocks fits)
+          ∙ ap (λ s. stop_fault body (opened name true start ∷ blocks) s place end) e;
+    }
 
 -- An end of another name in the other part has no begin.
-pub other_wrong : (base : ℕ) (body : List ℕ) (from front depth : ℕ) (in_each : Bool) (name : Name) (start : ℕ) (t : Tree) (s : Stop) (place end skip : ℕ) (n : Name)
-    → Stops base body from front (depth + 1) in_each done t s place end skip → s ≡ stop.Finish n → same_name n name ≡ false → FailsIn body from depth in_each (opened name true start) (record { kind = NotBegun; place = place })
+pub other_wrong : (base : ℕ) (body : List ℕ) (from front depth : ℕ) (in_each : Bool) (name : Name) (start : ℕ) (t : Tree) (s : Stop) (place end skip : ℕ)
+    (n : Name)
+    → Stops base body from front (depth + 1) in_each done t s place end skip → s ≡ stop.Finish n → same_name n name ≡ false
+    → FailsIn body from depth in_each (opened name true start) (record { kind = NotBegun; place = place })
 unfolding form_fault
 other_wrong base body from front depth in_each name start t s place end skip n p e differs =
-    record { fault = λ blocks fits. p.fault (opened name true start ∷ blocks) (inner_other depth in_each name start blocks fits) ∙ ap (λ s. stop_fault body (opened name true start ∷ blocks) s place end) e ∙ rw differs refl }
+    record {
+      fault = λ blocks fits. p.fault (opened name true start ∷ blocks) (inner_other depth in_each name start blocks fits)
+          ∙ ap (λ s. stop_fault body (opened name true start ∷ blocks) s place end) e ∙ rw differs refl;
+    }
 
 -- Names that pass the test are equal.
 pub same_name-eq : (m n : Name) → same_name m n ≡ true → m ≡ n
@@ -243,39 +295,57 @@ abbrev Whole : ℕ → List ℕ → ℕ → ℕ → Tree → List Item → Type 
 Whole base body from front t rest = (a : List Item) × Spells t a × (items_at base body from front ≡ a ++ rest)
 
 -- A part that began with no nodes is spelled by all its items.
-whole : (base : ℕ) (body : List ℕ) (from front depth : ℕ) (in_each : Bool) (t : Tree) (s : Stop) (place end skip : ℕ) → Stops base body from front depth in_each done t s place end skip → Whole base body from front t (stop_items base body s end skip)
+whole : (base : ℕ) (body : List ℕ) (from front depth : ℕ) (in_each : Bool) (t : Tree) (s : Stop) (place end skip : ℕ)
+    → Stops base body from front depth in_each done t s place end skip → Whole base body from front t (stop_items base body s end skip)
 whole base body from front depth in_each t s place end skip p =
     let q = p.items in
     let P : Tree → Type 0 = λ u. Spells u q.1 in
     (q.1, subst P (sym q.2) q.3, q.4)
 
 -- An end of the block's name ends the other part.
-pub other_ends : (base : ℕ) (body : List ℕ) (from front depth : ℕ) (in_each : Bool) (name : Name) (start : ℕ) (t : Tree) (s : Stop) (place end skip : ℕ) (n : Name)
-    → Stops base body from front (depth + 1) in_each done t s place end skip → s ≡ stop.Finish n → same_name n name ≡ true → Others base body from front depth in_each name start t end skip
+pub other_ends : (base : ℕ) (body : List ℕ) (from front depth : ℕ) (in_each : Bool) (name : Name) (start : ℕ) (t : Tree) (s : Stop) (place end skip : ℕ)
+    (n : Name)
+    → Stops base body from front (depth + 1) in_each done t s place end skip → s ≡ stop.Finish n → same_name n name ≡ true
+    → Others base body from front depth in_each name start t end skip
 unfolding form_fault
 other_ends base body from front depth in_each name start t s place end skip n p e same =
     let w = whole base body from front (depth + 1) in_each t s place end skip p in
     record {
       later = p.later;
       inside = p.inside;
-      fault = λ blocks fits. p.fault (opened name true start ∷ blocks) (inner_other depth in_each name start blocks fits) ∙ ap (λ s. stop_fault body (opened name true start ∷ blocks) s place end) e ∙ rw same refl;
-      items = (w.0, w.1, w.2 ∙ ap (λ s. w.0 ++ stop_items base body s end skip) e ∙ ap (λ n. w.0 ++ (item.finish n ∷ items_at base body end skip)) (same_name-eq n name same));
+      fault = λ blocks fits. p.fault (opened name true start ∷ blocks) (inner_other depth in_each name start blocks fits)
+          ∙ ap (λ s. stop_fault body (opened name true start ∷ blocks) s place end) e ∙ rw same refl;
+      items = (
+        w.0,
+        w.1,
+        w.2 ∙ ap (λ s. w.0 ++ stop_items base body s end skip) e ∙ ap (λ n. w.0 ++ (item.finish n ∷ items_at base body end skip))
+            (same_name-eq n name same),
+      );
     }
 
 -- An end of another name in the first part has no begin.
-pub first_wrong : (base : ℕ) (body : List ℕ) (from front depth : ℕ) (in_each : Bool) (name : Name) (start : ℕ) (t : Tree) (s : Stop) (place end skip : ℕ) (n : Name)
+pub first_wrong : (base : ℕ) (body : List ℕ) (from front depth : ℕ) (in_each : Bool) (name : Name) (start : ℕ) (t : Tree) (s : Stop) (place end skip : ℕ)
+    (n : Name)
     → Stops base body from front (depth + 1) (same_name names.Each name || in_each) done t s place end skip → s ≡ stop.Finish n → same_name n name ≡ false
     → FailsIn body from depth in_each (opened name false start) (record { kind = NotBegun; place = place })
 unfolding form_fault
 first_wrong base body from front depth in_each name start t s place end skip n p e differs =
-    record { fault = λ blocks fits. p.fault (opened name false start ∷ blocks) (inner_first depth in_each name start blocks fits) ∙ ap (λ s. stop_fault body (opened name false start ∷ blocks) s place end) e ∙ rw differs refl }
+    record {
+      fault = λ blocks fits. p.fault (opened name false start ∷ blocks) (inner_first depth in_each name start blocks fits)
+          ∙ ap (λ s. stop_fault body (opened name false start ∷ blocks) s place end) e ∙ rw differs refl;
+    }
 
--- Behind the else a fault in the other part is the first one.
-pub other_failed : (base : ℕ) (body : List ℕ) (from front depth : ℕ) (in_each : Bool) (name : Name) (start : ℕ) (t : Tree) (s : Stop) (place end skip : ℕ) (f : TemplateError)
-    → Stops base body from front (depth + 1) (same_name names.Each name || in_each) done t s place end skip → s ≡ stop.Otherwise → FailsIn body end depth in_each (opened name true start) f → FailsIn body from depth in_each (opened name false start) f
+-- After the else a fault in the other part is the first one.
+pub other_failed : (base : ℕ) (body : List ℕ) (from front depth : ℕ) (in_each : Bool) (name : Name) (start : ℕ) (t : Tree) (s : Stop) (place end skip : ℕ)
+    (f : TemplateError)
+    → Stops base body from front (depth + 1) (same_name names.Each name || in_each) done t s place end skip → s ≡ stop.Otherwise
+    → FailsIn body end depth in_each (opened name true start) f → FailsIn body from depth in_each (opened name false start) f
 unfolding form_fault
 other_failed base body from front depth in_each name start t s place end skip f p e o =
-    record { fault = λ blocks fits. p.fault (opened name false start ∷ blocks) (inner_first depth in_each name start blocks fits) ∙ ap (λ s. stop_fault body (opened name false start ∷ blocks) s place end) e ∙ o.fault blocks fits }
+    record {
+      fault = λ blocks fits. p.fault (opened name false start ∷ blocks) (inner_first depth in_each name start blocks fits)
+          ∙ ap (λ s. stop_fault body (opened name false start ∷ blocks) s place end) e ∙ o.fault blocks fits;
+    }
 
 -- The begin and the end of a block have its name.
 head_items : (n : Name) (w : Walk) → (begin_item (head n w) ≡ item.begin n w) × (finish_item (head n w) ≡ item.finish n)
@@ -284,15 +354,18 @@ head_items names.Unless w = (refl, refl)
 head_items names.Each w = (refl, refl)
 
 -- A begin, what spells the parts, and the end spell the block.
-pub spells_block : (n : Name) (w : Walk) (t u : Tree) (one two : List Item) → Spells t one → ((two ≡ []) × (u ≡ done)) ⊎ ((more : List Item) × (two ≡ item.otherwise ∷ more) × Spells u more)
+pub spells_block : (n : Name) (w : Walk) (t u : Tree) (one two : List Item) → Spells t one
+    → ((two ≡ []) × (u ≡ done)) ⊎ ((more : List Item) × (two ≡ item.otherwise ∷ more) × Spells u more)
     → SpellsOne (trees.block (head n w) t u) (item.begin n w ∷ (one ++ two ++ (item.finish n ∷ [])))
 spells_block n w t u one two s r =
     let h = head_items n w in
     (one, two, ap (λ i. i ∷ (one ++ two ++ (item.finish n ∷ []))) (sym h.0) ∙ ap (λ i. begin_item (head n w) ∷ (one ++ two ++ (i ∷ []))) (sym h.1), s, r)
 
 -- A block that ends with its first part has no other.
-pub block_ends : (base : ℕ) (body : List ℕ) (from front depth : ℕ) (in_each : Bool) (name : Name) (w : Walk) (start : ℕ) (t : Tree) (s : Stop) (place end skip : ℕ) (n : Name) (b : Branch)
-    → Stops base body from front (depth + 1) (same_name names.Each name || in_each) done t s place end skip → s ≡ stop.Finish n → same_name n name ≡ true → b ≡ trees.block (head name w) t done
+pub block_ends : (base : ℕ) (body : List ℕ) (from front depth : ℕ) (in_each : Bool) (name : Name) (w : Walk) (start : ℕ) (t : Tree) (s : Stop)
+    (place end skip : ℕ) (n : Name) (b : Branch)
+    → Stops base body from front (depth + 1) (same_name names.Each name || in_each) done t s place end skip → s ≡ stop.Finish n → same_name n name ≡ true
+    → b ≡ trees.block (head name w) t done
     → Blocks base body from front depth in_each name w start b end skip
 unfolding form_fault
 block_ends base body from front depth in_each name w start t s place end skip n b p e same made =
@@ -301,18 +374,22 @@ block_ends base body from front depth in_each name w start t s place end skip n 
     record {
       later = p.later;
       inside = p.inside;
-      fault = λ blocks fits. p.fault (opened name false start ∷ blocks) (inner_first depth in_each name start blocks fits) ∙ ap (λ s. stop_fault body (opened name false start ∷ blocks) s place end) e ∙ rw same refl;
+      fault = λ blocks fits. p.fault (opened name false start ∷ blocks) (inner_first depth in_each name start blocks fits)
+          ∙ ap (λ s. stop_fault body (opened name false start ∷ blocks) s place end) e ∙ rw same refl;
       items = (
         k.0 ++ [] ++ (item.finish name ∷ []),
         subst P (sym made) (spells_block name w t done k.0 [] k.1 (inl (refl, refl))),
         k.2 ∙ ap (λ s. k.0 ++ stop_items base body s end skip) e ∙ ap (λ n. k.0 ++ (item.finish n ∷ items_at base body end skip)) (same_name-eq n name same)
-            ∙ sym (ap (λ l. (l ++ (item.finish name ∷ [])) ++ items_at base body end skip) (append-nil k.0) ∙ append_assoc k.0 (item.finish name ∷ []) (items_at base body end skip)),
+            ∙ sym (ap (λ l. (l ++ (item.finish name ∷ [])) ++ items_at base body end skip) (append-nil k.0)
+            ∙ append_assoc k.0 (item.finish name ∷ []) (items_at base body end skip)),
       );
     }
 
 -- A block with an else is its first part and its other.
-pub block_others : (base : ℕ) (body : List ℕ) (from front depth : ℕ) (in_each : Bool) (name : Name) (w : Walk) (start : ℕ) (t u : Tree) (s : Stop) (place end skip last next : ℕ) (b : Branch)
-    → Stops base body from front (depth + 1) (same_name names.Each name || in_each) done t s place end skip → s ≡ stop.Otherwise → Others base body end skip depth in_each name start u last next
+pub block_others : (base : ℕ) (body : List ℕ) (from front depth : ℕ) (in_each : Bool) (name : Name) (w : Walk) (start : ℕ) (t u : Tree) (s : Stop)
+    (place end skip last next : ℕ) (b : Branch)
+    → Stops base body from front (depth + 1) (same_name names.Each name || in_each) done t s place end skip → s ≡ stop.Otherwise
+    → Others base body end skip depth in_each name start u last next
     → b ≡ trees.block (head name w) t u → Blocks base body from front depth in_each name w start b last next
 unfolding form_fault
 block_others base body from front depth in_each name w start t u s place end skip last next b p e o made =
@@ -323,11 +400,13 @@ block_others base body from front depth in_each name w start t u s place end ski
     record {
       later = omega (arith, p.later, o.later);
       inside = o.inside;
-      fault = λ blocks fits. p.fault (opened name false start ∷ blocks) (inner_first depth in_each name start blocks fits) ∙ ap (λ s. stop_fault body (opened name false start ∷ blocks) s place end) e ∙ o.fault blocks fits;
+      fault = λ blocks fits. p.fault (opened name false start ∷ blocks) (inner_first depth in_each name start blocks fits)
+          ∙ ap (λ s. stop_fault body (opened name false start ∷ blocks) s place end) e ∙ o.fault blocks fits;
       items = (
         k.0 ++ two ++ (item.finish name ∷ []),
         subst P (sym made) (spells_block name w t u k.0 two k.1 (inr (q.0, refl, q.1))),
         k.2 ∙ ap (λ s. k.0 ++ stop_items base body s end skip) e ∙ ap (λ l. k.0 ++ (item.otherwise ∷ l)) q.2
-            ∙ sym (append_assoc (k.0 ++ two) (item.finish name ∷ []) (items_at base body last next) ∙ append_assoc k.0 two (item.finish name ∷ items_at base body last next)),
+            ∙ sym (append_assoc (k.0 ++ two) (item.finish name ∷ []) (items_at base body last next)
+            ∙ append_assoc k.0 two (item.finish name ∷ items_at base body last next)),
       );
     }

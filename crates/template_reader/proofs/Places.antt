@@ -24,7 +24,7 @@ abbrev AreBefore : ℕ → List Block → Type 0
 AreBefore limit [] = Unit {0}
 AreBefore limit (b ∷ bs) = (b.place ≤ limit) × AreBefore limit bs
 
--- They do behind what a tag says.
+-- They do after what a tag says.
 before-form : (limit place : ℕ) (bs : List Block) (f : Form) → place ≤ limit → AreBefore limit bs → AreBefore limit (after_form place bs f)
 before-form limit place bs form.Comment h a = a
 before-form limit place bs (form.Print e) h a = a
@@ -34,12 +34,12 @@ before-form limit place (b ∷ bs) form.Otherwise h a = (a.0, a.1)
 before-form limit place [] (form.Finish n) h a = a
 before-form limit place (b ∷ bs) (form.Finish n) h a = a.1
 
--- They do behind a tag.
+-- They do after a tag.
 before-tag : (limit place : ℕ) (bs : List Block) (o : Option Tag) → place ≤ limit → AreBefore limit bs → AreBefore limit (after_tag place bs o)
 before-tag limit place bs None h a = a
 before-tag limit place bs (Some t) h a = before-form limit place bs t.form h a
 
--- They do behind a piece.
+-- They do after a piece.
 before-piece : (limit place : ℕ) (bs : List Block) (p : Piece) → place ≤ limit → AreBefore limit bs → AreBefore limit (after_piece place bs p)
 before-piece limit place bs (piece.text bytes) h a = a
 before-piece limit place bs (piece.tag bytes) h a = before-tag limit place bs (tag_of bytes) h a
@@ -54,7 +54,8 @@ place_of k place e h = ap (λ (o : Option TemplateError). placed o) h
     placed (Some e) = e.place
 
 -- So has one that a test decides.
-place-if : (t : Bool) (k : TemplateKind) (place : ℕ) (e : TemplateError) → (if t then Some (record { kind = k; place = place }) else None) ≡ Some e → place ≡ e.place
+place-if : (t : Bool) (k : TemplateKind) (place : ℕ) (e : TemplateError) → (if t then Some (record { kind = k; place = place }) else None) ≡ Some e
+    → place ≡ e.place
 place-if true k place e h = place_of k place e h
 place-if false k place e h = absurd (cc)
 
@@ -64,9 +65,11 @@ place-at place None e h = absurd (cc)
 place-at place (Some k) e h = place_of k place e h
 
 -- The fault of a piece is within it.
-piece-within : (place : ℕ) (bs : List Block) (after : List ℕ) (p : Piece) (e : TemplateError) → piece_fault place bs after p ≡ Some e → e.place ≤ place + length (bytes_of p)
+piece-within : (place : ℕ) (bs : List Block) (after : List ℕ) (p : Piece) (e : TemplateError) → piece_fault place bs after p ≡ Some e
+    → e.place ≤ place + length (bytes_of p)
 unfolding piece_fault
-piece-within place bs after (piece.text bytes) e h = let f = place-if (begins after (codes "{{") && ends bytes (92 ∷ [])) Escape (place + (length bytes - 1)) e h in omega arith
+piece-within place bs after (piece.text bytes) e h = let f = place-if (begins after (codes "{{") && ends bytes (92 ∷ [])) Escape (place + (length bytes - 1)) e
+    h in omega arith
 piece-within place bs after (piece.tag bytes) e h = let f = place-at place (tag_fault bs (tag_of bytes)) e h in omega arith
 piece-within place bs after (piece.unclosed bytes) e h = let f = place_of _ place e h in omega arith
 
@@ -76,12 +79,14 @@ or-some None b x h = inr h
 or-some (Some y) b x h = inl h
 
 -- The first fault of pieces is within their bytes.
-within : (limit place : ℕ) (bs : List Block) (ps : List Piece) (e : TemplateError) → AreBefore limit bs → place + length (all_bytes ps) ≡ limit → fault_in place bs ps ≡ Some e → e.place ≤ limit
+within : (limit place : ℕ) (bs : List Block) (ps : List Piece) (e : TemplateError) → AreBefore limit bs → place + length (all_bytes ps) ≡ limit
+    → fault_in place bs ps ≡ Some e → e.place ≤ limit
 unfolding fault_in
 within limit place [] [] e a l h = absurd (cc)
 within limit place (b ∷ bs) [] e a l h = let f = place_of _ b.place e h in omega (arith, a.0)
 within limit place bs (p ∷ ps) e a l h =
-    by (λ f. within limit (place + length (bytes_of p)) (after_piece place bs p) ps e (before-piece limit place bs p (omega arith) a) (omega (arith, length-append (bytes_of p) (all_bytes ps))) f)
+    by (λ f. within limit (place + length (bytes_of p)) (after_piece place bs p) ps e (before-piece limit place bs p (omega arith) a)
+    (omega (arith, length-append (bytes_of p) (all_bytes ps))) f)
     (or-some (piece_fault place bs (all_bytes ps) p) (fault_in (place + length (bytes_of p)) (after_piece place bs p) ps) e h)
   where
     by : (fault_in (place + length (bytes_of p)) (after_piece place bs p) ps ≡ Some e → e.place ≤ limit)

@@ -1,5 +1,6 @@
 -- A source has one tree, or a fault.
-use Rattle.std.proofs.Common.{◌≡◌, ◌≢◌, ℕ, ◌+◌, ◌≤◌, Bool, true, false, List, length, take, drop, Option, Some, None, refl, sym, ap, ◌∙◌, arith, subst, if◌then◌else◌}
+use Rattle.std.proofs.Common.{◌≡◌, ◌≢◌, ℕ, ◌+◌, ◌≤◌, Bool, true, false, List, length, take}
+use Rattle.std.proofs.Common.{drop, Option, Some, None, refl, sym, ap, ◌∙◌, arith, subst, if◌then◌else◌}
 use Rattle.std.specs.Prelude.{min, Result, Ok, Err, IfOk, IfErr}
 use Rattle.std.specs.Option.{option_map}
 use Rattle.std.proofs.lemmas.List.{length-drop}
@@ -15,7 +16,8 @@ use Rattle.template_reader.specs.Forest.{tree_in}
 use Rattle.template_reader.specs.declared.template.Template.{Template}
 use Rattle.template_reader.specs.declared.template_error.TemplateError.{TemplateError}
 use Rattle.template_reader.specs.declared.template_error.TemplateKind.{TemplateKind}
-use Rattle.template_reader.specs.declared.template_error.TemplateKind.TheVariants.{BadFront, Escape, Unclosed, BadTag, NotBegun, TwoElse, NotInEach, TooDeep, NeverClosed, Memory}
+use Rattle.template_reader.specs.declared.template_error.TemplateKind.TheVariants.{BadFront, Escape, Unclosed, BadTag, NotBegun}
+use Rattle.template_reader.specs.declared.template_error.TemplateKind.TheVariants.{TwoElse, NotInEach, TooDeep, NeverClosed, Memory}
 use Rattle.template_reader.proofs.SpanOrder.{spans_rise, rise-lower}
 use Rattle.template_reader.proofs.Unique.{one_tree}
 
@@ -25,7 +27,8 @@ behind-within source None start e = let z : 0 ≡ start = (cc) in omega arith
 behind-within source (Some n) start e = by (is_toml (take n source)) refl
   where
     by : (t : Bool) → is_toml (take n source) ≡ t → start ≤ length source
-    by true f = let z : min (n + 4) (length source) ≡ start = some_is _ _ (sym (ap (λ (t : Bool). if t then Some (min (n + 4) (length source)) else None) f) ∙ e) in omega arith
+    by true f = let z : min (n + 4) (length source) ≡ start = some_is _ _
+        (sym (ap (λ (t : Bool). if t then Some (min (n + 4) (length source)) else None) f) ∙ e) in omega arith
       where
         some_is : (a b : ℕ) → Some a ≡ Some b → a ≡ b
         some_is a b e = cc
@@ -45,7 +48,8 @@ source_spans source t p =
     rise-lower 0 p.start (length source) (spans_of t) (omega arith) (subst P e (spans_rise p.start (drop p.start source) t p.body))
 
 -- What the reader of the front and that of the body say together.
-pub parses_from : (source body : List ℕ) (base : ℕ) (t : Tree) → body_start source ≡ Some base → body ≡ drop base source → ParsesBody base body t → Parses source t
+pub parses_from : (source body : List ℕ) (base : ℕ) (t : Tree) → body_start source ≡ Some base → body ≡ drop base source → ParsesBody base body t
+    → Parses source t
 parses_from source body base t front body_is p =
     let P : List ℕ → Type 0 = λ l. ParsesBody base l t in
     record { start = base; front = front; body = subst P body_is p }
@@ -55,11 +59,13 @@ pub fault_front : (source : List ℕ) (e : TemplateError) → body_start source 
 unfolding fault
 fault_front source e front is = ap (fault_from source) front ∙ ap (λ (e : TemplateError). Some e) (sym is)
 
--- The first fault of the body, moved behind the front, is that of the source.
-pub fault_body : (source body : List ℕ) (base : ℕ) (e f : TemplateError) → body_start source ≡ Some base → body ≡ drop base source → body_fault body ≡ Some e → f ≡ moved base e → fault source ≡ Some f
+-- The first fault of the body, moved past the front, is that of the source.
+pub fault_body : (source body : List ℕ) (base : ℕ) (e f : TemplateError) → body_start source ≡ Some base → body ≡ drop base source → body_fault body ≡ Some e
+    → f ≡ moved base e → fault source ≡ Some f
 unfolding fault
 fault_body source body base e f front body_is wrong is =
-    ap (fault_from source) front ∙ ap (λ l. option_map (moved base) (body_fault l)) (sym body_is) ∙ ap (option_map (moved base)) wrong ∙ ap (λ (e : TemplateError). Some e) (sym is)
+    ap (fault_from source) front ∙ ap (λ l. option_map (moved base) (body_fault l)) (sym body_is) ∙ ap (option_map (moved base)) wrong
+    ∙ ap (λ (e : TemplateError). Some e) (sym is)
 
 -- A source that parses has no fault, and one tree.
 pub faultless : (source : List ℕ) (t : Tree) → Parses source t → fault source ≡ None
@@ -95,18 +101,21 @@ none-some : (source : List ℕ) (e : TemplateError) → fault source ≡ None �
 none-some source e f g = let h : None ≡ Some e = sym f ∙ g in cc
 
 -- A reading is exact.
-pub read_exactly : (source : List ℕ) (r : Result Template TemplateError) → IfOk r (λ t. Parses source (tree_in t.nodes)) → IfErr r (λ e. e.kind ≢ Memory → fault source ≡ Some e)
+pub read_exactly : (source : List ℕ) (r : Result Template TemplateError) → IfOk r (λ t. Parses source (tree_in t.nodes))
+    → IfErr r (λ e. e.kind ≢ Memory → fault source ≡ Some e)
     → (t : Tree) → Parses source t → IsRead r t
 read_exactly source (Ok u) p f t q = one_parse source (tree_in u.nodes) t p q
 read_exactly source (Err e) p f t q = memory_unless e.kind (λ other. none-some source e (faultless source t q) (f other))
 
--- So exactly the first fault is answered, unless memory was wanting.
-pub refused_exactly : {T : Type 0} (source : List ℕ) (tree : T → Tree) (r : Result T TemplateError) → IfOk r (λ t. Parses source (tree t)) → IfErr r (λ e. e.kind ≢ Memory → fault source ≡ Some e)
+-- So exactly the first fault is answered, unless it ran out of memory.
+pub refused_exactly : {T : Type 0} (source : List ℕ) (tree : T → Tree) (r : Result T TemplateError) → IfOk r (λ t. Parses source (tree t))
+    → IfErr r (λ e. e.kind ≢ Memory → fault source ≡ Some e)
     → (e : TemplateError) → fault source ≡ Some e → IsRefused r e
 refused_exactly {T} source tree (Ok u) p f e q = none-some source e (faultless source (tree u) p) q
 refused_exactly {T} source tree (Err g) p f e q = λ other. let h : Some g ≡ Some e = sym (f other) ∙ q in cc
 
 -- The spans of what is read.
-pub read_spans : (source : List ℕ) (r : Result Template TemplateError) → IfOk r (λ t. Parses source (tree_in t.nodes)) → IfOk r (λ t. RiseWithin 0 (spans_of (tree_in t.nodes)) (length source))
+pub read_spans : (source : List ℕ) (r : Result Template TemplateError) → IfOk r (λ t. Parses source (tree_in t.nodes))
+    → IfOk r (λ t. RiseWithin 0 (spans_of (tree_in t.nodes)) (length source))
 read_spans source (Ok t) p = source_spans source (tree_in t.nodes) p
 read_spans source (Err e) p = tt

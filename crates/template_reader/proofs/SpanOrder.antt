@@ -1,5 +1,6 @@
 -- The spans of a template rise within its source.
-use Rattle.std.proofs.Common.{◌≡◌, ℕ, ◌+◌, ◌-◌, ◌≤◌, Bool, true, false, List, [], ◌∷◌, ◌++◌, length, Option, Some, None, refl, sym, ap, ◌∙◌, arith, subst, inl, inr, if◌then◌else◌, append_assoc}
+use Rattle.std.proofs.Common.{◌≡◌, ℕ, ◌+◌, ◌-◌, ◌≤◌, Bool, true, false, List, [], ◌∷◌, ◌++◌, length}
+use Rattle.std.proofs.Common.{Option, Some, None, refl, sym, ap, ◌∙◌, arith, subst, inl, inr, if◌then◌else◌, append_assoc}
 use Rattle.std.specs.Prelude.{nat_lt, ◌⊎◌}
 use Rattle.std.proofs.lemmas.List.{length-append, append-nil}
 use Rattle.std.proofs.lemmas.Bool.{ltb-true}
@@ -33,7 +34,7 @@ abbrev all_spanned : List Item → List Span
 all_spanned [] = []
 all_spanned (i ∷ is) = spanned i ++ all_spanned is
 
--- Those of items one after another stand one after another.
+-- Those of items one after another are one after another.
 spanned-append : (a b : List Item) → all_spanned (a ++ b) ≡ all_spanned a ++ all_spanned b
 spanned-append [] b = refl
 spanned-append (i ∷ a) b = ap (λ l. spanned i ++ l) (spanned-append a b) ∙ sym (append_assoc (spanned i) (all_spanned a) (all_spanned b))
@@ -49,7 +50,8 @@ spanned-finish (trees.test u w) = refl
 spanned-finish (trees.each w) = refl
 
 -- The spans of an other part are those of its items.
-other : (h : Head) (o : Tree) (two : List Item) → ((more : List Item) → Spells o more → spans_of o ≡ all_spanned more) → ((two ≡ []) × (o ≡ done)) ⊎ ((more : List Item) × (two ≡ otherwise ∷ more) × Spells o more)
+other : (h : Head) (o : Tree) (two : List Item) → ((more : List Item) → Spells o more → spans_of o ≡ all_spanned more)
+    → ((two ≡ []) × (o ≡ done)) ⊎ ((more : List Item) × (two ≡ otherwise ∷ more) × Spells o more)
     → spans_of o ≡ all_spanned (two ++ (finish_item h ∷ []))
 other h o two again (inl p) = ap spans_of p.1 ∙ sym (ap (λ l. all_spanned (l ++ (finish_item h ∷ []))) p.0 ∙ ap (λ l. l ++ []) (spanned-finish h))
 other h o two again (inr p) =
@@ -79,9 +81,15 @@ rise-lower low next high [] h r = omega arith
 rise-lower low next high (s ∷ ss) h r = (omega (arith, r.0), r.1, r.2)
 
 -- A text that is left keeps the spans rising.
-rise-text : (b : Bool) (base low start end next high : ℕ) (is : List Item) → nat_lt start end ≡ b → low ≤ base + start → base + end ≤ next → low ≤ next → RiseWithin next (all_spanned is) high
+rise-text : (b : Bool) (base low start end next high : ℕ) (is : List Item) → nat_lt start end ≡ b → low ≤ base + start → base + end ≤ next → low ≤ next
+    → RiseWithin next (all_spanned is) high
     → RiseWithin low (all_spanned ((if b then text (record { start = base + start; end = base + end }) ∷ [] else []) ++ is)) high
-rise-text true base low start end next high is e f g h r = (f, let l = ltb-true start end e in omega arith, rise-lower (base + end) next high (all_spanned is) g r)
+rise-text true base low start end next high is e f g h r = (
+  f,
+  let l = ltb-true start end e in
+      omega arith,
+  rise-lower (base + end) next high (all_spanned is) g r,
+)
 rise-text false base low start end next high is e f g h r = rise-lower low next high (all_spanned is) h r
 
 -- What a tag says has no span.
@@ -101,7 +109,8 @@ tag-spanned (Some t) is = form-spanned t.form is
 rise-piece : (base place front back high : ℕ) (p : Piece) (is : List Item) → RiseWithin (base + (place + length (bytes_of p))) (all_spanned is) high
     → RiseWithin (base + place) (all_spanned (piece_item base place front back p ++ is)) high
 rise-piece base place front back high (piece.text bytes) is r =
-    rise-text (nat_lt (place + front) (place + length bytes - back)) base (base + place) (place + front) (place + length bytes - back) (base + (place + length bytes)) high is refl (omega arith) (omega arith) (omega arith) r
+    rise-text (nat_lt (place + front) (place + length bytes - back)) base (base + place) (place + front) (place + length bytes - back)
+    (base + (place + length bytes)) high is refl (omega arith) (omega arith) (omega arith) r
 rise-piece base place front back high (piece.tag bytes) is r =
     let P : List Span → Type 0 = λ ss. RiseWithin (base + place) ss high in
     subst P (sym (tag-spanned (tag_of bytes) is)) (rise-lower (base + place) (base + (place + length bytes)) high (all_spanned is) (omega arith) r)
@@ -109,7 +118,8 @@ rise-piece base place front back high (piece.unclosed bytes) is r =
     rise-lower (base + place) (base + (place + length bytes)) high (all_spanned is) (omega arith) r
 
 -- The spans of what pieces say rise.
-rise-items : (base : ℕ) (before : List ℕ) (front high : ℕ) (ps : List Piece) → base + length before + length (all_bytes ps) ≡ high → RiseWithin (base + length before) (all_spanned (items_in base before front ps)) high
+rise-items : (base : ℕ) (before : List ℕ) (front high : ℕ) (ps : List Piece) → base + length before + length (all_bytes ps) ≡ high
+    → RiseWithin (base + length before) (all_spanned (items_in base before front ps)) high
 unfolding items_in
 rise-items base before front high [] e = omega arith
 rise-items base before front high (p ∷ ps) e =

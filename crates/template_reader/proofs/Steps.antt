@@ -1,11 +1,13 @@
 -- One text and one tag of a body.
-use Rattle.std.proofs.Common.{◌≡◌, ℕ, zero, suc, ◌+◌, ◌<◌, ◌≤◌, Bool, true, false, List, [], ◌∷◌, ◌++◌, length, take, drop, Option, Some, None, refl, sym, ap, ◌∙◌, arith, if◌then◌else◌, true≢false}
+use Rattle.std.proofs.Common.{◌≡◌, ℕ, zero, suc, ◌+◌, ◌<◌, ◌≤◌, Bool, true, false, List, [], ◌∷◌}
+use Rattle.std.proofs.Common.{◌++◌, length, take, drop, Option, Some, None, refl, sym, ap, ◌∙◌, arith, if◌then◌else◌, true≢false}
 use Rattle.std.specs.Prelude.{codes, ◌==◌}
 use Rattle.std.proofs.Math.Bool.{and-false}
 use Rattle.std.proofs.lemmas.List.{drop_all, length-drop, take-append-drop, length-take-le, length-take}
 use Rattle.std.proofs.Math.Seq.{take-length}
 use Rattle.template_reader.specs.Bytes.{begins, more}
-use Rattle.template_reader.specs.Cut.{Piece, text, tag, unclosed, bytes_of, text_length, tag_length, through, through_dashes, through_unquoted, tag_piece, first_piece, pieces, cut}
+use Rattle.template_reader.specs.Cut.{Piece, text, tag, unclosed, bytes_of, text_length, tag_length}
+use Rattle.template_reader.specs.Cut.{through, through_dashes, through_unquoted, tag_piece, first_piece, pieces, cut}
 use Rattle.template_reader.specs.Spot.{all_bytes}
 
 -- What begins with `{{` has two bytes at least.
@@ -39,7 +41,7 @@ unfolding text_length
 text-some [] h e = absurd (omega arith)
 text-some (b ∷ bs) h e = rw e (omega arith)
 
--- No text stands before a tag.
+-- No text is before a tag.
 pub text-none : (bytes : List ℕ) → begins bytes (codes "{{") ≡ true → text_length bytes ≡ 0
 unfolding text_length
 text-none [] e = absurd (cc)
@@ -49,7 +51,7 @@ text-none (b ∷ bs) e = rw e refl
 pub record Least (o : Option ℕ) : Type 0 where
   pub least : (n : ℕ) → o ≡ Some n → 2 ≤ n
 
--- A length behind two bytes is two at least.
+-- A length after two bytes is two at least.
 least-more : (k : ℕ) (o : Option ℕ) → 2 ≤ k → Least (more k o)
 least-more k None h = record { least = λ n e. absurd (cc) }
 least-more k (Some m) h = record { least = λ n e. let f : k + m ≡ n = (cc) in omega arith }
@@ -85,7 +87,7 @@ first-tag : (bytes : List ℕ) (o : Option ℕ) → begins bytes (codes "{{") �
 unfolding first_piece
 first-tag bytes o e f = rw (e, f) refl
 
--- A piece has a byte, and stands first.
+-- A piece has a byte, and is at the start.
 record IsFirst (bytes : List ℕ) (p : Piece) : Type 0 where
   some : 0 < length (bytes_of p)
   front : bytes_of p ≡ take (length (bytes_of p)) bytes
@@ -108,13 +110,17 @@ is_first-tag bytes (Some n) h l = record { some = taken-some n bytes (omega (ari
 -- So is the first piece, whichever it is.
 is_first : (bytes : List ℕ) (t : Bool) → 0 < length bytes → begins bytes (codes "{{") ≡ t → IsFirst bytes (first_piece bytes)
 is_first bytes true h e = rw (first-tag bytes (tag_length bytes) e refl) (is_first-tag bytes (tag_length bytes) h (tag-least bytes))
-is_first bytes false h e = rw (first-text bytes e) (record { some = taken-some (text_length bytes) bytes (text-some bytes h e) h; front = take-self (text_length bytes) bytes })
+is_first bytes false h e = rw (first-text bytes e) (record {
+  some = taken-some (text_length bytes) bytes (text-some bytes h e) h;
+  front =
+      take-self (text_length bytes) bytes;
+})
 
 -- The first piece is taken from the start and has a byte at least.
 first_is : (bytes : List ℕ) → 0 < length bytes → IsFirst bytes (first_piece bytes)
 first_is bytes h = is_first bytes (begins bytes (codes "{{")) h refl
 
--- Behind the first piece fewer bytes stand.
+-- After the first piece there are fewer bytes.
 rest_length : (b : ℕ) (bs : List ℕ) (n : ℕ) → length (b ∷ bs) ≤ suc n → length (drop (length (bytes_of (first_piece (b ∷ bs)))) (b ∷ bs)) ≤ n
 rest_length b bs n h =
     let p = (first_is (b ∷ bs) (omega arith)).some in
@@ -130,9 +136,10 @@ same_pieces (suc m) zero [] h k = refl
 same_pieces (suc m) zero (b ∷ bs) h k = absurd (omega arith)
 same_pieces (suc m) (suc n) [] h k = refl
 same_pieces (suc m) (suc n) (b ∷ bs) h k =
-    ap (λ (ps : List Piece). first_piece (b ∷ bs) ∷ ps) (same_pieces m n (drop (length (bytes_of (first_piece (b ∷ bs)))) (b ∷ bs)) (rest_length b bs m h) (rest_length b bs n k))
+    ap (λ (ps : List Piece). first_piece (b ∷ bs) ∷ ps) (same_pieces m n (drop (length (bytes_of (first_piece (b ∷ bs)))) (b ∷ bs)) (rest_length b bs m h)
+    (rest_length b bs n k))
 
--- The pieces are the first one, and those of what stands behind it.
+-- The pieces are the first one, and those of what is after it.
 pub cut-first : (bytes : List ℕ) → 0 < length bytes → cut bytes ≡ first_piece bytes ∷ cut (drop (length (bytes_of (first_piece bytes))) bytes)
 unfolding pieces cut
 cut-first [] h = absurd (omega arith)

@@ -1,5 +1,6 @@
 -- A source without fault has a tree.
-use Rattle.std.proofs.Common.{◌≡◌, ℕ, ◌+◌, ◌-◌, Bool, true, false, List, [], ◌∷◌, ◌++◌, length, drop, Option, Some, None, refl, sym, ap, ◌∙◌, append_assoc, subst, inl, inr, if◌then◌else◌}
+use Rattle.std.proofs.Common.{◌≡◌, ℕ, ◌+◌, ◌-◌, Bool, true, false, List, [], ◌∷◌, ◌++◌, length}
+use Rattle.std.proofs.Common.{drop, Option, Some, None, refl, sym, ap, ◌∙◌, append_assoc, subst, inl, inr, if◌then◌else◌}
 use Rattle.std.specs.Prelude.{nat_lt, ◌⊎◌}
 use Rattle.std.specs.Option.{option_or, option_map}
 use Rattle.std.proofs.lemmas.List.{append-nil}
@@ -37,14 +38,16 @@ After n P is = (more : List Item) × (is ≡ item.finish n ∷ more) × P more
 
 -- An else, nodes and the end of a block, and then what P says.
 abbrev Other : Name → (List Item → Type 0) → List Item → Type 0
-Other n P is = (more : List Item) × (is ≡ item.otherwise ∷ more) × (o : Tree) × (two : List Item) × (rest : List Item) × (more ≡ two ++ rest) × Spells o two × After n P rest
+Other n P is = (more : List Item) × (is ≡ item.otherwise ∷ more) × (o : Tree) × (two : List Item) × (rest : List Item) × (more ≡ two ++ rest) × Spells o two
+    × After n P rest
 
 -- The items close the open blocks, the innermost first.
 abbrev Closes : List Block → List Item → Type 0
 Closes [] is = (t : Tree) × Spells t is
-Closes (b ∷ bs) is = (t : Tree) × (one : List Item) × (rest : List Item) × (is ≡ one ++ rest) × Spells t one × (After b.name (Closes bs) rest ⊎ ((b.other ≡ false) × Other b.name (Closes bs) rest))
+Closes (b ∷ bs) is = (t : Tree) × (one : List Item) × (rest : List Item) × (is ≡ one ++ rest) × Spells t one
+    × (After b.name (Closes bs) rest ⊎ ((b.other ≡ false) × Other b.name (Closes bs) rest))
 
--- One node more may stand before what closes the blocks.
+-- One node more may be before what closes the blocks.
 closes-more : (bs : List Block) (x : Branch) (i is : List Item) → SpellsOne x i → Closes bs is → Closes bs (i ++ is)
 closes-more [] x i is s c = (node x c.0, (i, is, refl, s, c.1))
 closes-more (b ∷ bs) x i is s c =
@@ -54,15 +57,17 @@ closes-more (b ∷ bs) x i is s c =
 closes-same : (bs : List Block) (is js : List Item) → is ≡ js → Closes bs is → Closes bs js
 closes-same bs is js e c = let P : List Item → Type 0 = λ l. Closes bs l in subst P e c
 
--- A begin stands before what closes its block too.
+-- A begin is before what closes its block too.
 closes-begin : (bs : List Block) (n : Name) (w : Walk) (place : ℕ) (is : List Item) → Closes (opened n false place ∷ bs) is → Closes bs (item.begin n w ∷ is)
 closes-begin bs n w place is c = by c.5
   where
     by : After n (Closes bs) c.2 ⊎ ((false ≡ false) × Other n (Closes bs) c.2) → Closes bs (item.begin n w ∷ is)
     by (inl a) =
         closes-same bs (item.begin n w ∷ ((c.1 ++ [] ++ (item.finish n ∷ [])) ++ a.0)) (item.begin n w ∷ is)
-        (ap (λ (l : List Item). item.begin n w ∷ l) (append_assoc (c.1 ++ []) (item.finish n ∷ []) a.0 ∙ ap (λ l. l ++ (item.finish n ∷ a.0)) (append-nil c.1) ∙ ap (λ l. c.1 ++ l) (sym a.1) ∙ sym c.3))
-        (closes-more bs (trees.block (head n w) c.0 done) (item.begin n w ∷ (c.1 ++ [] ++ (item.finish n ∷ []))) a.0 (spells_block n w c.0 done c.1 [] c.4 (inl (refl, refl))) a.2)
+        (ap (λ (l : List Item). item.begin n w ∷ l) (append_assoc (c.1 ++ []) (item.finish n ∷ []) a.0 ∙ ap (λ l. l ++ (item.finish n ∷ a.0)) (append-nil c.1)
+        ∙ ap (λ l. c.1 ++ l) (sym a.1) ∙ sym c.3))
+        (closes-more bs (trees.block (head n w) c.0 done) (item.begin n w ∷ (c.1 ++ [] ++ (item.finish n ∷ []))) a.0
+        (spells_block n w c.0 done c.1 [] c.4 (inl (refl, refl))) a.2)
     by (inr o) =
         let p = o.1 in
         let two = item.otherwise ∷ p.3 in
@@ -70,11 +75,14 @@ closes-begin bs n w place is c = by c.5
         closes-same bs (item.begin n w ∷ ((c.1 ++ two ++ (item.finish n ∷ [])) ++ a.0)) (item.begin n w ∷ is)
         (ap (λ (l : List Item). item.begin n w ∷ l)
         (append_assoc (c.1 ++ two) (item.finish n ∷ []) a.0 ∙ append_assoc c.1 two (item.finish n ∷ a.0)
-        ∙ ap (λ l. c.1 ++ (item.otherwise ∷ (p.3 ++ l))) (sym a.1) ∙ ap (λ (l : List Item). c.1 ++ (item.otherwise ∷ l)) (sym p.5) ∙ ap (λ l. c.1 ++ l) (sym p.1) ∙ sym c.3))
-        (closes-more bs (trees.block (head n w) c.0 p.2) (item.begin n w ∷ (c.1 ++ two ++ (item.finish n ∷ []))) a.0 (spells_block n w c.0 p.2 c.1 two c.4 (inr (p.3, refl, p.6))) a.2)
+        ∙ ap (λ l. c.1 ++ (item.otherwise ∷ (p.3 ++ l))) (sym a.1) ∙ ap (λ (l : List Item). c.1 ++ (item.otherwise ∷ l)) (sym p.5)
+        ∙ ap (λ l. c.1 ++ l) (sym p.1) ∙ sym c.3))
+        (closes-more bs (trees.block (head n w) c.0 p.2) (item.begin n w ∷ (c.1 ++ two ++ (item.finish n ∷ []))) a.0
+        (spells_block n w c.0 p.2 c.1 two c.4 (inr (p.3, refl, p.6))) a.2)
 
--- An else stands before what closes a block whose else has come.
-closes-else : (bs : List Block) (b : Block) (is : List Item) → b.other ≡ false → Closes (record b { other = true } ∷ bs) is → Closes (b ∷ bs) (item.otherwise ∷ is)
+-- An else is before what closes a block whose else has come.
+closes-else : (bs : List Block) (b : Block) (is : List Item) → b.other ≡ false → Closes (record b { other = true } ∷ bs) is
+    → Closes (b ∷ bs) (item.otherwise ∷ is)
 closes-else bs b is e c = by c.5
   where
     by : After b.name (Closes bs) c.2 ⊎ ((true ≡ false) × Other b.name (Closes bs) c.2) → Closes (b ∷ bs) (item.otherwise ∷ is)
@@ -91,8 +99,9 @@ unless-other : (b : Bool) (k : TemplateKind) → (if b then None else Some k) �
 unless-other true k e = refl
 unless-other false k e = absurd (cc)
 
--- What a form without a fault says, and then what closes the blocks behind it, closes those before it.
-closes-form : (place : ℕ) (bs : List Block) (f : Form) (is : List Item) → form_fault bs f ≡ None → Closes (after_form place bs f) is → Closes bs (form_item f ++ is)
+-- What a form without a fault says, and then what closes the blocks after it, closes those before it.
+closes-form : (place : ℕ) (bs : List Block) (f : Form) (is : List Item) → form_fault bs f ≡ None → Closes (after_form place bs f) is
+    → Closes bs (form_item f ++ is)
 unfolding form_fault
 closes-form place bs form.Comment is e c = c
 closes-form place bs (form.Print x) is e c = closes-more bs (trees.print x) (item.print x ∷ []) is refl c
@@ -100,11 +109,22 @@ closes-form place bs (form.Begin n w) is e c = closes-begin bs n w place is c
 closes-form place [] form.Otherwise is e c = absurd (cc)
 closes-form place (b ∷ bs) form.Otherwise is e c = closes-else bs b is (unless-two b.other _ e) c
 closes-form place [] (form.Finish n) is e c = absurd (cc)
-closes-form place (b ∷ bs) (form.Finish n) is e c =
-    (done, [], item.finish n ∷ is, refl, refl, inl (is, ap (λ (m : Name). item.finish m ∷ is) (same_name-eq n b.name (unless-other (same_name n b.name) _ e)), c))
+closes-form place (b ∷ bs) (form.Finish n) is e c = (
+  done,
+  [],
+  item.finish n ∷ is,
+  refl,
+  refl,
+  inl (
+    is,
+    ap (λ (m : Name). item.finish m ∷ is) (same_name-eq n b.name (unless-other (same_name n b.name) _ e)),
+    c,
+  ),
+)
 
 -- The same of a tag.
-closes-tag : (place : ℕ) (bs : List Block) (o : Option Tag) (is : List Item) → at place (tag_fault bs o) ≡ None → Closes (after_tag place bs o) is → Closes bs (tag_item o ++ is)
+closes-tag : (place : ℕ) (bs : List Block) (o : Option Tag) (is : List Item) → at place (tag_fault bs o) ≡ None → Closes (after_tag place bs o) is
+    → Closes bs (tag_item o ++ is)
 closes-tag place bs None is e c = absurd (cc)
 closes-tag place bs (Some t) is e c = closes-form place bs t.form is (no_kind (form_fault bs t.form) e) c
   where
@@ -113,15 +133,19 @@ closes-tag place bs (Some t) is e c = closes-form place bs t.form is (no_kind (f
     no_kind (Some k) e = absurd (cc)
 
 -- The same of a text.
-closes-text : (t : Bool) (base start end : ℕ) (bs : List Block) (is : List Item) → Closes bs is → Closes bs ((if t then item.text (record { start = base + start; end = base + end }) ∷ [] else []) ++ is)
-closes-text true base start end bs is c = closes-more bs (trees.text (record { start = base + start; end = base + end })) (item.text (record { start = base + start; end = base + end }) ∷ []) is refl c
+closes-text : (t : Bool) (base start end : ℕ) (bs : List Block) (is : List Item) → Closes bs is
+    → Closes bs ((if t then item.text (record { start = base + start; end = base + end }) ∷ [] else []) ++ is)
+closes-text true base start end bs is c = closes-more bs (trees.text (record { start = base + start; end = base + end }))
+    (item.text (record { start = base + start; end = base + end }) ∷ []) is refl c
 closes-text false base start end bs is c = c
 
 -- The same of a piece.
-closes-piece : (base place start front back : ℕ) (bs : List Block) (p : Piece) (after : List ℕ) (is : List Item) → piece_fault place bs after p ≡ None → Closes (after_piece place bs p) is
+closes-piece : (base place start front back : ℕ) (bs : List Block) (p : Piece) (after : List ℕ) (is : List Item) → piece_fault place bs after p ≡ None
+    → Closes (after_piece place bs p) is
     → Closes bs (piece_item base start front back p ++ is)
 unfolding piece_fault
-closes-piece base place start front back bs (piece.text bytes) after is e c = closes-text (nat_lt (start + front) (start + length bytes - back)) base (start + front) (start + length bytes - back) bs is c
+closes-piece base place start front back bs (piece.text bytes) after is e c =
+    closes-text (nat_lt (start + front) (start + length bytes - back)) base (start + front) (start + length bytes - back) bs is c
 closes-piece base place start front back bs (piece.tag bytes) after is e c = closes-tag place bs (tag_of bytes) is e c
 closes-piece base place start front back bs (piece.unclosed bytes) after is e c = absurd (cc)
 
@@ -131,13 +155,15 @@ or-none None b e = (refl, e)
 or-none (Some x) b e = absurd (cc)
 
 -- Pieces without a fault close all blocks.
-closes : (base place : ℕ) (before : List ℕ) (front : ℕ) (bs : List Block) (ps : List Piece) → fault_in place bs ps ≡ None → Closes bs (items_in base before front ps)
+closes : (base place : ℕ) (before : List ℕ) (front : ℕ) (bs : List Block) (ps : List Piece) → fault_in place bs ps ≡ None
+    → Closes bs (items_in base before front ps)
 unfolding fault_in items_in
 closes base place before front [] [] e = (done, refl)
 closes base place before front (b ∷ bs) [] e = absurd (cc)
 closes base place before front bs (p ∷ ps) e =
     let n = or-none (piece_fault place bs (all_bytes ps) p) (fault_in (place + length (bytes_of p)) (after_piece place bs p) ps) e in
-    closes-piece base place (length before) front (first_takes (before ++ bytes_of p) ps) bs p (all_bytes ps) (items_in base (before ++ bytes_of p) (tag_takes_after (tag_in p) before (all_bytes ps)) ps) n.0
+    closes-piece base place (length before) front (first_takes (before ++ bytes_of p) ps) bs p (all_bytes ps)
+    (items_in base (before ++ bytes_of p) (tag_takes_after (tag_in p) before (all_bytes ps)) ps) n.0
     (closes base (place + length (bytes_of p)) (before ++ bytes_of p) (tag_takes_after (tag_in p) before (all_bytes ps)) (after_piece place bs p) ps n.1)
 
 -- A body without a fault has a tree.

@@ -39,7 +39,8 @@ pub no_text : (base : ℕ) (t : Tree) (m n : ℕ) → n ≤ m → t ≡ joined t
 no_text base t m n h = sym (joined-done t) ∙ ap (joined t) (rw (nat_lt-false m n h) refl)
 
 -- The item of a text spells its tree, whether a byte is left or not.
-spells-text-if : (t : Bool) (m n : ℕ) → Spells (if t then node (trees.text (record { start = m; end = n })) done else done) (if t then text (record { start = m; end = n }) ∷ [] else [])
+spells-text-if : (t : Bool) (m n : ℕ) → Spells (if t then node (trees.text (record { start = m; end = n })) done else done)
+    (if t then text (record { start = m; end = n }) ∷ [] else [])
 spells-text-if true m n = (text (record { start = m; end = n }) ∷ [], [], refl, refl, refl)
 spells-text-if false m n = refl
 

@@ -20,7 +20,7 @@ use mathlib.Core.List.{is_set}
 use native.Mathlib.Nat.{ℕ_set}
 use Rattle.template_reader.proofs.Trees.{joined-done}
 
--- At each depth, the nodes here and those behind an else.
+-- At each depth, the nodes here and those after an else.
 abbrev Levels : Type 0
 Levels = List (Tree × Tree)
 
@@ -69,7 +69,7 @@ close-put : (h : Head) (f o : Tree) (ls : Levels) → close h ((joined f done, o
 close-put h f o [] = refl
 close-put h f o (l ∷ ls) = ap (λ (f : Tree). (node (block h f o) l.0, l.1) ∷ ls) (joined-done f)
 
--- A begin closes the level behind it.
+-- A begin closes the level after it.
 begins-with : (h : Head) (is : List Item) → nest (begin_item h ∷ is) ≡ close h (nest is)
 begins-with (test true w) is = refl
 begins-with (test false w) is = refl
@@ -82,7 +82,8 @@ ends-with (test false w) is = refl
 ends-with (each w) is = refl
 
 -- An other part and the end open a level with that other part.
-nest-other : (h : Head) (o : Tree) (two rest : List Item) → ((more rest : List Item) → Spells o more → nest (more ++ rest) ≡ put o (nest rest)) → ((two ≡ []) × (o ≡ done)) ⊎ ((more : List Item) × (two ≡ otherwise ∷ more) × Spells o more)
+nest-other : (h : Head) (o : Tree) (two rest : List Item) → ((more rest : List Item) → Spells o more → nest (more ++ rest) ≡ put o (nest rest))
+    → ((two ≡ []) × (o ≡ done)) ⊎ ((more : List Item) × (two ≡ otherwise ∷ more) × Spells o more)
     → nest (two ++ (finish_item h ∷ rest)) ≡ (done, o) ∷ nest rest
 nest-other h o two rest again (inl p) = ap (λ l. nest (l ++ (finish_item h ∷ rest))) p.0 ∙ ends-with h rest ∙ ap (λ (u : Tree). (done, u) ∷ nest rest) (sym p.1)
 nest-other h o two rest again (inr p) =
@@ -102,7 +103,8 @@ mutual
   nest-one (block h f o) is rest s =
       ap (λ l. nest (l ++ rest)) s.2 ∙ begins-with h ((s.0 ++ s.1 ++ (finish_item h ∷ [])) ++ rest)
       ∙ ap (λ l. close h (nest l)) (append_assoc (s.0 ++ s.1) (finish_item h ∷ []) rest ∙ append_assoc s.0 s.1 (finish_item h ∷ rest))
-      ∙ ap (close h) (nest-spells f s.0 (s.1 ++ (finish_item h ∷ rest)) s.3 ∙ ap (put f) (nest-other h o s.1 rest (λ more rest r. nest-spells o more rest r) s.4))
+      ∙ ap (close h) (nest-spells f s.0 (s.1 ++ (finish_item h ∷ rest)) s.3
+      ∙ ap (put f) (nest-other h o s.1 rest (λ more rest r. nest-spells o more rest r) s.4))
       ∙ close-put h f o (nest rest)
 
 -- Items spell one tree at most.
@@ -117,7 +119,7 @@ one_tree t u is s r =
     first_of [] = done
     first_of (l ∷ ls) = l.0
 
--- A tree can be told from the items that spell it, so trees are a set.
+-- A tree is known from the items that spell it, so trees are a set.
 mutual
   spell : Tree → List Item
   spell done = []

@@ -14,7 +14,7 @@ bytes_of (text bytes) = bytes
 bytes_of (tag bytes) = bytes
 bytes_of (unclosed bytes) = bytes
 
--- How many bytes stand before the first `{{`.
+-- How many bytes are before the first `{{`.
 unfoldable pub text_length : List ℕ → ℕ
 text_length [] = 0
 text_length (b ∷ bs) = if begins (b ∷ bs) (codes "{{") then 0 else 1 + text_length bs
@@ -38,7 +38,7 @@ through_unquoted mark true (b ∷ bs) = more 1 (through_unquoted mark (not (b ==
 through_unquoted mark false (b ∷ bs) =
     if begins (b ∷ bs) mark then Some (length mark) else more 1 (through_unquoted mark (b == 34) bs)
 
--- How many bytes the tag has that stands first, if it has an end.
+-- How many bytes the tag at the start has, if it has an end.
 unfoldable pub tag_length : List ℕ → Option ℕ
 tag_length bytes =
     if begins bytes (codes "{{!--") then more 5 (through_dashes (drop 5 bytes))
@@ -48,12 +48,12 @@ tag_length bytes =
     else (if begins bytes (codes "{{{") then more 3 (through_unquoted (codes "}}}") false (drop 3 bytes))
     else more 2 (through_unquoted (codes "}}") false (drop 2 bytes))))))
 
--- The tag that stands first, of this length if it has an end.
+-- The tag at the start, of this length if it has an end.
 abbrev pub tag_piece : List ℕ → Option ℕ → Piece
 tag_piece bytes None = unclosed bytes
 tag_piece bytes (Some n) = tag (take n bytes)
 
--- The piece that stands first.
+-- The piece at the start.
 unfoldable pub first_piece : List ℕ → Piece
 first_piece bytes =
     if begins bytes (codes "{{") then tag_piece bytes (tag_length bytes)

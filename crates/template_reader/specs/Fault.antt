@@ -46,7 +46,7 @@ is_in_each blocks = list_any (λ b. same_name name.Each b.name && not b.other) b
 abbrev pub is_outside : List Block → Walk → Bool
 is_outside blocks w = not (is_root w || is_in_each blocks)
 
--- The fault of a tag that says this, behind these blocks.
+-- The fault of a tag that says this, after these blocks.
 unfoldable pub form_fault : List Block → Form → Option TemplateKind
 form_fault blocks Comment = None
 form_fault blocks (Print e) = if is_outside blocks (walk_of e) then Some NotInEach else None
@@ -57,7 +57,7 @@ form_fault (b ∷ bs) Otherwise = if b.other then Some TwoElse else None
 form_fault [] (Finish n) = Some NotBegun
 form_fault (b ∷ bs) (Finish n) = if same_name n b.name then None else Some NotBegun
 
--- The fault of a tag behind these blocks.
+-- The fault of a tag after these blocks.
 abbrev pub tag_fault : List Block → Option Tag → Option TemplateKind
 tag_fault blocks None = Some BadTag
 tag_fault blocks (Some t) = form_fault blocks t.form
@@ -67,7 +67,7 @@ abbrev pub at : ℕ → Option TemplateKind → Option TemplateError
 at place None = None
 at place (Some kind) = Some (record { kind = kind; place = place })
 
--- The fault of a piece at a place, behind these blocks and before these bytes.
+-- The fault of a piece at a place, after these blocks and before these bytes.
 unfoldable pub piece_fault : ℕ → List Block → List ℕ → Piece → Option TemplateError
 piece_fault place blocks after (text bytes) =
     if begins after (codes "{{") && ends bytes (92 ∷ []) then Some (record { kind = Escape; place = place + (length bytes - 1) }) else None

@@ -31,7 +31,7 @@ abbrev mutual
       × Spells first one
       × (((two ≡ []) × (other ≡ done)) ⊎ ((more : List Item) × (two ≡ otherwise ∷ more) × Spells other more))
 
--- A body without fault, and its tree, whose spans count in a source in which so many bytes stand before the body.
+-- A body without fault, and its tree, whose spans count in a source in which so many bytes are before the body.
 pub record ParsesBody (base : ℕ) (body : List ℕ) (t : Tree) : Type 0 where
   pub faultless : body_fault body ≡ None
   pub nests : Spells t (items_behind base 0 (spots body))

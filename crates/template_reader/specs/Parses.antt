@@ -10,13 +10,13 @@ use Rattle.template_reader.specs.declared.template.Template.{Template}
 use Rattle.template_reader.specs.declared.template_error.TemplateError.{TemplateError}
 use Rattle.template_reader.specs.declared.template_error.TemplateKind.TheVariants.{BadFront, Memory}
 
--- The source parses to the tree: its body does, and what stands before the body is as it must be.
+-- The source parses to the tree: its body does, and what is before the body is as it must be.
 pub record Parses (source : List ℕ) (t : Tree) : Type 0 where
   pub start : ℕ
   pub front : body_start source ≡ Some start
   pub body : ParsesBody start (drop start source) t
 
--- The fault of a body, seen in a source in which so many bytes stand before it.
+-- The fault of a body, seen in a source in which so many bytes are before it.
 abbrev pub moved : ℕ → TemplateError → TemplateError
 moved base e = record { kind = e.kind; place = base + e.place }
 
@@ -29,10 +29,10 @@ fault_from source (Some base) = option_map (moved base) (body_fault (drop base s
 unfoldable pub fault : List ℕ → Option TemplateError
 fault source = fault_from source (body_start source)
 
--- The answer is this tree, unless memory was wanting.
+-- The answer is this tree, unless it ran out of memory.
 abbrev pub IsRead : Result Template TemplateError → Tree → Type 0
 IsRead result t = MatchResult result (λ template. tree_in template.nodes ≡ t) (λ e. e.kind ≡ Memory)
 
--- The answer is this fault, unless memory was wanting.
+-- The answer is this fault, unless it ran out of memory.
 abbrev pub IsRefused : {T : Type 0} → Result T TemplateError → TemplateError → Type 0
 IsRefused result fault = MatchResult result (λ _. ⊥) (λ e. e.kind ≢ Memory → e ≡ fault)

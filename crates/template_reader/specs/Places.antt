@@ -1,5 +1,6 @@
--- Where marks stand in the bytes, said without a scan: the least place that passes a test.
-use Rattle.std.specs.Prelude.{◌≡◌, ◌⊎◌, ℕ, ◌+◌, ◌<◌, Bool, true, false, not, ◌&&◌, ◌||◌, ◌==◌, List, [], ◌∷◌, length, take, drop, filter, Option, Some, None, if◌then◌else◌, codes}
+-- Where marks are in the bytes, said without a scan: the least place that passes a test.
+use Rattle.std.specs.Prelude.{◌≡◌, ◌⊎◌, ℕ, ◌+◌, ◌<◌, Bool, true, false, not, ◌&&◌, ◌||◌, ◌==◌}
+use Rattle.std.specs.Prelude.{List, [], ◌∷◌, length, take, drop, filter, Option, Some, None, if◌then◌else◌, codes}
 use Rattle.std.specs.List.{slice_split}
 use Rattle.std.specs.Str.{bytes_eq}
 use Rattle.template_reader.specs.Bytes.{begins, more}
@@ -11,7 +12,7 @@ abbrev pub IsLeast : (ℕ → Bool) → Option ℕ → Type 0
 IsLeast test None = (n : ℕ) → test n ≡ false
 IsLeast test (Some n) = (test n ≡ true) × ((m : ℕ) → m < n → test m ≡ false)
 
--- Whether the mark stands at the place.
+-- Whether the mark is at the place.
 abbrev pub stands : List ℕ → List ℕ → ℕ → Bool
 stands mark bytes n = begins (drop n bytes) mark
 
@@ -24,27 +25,28 @@ is_even (x ∷ xs) = not (is_even xs)
 abbrev pub quotes_in : List ℕ → List ℕ
 quotes_in bytes = filter (λ b. b == 34) bytes
 
--- Whether the place is outside double quotes: an even number of quotes stands before it.
+-- Whether the place is outside double quotes: there is an even number of quotes before it.
 abbrev pub is_outside : List ℕ → ℕ → Bool
 is_outside bytes n = is_even (quotes_in (take n bytes))
 
--- Whether `--}}` or `--~}}` stands at the place.
+-- Whether `--}}` or `--~}}` is at the place.
 abbrev pub dashes_stand : List ℕ → ℕ → Bool
 dashes_stand bytes n = stands (codes "--}}") bytes n || stands (codes "--~}}") bytes n
 
--- The end of the dashes that stand at the place.
+-- The end of the dashes that are at the place.
 abbrev pub dashes_end : List ℕ → Option ℕ → Option ℕ
 dashes_end bytes None = None
 dashes_end bytes (Some n) = Some (n + (if stands (codes "--}}") bytes n then 4 else 5))
 
--- How many bytes stand before the first of the lines that is this one, each line with its LF.
+-- How many bytes are before the first of the lines that is this one, each line with its LF.
 abbrev pub before_line : List ℕ → List (List ℕ) → Option ℕ
 before_line line [] = None
 before_line line (l ∷ ls) = if bytes_eq l line then Some 0 else more (length l + 1) (before_line line ls)
 
 -- A text goes to the least place of `{{`, or to the end where there is none.
 abbrev pub TextsEnd : Type 0
-TextsEnd = (bytes : List ℕ) → (IsLeast (stands (codes "{{") bytes) (Some (text_length bytes))) ⊎ ((IsLeast (stands (codes "{{") bytes) None) × (text_length bytes ≡ length bytes))
+TextsEnd = (bytes : List ℕ) → (IsLeast (stands (codes "{{") bytes) (Some (text_length bytes)))
+    ⊎ ((IsLeast (stands (codes "{{") bytes) None) × (text_length bytes ≡ length bytes))
 
 -- A comment with dashes goes through the least place of `--}}` or `--~}}`.
 abbrev pub DashesEnd : Type 0
@@ -56,7 +58,8 @@ CommentsEnd = (mark bytes : List ℕ) → 0 < length mark → (place : Option �
 
 -- Any other tag goes through the least place of the mark with an even number of quotes before it.
 abbrev pub TagsEnd : Type 0
-TagsEnd = (mark bytes : List ℕ) → 0 < length mark → (place : Option ℕ) × IsLeast (λ n. stands mark bytes n && is_outside bytes n) place × (through_unquoted mark false bytes ≡ more (length mark) place)
+TagsEnd = (mark bytes : List ℕ) → 0 < length mark → (place : Option ℕ) × IsLeast (λ n. stands mark bytes n && is_outside bytes n) place
+    × (through_unquoted mark false bytes ≡ more (length mark) place)
 
 -- The front is the lines before the first that is exactly `+++`.
 abbrev pub FrontsEnd : Type 0

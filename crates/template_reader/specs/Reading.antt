@@ -20,7 +20,7 @@ use Rattle.template_reader.specs.declared.reading.Step.TheVariants as step
 use Rattle.template_reader.specs.declared.tag.Tag.{Tag}
 use Rattle.template_reader.specs.declared.template_error.TemplateError.{TemplateError}
 
--- The first fault of these pieces, which stand at a place behind these blocks.
+-- The first fault of these pieces, which are at a place after these blocks.
 unfoldable pub fault_in : ℕ → List Block → List Piece → Option TemplateError
 fault_in place blocks [] = never_closed blocks
 fault_in place blocks (p ∷ ps) =
@@ -31,14 +31,14 @@ abbrev pub first_takes : List ℕ → List Piece → ℕ
 first_takes before [] = 0
 first_takes before (p ∷ ps) = tag_takes_before (tag_in p) before (all_bytes ps)
 
--- What these pieces say behind the bytes before them, where so many bytes are taken from the front.
+-- What these pieces say after the bytes before them, where so many bytes are taken from the front.
 unfoldable pub items_in : ℕ → List ℕ → ℕ → List Piece → List Item
 items_in base before front [] = []
 items_in base before front (p ∷ ps) =
     piece_item base (length before) front (first_takes (before ++ bytes_of p) ps) p
     ++ items_in base (before ++ bytes_of p) (tag_takes_after (tag_in p) before (all_bytes ps)) ps
 
--- The first fault from a place on, behind these blocks.
+-- The first fault from a place on, after these blocks.
 abbrev pub fault_at : List ℕ → ℕ → List Block → Option TemplateError
 fault_at body place blocks = fault_in place blocks (cut (drop place body))
 
@@ -46,12 +46,12 @@ fault_at body place blocks = fault_in place blocks (cut (drop place body))
 abbrev pub items_at : ℕ → List ℕ → ℕ → ℕ → List Item
 items_at base body place front = items_in base (take place body) front (cut (drop place body))
 
--- Only a text stands from here on.
+-- From here on there is only a text.
 pub record IsLast (body : List ℕ) (from : ℕ) : Type 0 where
   pub fault : (blocks : List Block) → fault_at body from blocks ≡ never_closed blocks
   pub items : (base front : ℕ) → items_at base body from front ≡ text_item base (from + front) (length body)
 
--- From here on a text stands, maybe an empty one, and then this tag.
+-- From here on there is a text, maybe an empty one, and then this tag.
 pub record IsNext (body : List ℕ) (from start end : ℕ) (t : Tag) : Type 0 where
   pub ordered : from ≤ start
   pub some : start < end
@@ -66,19 +66,22 @@ pub record IsNext (body : List ℕ) (from start end : ℕ) (t : Tag) : Type 0 wh
 pub record IsWrong (body : List ℕ) (from : ℕ) (e : TemplateError) : Type 0 where
   pub fault : (blocks : List Block) → fault_at body from blocks ≡ Some e
 
--- A text, maybe an empty one, and the tag behind it were read: the nodes went from old to new, and the tag says this.
+-- A text, maybe an empty one, and the tag after it were read: the nodes went from old to new, and the tag says this.
 pub record Passes (base : ℕ) (body : List ℕ) (from front : ℕ) (old new : Tree) (f : Form) (start end skip : ℕ) : Type 0 where
   pub later : from < end
   pub inside : end + skip ≤ length body
   pub fault : (blocks : List Block)
       → fault_at body from blocks ≡ option_or (at start (form_fault blocks f)) (fault_at body end (after_form start blocks f))
-  pub items : (t : Tree) × (a : List Item) × (new ≡ joined old t) × Spells t a × (items_at base body from front ≡ a ++ (form_item f ++ items_at base body end skip))
+  pub items : (t : Tree) × (a : List Item) × (new ≡ joined old t) × Spells t a
+      × (items_at base body from front ≡ a ++ (form_item f ++ items_at base body end skip))
 
 -- The first fault from what ends a part of nodes on: the end of the body, an else, or an end.
 abbrev pub stop_fault : List ℕ → List Block → Stop → ℕ → ℕ → Option TemplateError
 stop_fault body blocks stop.End place end = never_closed blocks
-stop_fault body blocks stop.Otherwise place end = option_or (at place (form_fault blocks form.Otherwise)) (fault_at body end (after_form place blocks form.Otherwise))
-stop_fault body blocks (stop.Finish n) place end = option_or (at place (form_fault blocks (form.Finish n))) (fault_at body end (after_form place blocks (form.Finish n)))
+stop_fault body blocks stop.Otherwise place end = option_or (at place (form_fault blocks form.Otherwise))
+    (fault_at body end (after_form place blocks form.Otherwise))
+stop_fault body blocks (stop.Finish n) place end = option_or (at place (form_fault blocks (form.Finish n)))
+    (fault_at body end (after_form place blocks (form.Finish n)))
 
 -- What the body says from there on.
 abbrev pub stop_items : ℕ → List ℕ → Stop → ℕ → ℕ → List Item
@@ -125,8 +128,9 @@ pub record Others (base : ℕ) (body : List ℕ) (from front depth : ℕ) (in_ea
   pub fault : (blocks : List Block) → Fits depth in_each blocks → fault_at body from (opened name true start ∷ blocks) ≡ fault_at body end blocks
   pub items : (a : List Item) × Spells t a × (items_at base body from front ≡ a ++ (item.finish name ∷ items_at base body end skip))
 
--- A block was read behind its begin, and its end.
-pub record Blocks (base : ℕ) (body : List ℕ) (from front depth : ℕ) (in_each : Bool) (name : Name) (path : Walk) (start : ℕ) (b : Branch) (end skip : ℕ) : Type 0 where
+-- A block was read after its begin, and its end.
+pub record Blocks (base : ℕ) (body : List ℕ) (from front depth : ℕ) (in_each : Bool) (name : Name) (path : Walk) (start : ℕ) (b : Branch) (end skip : ℕ) : Type
+    0 where
   pub later : from ≤ end
   pub inside : end + skip ≤ length body
   pub fault : (blocks : List Block) → Fits depth in_each blocks → fault_at body from (opened name false start ∷ blocks) ≡ fault_at body end blocks

@@ -1,5 +1,6 @@
 -- What a whole tag says.
-use Rattle.std.specs.Prelude.{ℕ, ℤ, pos, negsuc, ◌-◌, Bool, true, false, ◌&&◌, nat_le, nat_lt, List, [], ◌∷◌, length, take, drop, Option, Some, None, option_and_then, if◌then◌else◌, codes}
+use Rattle.std.specs.Prelude.{ℕ, ℤ, pos, negsuc, ◌-◌, Bool, true, false, ◌&&◌, nat_le, nat_lt}
+use Rattle.std.specs.Prelude.{List, [], ◌∷◌, length, take, drop, Option, Some, None, option_and_then, if◌then◌else◌, codes}
 use Rattle.std.specs.Option.{option_map, option_or}
 use Rattle.std.specs.List.{list_all}
 use Rattle.std.specs.Str.{all_ascii_digits}
@@ -12,14 +13,14 @@ use Rattle.template_reader.specs.declared.walk.Walk.TheVariants.{Root, This, AtK
 use Rattle.template_reader.specs.declared.expr.Literal.{Literal}
 use Rattle.template_reader.specs.declared.expr.Literal.TheVariants as literal
 use Rattle.template_reader.specs.declared.expr.Expr.{Expr}
-use Rattle.template_reader.specs.declared.expr.Expr.TheVariants.{Plain, Default, Decode, JoinArray, JoinMap}
+use Rattle.template_reader.specs.declared.expr.Expr.TheVariants.{Plain, Default, Decode, Json, JoinArray, JoinMap}
 use Rattle.template_reader.specs.declared.tag.Form.{Form}
 use Rattle.template_reader.specs.declared.tag.Form.TheVariants.{Comment, Print, Begin, Otherwise, Finish}
 use Rattle.template_reader.specs.declared.tag.Tag.{Tag}
 use Rattle.template_reader.specs.declared.tag.Name.{Name}
 use Rattle.template_reader.specs.declared.tag.Name.TheVariants as name
 
--- A path is a key text, or `this` with a key text behind a dot or without, or `@key` or `@index`; `else` alone is none.
+-- A path is a key text, or `this` with a key text after a dot or without, or `@key` or `@index`; `else` alone is none.
 unfoldable pub path_of : List ℕ → Option Walk
 path_of word =
     if is word (codes "else") then None
@@ -43,10 +44,11 @@ abbrev pub fits_i64 : ℤ → Bool
 fits_i64 (pos n) = nat_lt n 9223372036854775808
 fits_i64 (negsuc n) = nat_lt n 9223372036854775808
 
--- An integer is one digit or more, maybe behind a `-`, of a value within i64.
+-- An integer is one digit or more, maybe after a `-`, of a value within i64.
 unfoldable pub integer_of : List ℕ → Option ℤ
 integer_of word =
-    if (has_bytes (without_minus word) && all_ascii_digits (without_minus word)) && fits_i64 (signed_digits_value 10 word) then Some (signed_digits_value 10 word) else None
+    if (has_bytes (without_minus word) && all_ascii_digits (without_minus word)) && fits_i64 (signed_digits_value 10 word) then Some
+    (signed_digits_value 10 word) else None
 
 -- A LITERAL is a TEXT, an integer, `true` or `false`.
 unfoldable pub literal_of : List ℕ → Option Literal
@@ -55,7 +57,7 @@ literal_of word =
     else (if is word (codes "false") then Some (literal.Bool false)
     else option_or (option_map literal.Int (integer_of word)) (option_map literal.Text (text_of word)))
 
--- Whether the word says that something must stand at the path, or that nothing need.
+-- Whether the word says that something must be at the path, or that nothing need.
 abbrev pub fails_of : List ℕ → Option Bool
 fails_of word =
     if is word (codes "\"fail-if-missing\"") then Some true
@@ -78,7 +80,8 @@ join_map_of j s fail p =
 unfoldable pub expr_of : List (List ℕ) → Option Expr
 expr_of [] = None
 expr_of (p ∷ []) = option_map Plain (path_of p)
-expr_of (h ∷ p ∷ []) = if is h (codes "base64_decode") then option_map Decode (path_of p) else None
+expr_of (h ∷ p ∷ []) =
+    if is h (codes "base64_decode") then option_map Decode (path_of p) else (if is h (codes "json") then option_map Json (path_of p) else None)
 expr_of (h ∷ a ∷ p ∷ []) =
     if is h (codes "default") then default_of a p else (if is h (codes "join_array") then join_array_of a p else None)
 expr_of (h ∷ a ∷ b ∷ p ∷ []) = None
@@ -88,7 +91,8 @@ expr_of (h ∷ j ∷ s ∷ f ∷ p ∷ w ∷ ws) = None
 
 -- The name of a block.
 abbrev pub name_of : List ℕ → Option Name
-name_of w = if is w (codes "if") then Some name.If else (if is w (codes "unless") then Some name.Unless else (if is w (codes "each") then Some name.Each else None))
+name_of w = if is w (codes "if") then Some name.If else (if is w (codes "unless") then Some name.Unless else
+    (if is w (codes "each") then Some name.Each else None))
 
 -- A begin is a name and a path.
 unfoldable pub begin_form : List (List ℕ) → Option Form
@@ -110,7 +114,7 @@ is_else (w ∷ v ∷ ws) = false
 unfoldable pub plain_form : List (List ℕ) → Option Form
 plain_form ws = if is_else ws then Some Otherwise else option_map Print (expr_of ws)
 
--- What the content of a tag says: a comment behind `!`, a begin behind `#`, an end behind `/`.
+-- What the content of a tag says: a comment after `!`, a begin after `#`, an end after `/`.
 unfoldable pub form_of : List ℕ → Option Form
 form_of content =
     if begins content (codes "!") then Some Comment
@@ -118,7 +122,7 @@ form_of content =
     else (if begins content (codes "/") then finish_form (words (drop 1 content))
     else plain_form (words content)))
 
--- The content behind a trim mark.
+-- The content after a trim mark.
 abbrev pub without_front : List ℕ → List ℕ
 without_front content = if begins content (codes "~") then drop 1 content else content
 

@@ -14,7 +14,7 @@ abbrev mutual
   spans_in (print e) = []
   spans_in (block h first other) = spans_of first ++ spans_of other
 
--- The spans lie between two places, each with a byte at least and behind the one before it.
+-- The spans lie between two places, each with a byte at least and after the one before it.
 abbrev pub RiseWithin : ℕ → List Span → ℕ → Type 0
 RiseWithin low [] high = low ≤ high
 RiseWithin low (s ∷ ss) high = (low ≤ s.start) × (s.start < s.end) × RiseWithin s.end ss high

@@ -1,4 +1,4 @@
--- Each piece in its place: what stands before and after it, and the blocks that are open before it.
+-- Each piece in its place: what is before and after it, and the blocks that are open before it.
 use Rattle.std.specs.Prelude.{ℕ, ◌+◌, Bool, true, false, List, [], ◌∷◌, ◌++◌, length, Option, Some, None}
 use Rattle.std.specs.List.{flat_map}
 use Rattle.template_reader.specs.Cut.{Piece, text, tag, unclosed, bytes_of, cut}
@@ -24,7 +24,7 @@ abbrev pub after_finish : List Block → List Block
 after_finish [] = []
 after_finish (b ∷ bs) = bs
 
--- The blocks behind a tag that says this.
+-- The blocks after a tag that says this.
 abbrev pub after_form : ℕ → List Block → Form → List Block
 after_form place blocks Comment = blocks
 after_form place blocks (Print e) = blocks
@@ -32,18 +32,18 @@ after_form place blocks (Begin n w) = record { name = n; other = false; place = 
 after_form place blocks Otherwise = after_else blocks
 after_form place blocks (Finish n) = after_finish blocks
 
--- The blocks behind a tag.
+-- The blocks after a tag.
 abbrev pub after_tag : ℕ → List Block → Option Tag → List Block
 after_tag place blocks None = blocks
 after_tag place blocks (Some t) = after_form place blocks t.form
 
--- The blocks behind a piece.
+-- The blocks after a piece.
 abbrev pub after_piece : ℕ → List Block → Piece → List Block
 after_piece place blocks (text bytes) = blocks
 after_piece place blocks (tag bytes) = after_tag place blocks (tag_of bytes)
 after_piece place blocks (unclosed bytes) = blocks
 
--- The blocks that are open behind these pieces, the innermost first.
+-- The blocks that are open after these pieces, the innermost first.
 unfoldable pub blocks_after : ℕ → List Block → List Piece → List Block
 blocks_after place blocks [] = blocks
 blocks_after place blocks (p ∷ ps) = blocks_after (place + length (bytes_of p)) (after_piece place blocks p) ps
@@ -59,7 +59,7 @@ pub record Spot : Type 0 where
   pub piece : Piece
   pub after : List ℕ
 
--- The pieces ps, each in its place behind the pieces done.
+-- The pieces ps, each in its place after the pieces done.
 unfoldable pub spots_behind : List Piece → List Piece → List Spot
 spots_behind done [] = []
 spots_behind done (p ∷ ps) =

@@ -1,5 +1,6 @@
 -- Which bytes of the texts are left, and what the body then says, in order.
-use Rattle.std.specs.Prelude.{ℕ, ◌+◌, ◌-◌, Bool, true, false, ◌==◌, nat_lt, max, List, [], ◌∷◌, ◌++◌, length, drop, Option, Some, None, unwrap_or, if◌then◌else◌}
+use Rattle.std.specs.Prelude.{ℕ, ◌+◌, ◌-◌, Bool, true, false, ◌==◌, nat_lt, max, List}
+use Rattle.std.specs.Prelude.{[], ◌∷◌, ◌++◌, length, drop, Option, Some, None, unwrap_or, if◌then◌else◌}
 use Rattle.std.specs.List.{list_all, after_last, suffix_len, prefix_len}
 use Rattle.template_reader.specs.Bytes.{begins, is_space, is_blank, more}
 use Rattle.template_reader.specs.Cut.{Piece}
@@ -18,14 +19,14 @@ use Rattle.template_reader.specs.declared.tag.Name.{Name}
 abbrev pub line_start : List ℕ → List ℕ
 line_start before = after_last (λ b. b == 10) before
 
--- How many bytes the line's end has that stands first: LF, CR LF or the end of the body.
+-- How many bytes the line's end at the start has: LF, CR LF or the end of the body.
 unfoldable pub line_end : List ℕ → Option ℕ
 line_end bytes =
     if length bytes == 0 then Some 0
     else (if begins bytes (10 ∷ []) then Some 1
     else (if begins bytes (13 ∷ 10 ∷ []) then Some 2 else None))
 
--- How many bytes the spaces and tabs have that stand first, and the line's end behind them.
+-- How many bytes the spaces and tabs at the start have, and the line's end after them.
 unfoldable pub line_rest : List ℕ → Option ℕ
 line_rest after = let n = prefix_len is_blank after in more n (line_end (drop n after))
 
@@ -37,7 +38,7 @@ may_be_alone (form.Begin n w) = true
 may_be_alone form.Otherwise = true
 may_be_alone (form.Finish n) = true
 
--- How many bytes stand between the start of the line and the tag, where they are spaces and tabs.
+-- How many bytes are between the start of the line and the tag, where they are spaces and tabs.
 unfoldable pub line_front : List ℕ → Option ℕ
 line_front before = if list_all is_blank (line_start before) then Some (length (line_start before)) else None
 
@@ -47,7 +48,7 @@ both None n = None
 both (Some m) None = None
 both (Some m) (Some n) = Some (m, n)
 
--- How many bytes a tag takes before it and behind it where it is alone on its line.
+-- How many bytes a tag takes before it and after it where it is alone on its line.
 unfoldable pub alone : Tag → List ℕ → List ℕ → Option (ℕ × ℕ)
 alone t before after = if may_be_alone t.form then both (line_front before) (line_rest after) else None
 
@@ -57,7 +58,7 @@ tag_takes_before None before after = 0
 tag_takes_before (Some t) before after =
     max (unwrap_or (alone t before after) (0, 0)).0 (if t.front then suffix_len is_space before else 0)
 
--- How many bytes a tag takes behind it, if it says something.
+-- How many bytes a tag takes after it, if it says something.
 unfoldable pub tag_takes_after : Option Tag → List ℕ → List ℕ → ℕ
 tag_takes_after None before after = 0
 tag_takes_after (Some t) before after =
@@ -73,7 +74,7 @@ tag_in (piece.unclosed bytes) = None
 abbrev pub takes_before : Spot → ℕ
 takes_before s = tag_takes_before (tag_in s.piece) s.before s.after
 
--- How many bytes a piece takes behind it.
+-- How many bytes a piece takes after it.
 abbrev pub takes_after : Spot → ℕ
 takes_after s = tag_takes_after (tag_in s.piece) s.before s.after
 
@@ -85,7 +86,7 @@ pub data Item : Type 0 where
   otherwise : Item
   finish : Name → Item
 
--- A text of the body, where a byte of it is left; in the source so many bytes stand before the body.
+-- A text of the body, where a byte of it is left; in the source so many bytes are before the body.
 abbrev pub text_item : ℕ → ℕ → ℕ → List Item
 text_item base start end = if nat_lt start end then text (record { start = base + start; end = base + end }) ∷ [] else []
 

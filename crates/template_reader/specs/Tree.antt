@@ -2,7 +2,7 @@
 use Rattle.std.specs.Prelude.{Bool, List, [], ◌∷◌}
 use Rattle.template_reader.specs.declared.walk.Walk.{Walk}
 use Rattle.template_reader.specs.declared.expr.Expr.{Expr}
-use Rattle.template_reader.specs.declared.expr.Expr.TheVariants.{Plain, Default, Decode, JoinArray, JoinMap}
+use Rattle.template_reader.specs.declared.expr.Expr.TheVariants.{Plain, Default, Decode, Json, JoinArray, JoinMap}
 use Rattle.template_reader.specs.declared.span.Span.{Span}
 
 -- The path of an expression.
@@ -10,6 +10,7 @@ abbrev pub walk_of : Expr → Walk
 walk_of (Plain w) = w
 walk_of (Default l w) = w
 walk_of (Decode w) = w
+walk_of (Json w) = w
 walk_of (JoinArray j w) = w
 walk_of (JoinMap j s f w) = w
 

@@ -5,7 +5,7 @@ use Rattle.template_reader.specs.Bytes.{begins, inside, is_space, is}
 use Rattle.key_names.specs.Segment.{is_segment, is_bare, quoted}
 use Rattle.key_names.specs.Key.{fits}
 
--- What follows the byte stands inside double quotes.
+-- What follows the byte is inside double quotes.
 abbrev pub quoted_after : Bool → ℕ → Bool
 quoted_after inside b = if inside then not (b == 34) else b == 34
 
@@ -25,7 +25,7 @@ unfoldable pub part_length : (ℕ → Bool) → Bool → List ℕ → ℕ
 part_length separates inside [] = 0
 part_length separates inside (b ∷ bs) = if separates b && not inside then 0 else 1 + part_length separates (quoted_after inside b) bs
 
--- Some byte stands there.
+-- Some byte is there.
 abbrev pub has_bytes : List ℕ → Bool
 has_bytes [] = false
 has_bytes (b ∷ bs) = true

@@ -47,7 +47,7 @@ fn is_root(path: &Walk) -> bool
     }
 }
 
-/// The path may stand there: it begins at the root, or stands in an each.
+/// The path may be there: it begins at the root, or is in an each.
 pub fn is_readable(path: &Walk, in_each: bool) -> bool
     ensures { result ≡ (is_root path.now || in_each) }
 {

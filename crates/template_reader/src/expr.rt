@@ -23,7 +23,7 @@ pub enum Expr {
     Plain {
         path: Walk,
     },
-    /// The same, and the literal's text where nothing stands at the path.
+    /// The same, and the literal's text where nothing is at the path.
     Default {
         literal: Literal,
         path: Walk,
@@ -32,13 +32,17 @@ pub enum Expr {
     Decode {
         path: Walk,
     },
+    /// The scalar or the list as JSON.
+    Json {
+        path: Walk,
+    },
     /// The items of a list, joined.
     JoinArray {
         joiner: Text,
         path: Walk,
     },
     /// The children of a map, each as its name and its text joined by `joiner`, and these joined by
-    /// `separator`. With `fail`, something must stand at the path.
+    /// `separator`. With `fail`, something must be at the path.
     JoinMap {
         joiner: Text,
         separator: Text,
@@ -56,6 +60,7 @@ impl Expr {
             Expr::Plain { path } => path,
             Expr::Default { path, .. } => path,
             Expr::Decode { path } => path,
+            Expr::Json { path } => path,
             Expr::JoinArray { path, .. } => path,
             Expr::JoinMap { path, .. } => path,
         }

@@ -1,6 +1,8 @@
 //! Expressions, read from words.
 ghost use Rattle.std.specs.Prelude.{◌≡◌, ◌∷◌, [], map, IfOk};
-ghost use Rattle.template_reader.specs.Says.{expr_of, default_of, join_array_of, join_map_of};
+ghost use Rattle.std.specs.Option.{option_map};
+ghost use Rattle.template_reader.specs.Says.{path_of, expr_of, default_of, join_array_of, join_map_of};
+ghost use Rattle.template_reader.specs.declared.expr.Expr.TheVariants.{Decode, Json};
 
 use crate::Expr;
 use crate::literals::{read_fails, read_literal, read_text};
@@ -19,17 +21,37 @@ fn read_plain(alloc: Global, word: &[u8]) -> Result<Option<Expr>, AllocError>
     }
 }
 
-// `base64_decode` and a path.
-#[tactic(auto, unfolding(crate::specs::Says::expr_of))]
-fn read_decode(alloc: Global, name: &[u8], word: &[u8]) -> Result<Option<Expr>, AllocError>
-    ensures { IfOk result (λ o. o ≡ expr_of (name.now ∷ word.now ∷ [])) }
+// What follows the word `base64_decode`.
+fn read_decode(alloc: Global, word: &[u8]) -> Result<Option<Expr>, AllocError>
+    ensures { IfOk result (λ o. o ≡ option_map Decode (path_of word.now)) }
 {
-    if !is_same(name, b"base64_decode") {
-        return Ok(None);
-    }
     match read_path(alloc, word)? {
         Some(path) => Ok(Some(Expr::Decode { path })),
         None => Ok(None),
+    }
+}
+
+// What follows the word `json`.
+fn read_json(alloc: Global, word: &[u8]) -> Result<Option<Expr>, AllocError>
+    ensures { IfOk result (λ o. o ≡ option_map Json (path_of word.now)) }
+{
+    match read_path(alloc, word)? {
+        Some(path) => Ok(Some(Expr::Json { path })),
+        None => Ok(None),
+    }
+}
+
+// Two words: a helper and a path.
+#[tactic(auto, unfolding(crate::specs::Says::expr_of))]
+fn read_pair(alloc: Global, name: &[u8], word: &[u8]) -> Result<Option<Expr>, AllocError>
+    ensures { IfOk result (λ o. o ≡ expr_of (name.now ∷ word.now ∷ [])) }
+{
+    if is_same(name, b"base64_decode") {
+        read_decode(alloc, word)
+    } else if is_same(name, b"json") {
+        read_json(alloc, word)
+    } else {
+        Ok(None)
     }
 }
 
@@ -126,7 +148,7 @@ fn read_five(
     }
 }
 
-/// The expression that the words are, if they are one. The only error is want of memory.
+/// The expression that the words are, if they are one. The only error is out of memory.
 #[tactic(auto, unfolding(crate::specs::Says::expr_of))]
 pub fn read_expr(alloc: Global, words: &[&[u8]]) -> Result<Option<Expr>, AllocError>
     ensures { IfOk result (λ o. o ≡ expr_of (map (λ word. word.now) words.now)) }
@@ -134,7 +156,7 @@ pub fn read_expr(alloc: Global, words: &[&[u8]]) -> Result<Option<Expr>, AllocEr
     match words {
         [] => Ok(None),
         [path] => read_plain(alloc, path),
-        [name, path] => read_decode(alloc, name, path),
+        [name, path] => read_pair(alloc, name, path),
         [name, given, path] => read_triple(alloc, name, given, path),
         [_, _, _, _] => Ok(None),
         [name, joiner, separator, fails, path] => {

@@ -7,7 +7,7 @@ use crate::{TemplateError, TemplateKind};
 use std::alloc::{AllocError, Global};
 use toml::Table;
 
-// A line that is exactly `+++` stands first.
+// A line that is exactly `+++` is at the start.
 fn is_fence(bytes: &[u8]) -> bool
     ensures { result ≡ is_fence bytes.now }
 {
@@ -20,7 +20,7 @@ fn is_fence_line(begins_line: bool, bytes: &[u8]) -> bool
     begins_line && is_fence(bytes)
 }
 
-// How many bytes stand before the first line that is exactly `+++`.
+// How many bytes are before the first line that is exactly `+++`.
 fn front_length(source: &[u8]) -> Option<usize>
     ensures value { result ≡ front_length source.now }
     ensures bound { IfSome result (λ n. n ≤ length source.now) }
@@ -58,7 +58,7 @@ fn is_toml(alloc: Global, bytes: &[u8]) -> Result<bool, AllocError>
     Ok(document.is_some())
 }
 
-/// Where the body begins: behind the first line `+++`, if there is one. What stands before that line
+/// Where the body begins: after the first line `+++`, if there is one. What is before that line
 /// must be TOML, else it is `BadFront` at 0.
 pub fn body_start(alloc: Global, source: &[u8]) -> Result<usize, TemplateError>
     ensures ok { IfOk result (λ n. body_start source.now ≡ Some n) }

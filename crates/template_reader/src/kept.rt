@@ -1,4 +1,4 @@
-//! A source beside its template.
+//! A source with its template.
 ghost use Rattle.template_reader.specs.Forest.{tree_in};
 ghost use Rattle.template_reader.specs.Parses.{Parses};
 

@@ -7,7 +7,7 @@ ghost use Rattle.template_reader.specs.Spans.{RiseWithin, spans_of};
 
 /// A source has one tree exactly where it has no fault, and the spans of the tree's texts lie in it in
 /// order, none over another. A text ends at the least place of `{{`, a comment at the least place of
-/// its mark, any other tag at the least place of its mark that an even number of quotes stands before,
+/// its mark, any other tag at the least place of its mark with an even number of quotes before it,
 /// and the front is the lines before the first that is exactly `+++`. It does nothing: its clauses are
 /// the law.
 pub fn laws()

@@ -11,7 +11,7 @@ use crate::words::is_same;
 use key_names::{Text, are_quotable};
 use std::alloc::{AllocError, Global};
 
-// Double quotes stand at both ends.
+// Double quotes are at both ends.
 fn is_quoted(word: &[u8]) -> bool
     ensures value { result ≡ (nat_le 2 (length word.now) && begins word.now (codes "\"") && ends word.now (codes "\"")) }
     ensures bound { IsTrue result → 2 ≤ length word.now }
@@ -27,7 +27,7 @@ fn quotable_text(alloc: Global, bytes: &[u8]) -> Result<Text, AllocError>
     Text::from_str(alloc, str::from_utf8(bytes).unwrap())
 }
 
-/// The text that the word is, if it is one: printable ASCII in double quotes. The only error is want of
+/// The text that the word is, if it is one: printable ASCII in double quotes. The only error is out of
 /// memory.
 #[tactic(auto, unfolding(crate::specs::Says::text_of))]
 pub fn read_text(alloc: Global, word: &[u8]) -> Result<Option<Text>, AllocError>
@@ -43,7 +43,7 @@ pub fn read_text(alloc: Global, word: &[u8]) -> Result<Option<Text>, AllocError>
     Ok(Some(quotable_text(alloc, inner)?))
 }
 
-// The integer that the word is, if it is one: digits, maybe behind a `-`.
+// The integer that the word is, if it is one: digits, maybe after a `-`.
 fn read_integer(word: &[u8]) -> Option<i64>
     ensures { result ≡ integer_of word.now }
 {
@@ -56,7 +56,7 @@ fn read_integer(word: &[u8]) -> Option<i64>
     }
 }
 
-/// The literal that the word is, if it is one. The only error is want of memory.
+/// The literal that the word is, if it is one. The only error is out of memory.
 #[tactic(auto, unfolding(crate::specs::Says::literal_of))]
 pub fn read_literal(alloc: Global, word: &[u8]) -> Result<Option<Literal>, AllocError>
     ensures { IfOk result (λ o. o ≡ literal_of word.now) }
@@ -76,7 +76,7 @@ pub fn read_literal(alloc: Global, word: &[u8]) -> Result<Option<Literal>, Alloc
     }
 }
 
-/// Whether the word says that something must stand at the path, or that nothing need.
+/// Whether the word says that something must be at the path, or that nothing need.
 pub fn read_fails(word: &[u8]) -> Option<bool>
     ensures { result ≡ fails_of word.now }
 {

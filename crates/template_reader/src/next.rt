@@ -8,7 +8,7 @@ use crate::tags::read_tag;
 use crate::{TemplateError, TemplateKind};
 use std::alloc::Global;
 
-/// A tag, and where it stands.
+/// A tag, and where it is.
 #[derive(Drop)]
 pub struct Found {
     pub start: usize,

@@ -16,7 +16,7 @@ pub enum Node {
     Print {
         expr: Expr,
     },
-    /// An if, or an unless: the nodes before its else and those behind it, of which there are none
+    /// An if, or an unless: the nodes before its else and those after it, of which there are none
     /// where it has no else.
     Test {
         unless: bool,

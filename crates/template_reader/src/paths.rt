@@ -42,7 +42,7 @@ fn read_root(alloc: Global, word: &[u8]) -> Result<Option<Walk>, AllocError>
     }
 }
 
-/// The path that the word is, if it is one. The only error is want of memory.
+/// The path that the word is, if it is one. The only error is out of memory.
 #[tactic(auto, unfolding(crate::specs::Says::path_of))]
 pub fn read_path(alloc: Global, word: &[u8]) -> Result<Option<Walk>, AllocError>
     ensures { IfOk result (λ o. o ≡ path_of word.now) }

@@ -46,7 +46,7 @@ pub enum Stop {
     Finish(Name),
 }
 
-// A tag that was read: what it says, where it stands, and what is left behind it.
+// A tag that was read: what it says, where it is, and what is left after it.
 #[derive(Drop)]
 struct Passed {
     form: Form,
@@ -67,7 +67,7 @@ pub enum Step {
     },
 }
 
-// Nodes, what ends them, where that stands, and what is left.
+// Nodes, what ends them, where that is, and what is left.
 #[derive(Drop)]
 struct Part {
     nodes: Nodes,
@@ -123,8 +123,10 @@ fn pass_text(
     requires within { rest.from + rest.taken ≤ length body.now }
     requires fits { base + length body.now < 2 ^ 64 }
     ensures last { IfOk result (λ o. IfNone o (IsLast body.now rest.from)) }
-    ensures last_text { IfOk result (λ o. IfNone o (tree_of nodes.new.items ≡ joined (tree_of nodes.old.items) (text_tree base (rest.from + rest.taken) (length body.now)))) }
-    ensures passes { IfOk result (λ o. IfSome o (λ p. Passes base body.now rest.from rest.taken (tree_of nodes.old.items) (tree_of nodes.new.items) p.form p.place p.rest.from p.rest.taken)) }
+    ensures last_text { IfOk result (λ o. IfNone o (tree_of nodes.new.items ≡ joined (tree_of nodes.old.items)
+        (text_tree base (rest.from + rest.taken) (length body.now)))) }
+    ensures passes { IfOk result (λ o. IfSome o (λ p. Passes base body.now rest.from rest.taken (tree_of nodes.old.items) (tree_of nodes.new.items) p.form
+        p.place p.rest.from p.rest.taken)) }
     ensures wrong { IfErr result (λ e. e.kind ≢ TemplateKind.Memory → IsWrong body.now rest.from e) }
 {
     let Some(found) = next_tag(alloc, body, rest.from)? else {
@@ -235,7 +237,8 @@ fn read_part(
     requires within { rest.from + rest.taken ≤ length body.now }
     requires fits { base + length body.now < 2 ^ 64 }
     requires shallow { level.depth ≤ 32 }
-    ensures ok { IfOk result (λ p. Stops base body.now rest.from rest.taken level.depth level.in_each done (tree_in p.nodes) p.stop p.place p.rest.from p.rest.taken) }
+    ensures ok { IfOk result (λ p. Stops base body.now rest.from rest.taken level.depth level.in_each done (tree_in p.nodes) p.stop p.place p.rest.from
+        p.rest.taken) }
     ensures err { IfErr result (λ e. e.kind ≢ TemplateKind.Memory → Fails body.now rest.from level.depth level.in_each e) }
 {
     let mut nodes = Vec::new(alloc);
@@ -255,7 +258,7 @@ fn read_part(
     }
 }
 
-// Reads a block behind its begin, up to its end.
+// Reads a block after its begin, up to its end.
 #[cycle(reading)]
 fn read_block(
     alloc: Global,
@@ -269,8 +272,10 @@ fn read_block(
     requires within { rest.from + rest.taken ≤ length body.now }
     requires fits { base + length body.now < 2 ^ 64 }
     requires shallow { level.depth < 32 }
-    ensures ok { IfOk result (λ b. Blocks base body.now rest.from rest.taken level.depth level.in_each begun.name path begun.place (branch_of b.node) b.rest.from b.rest.taken) }
-    ensures err { IfErr result (λ e. e.kind ≢ TemplateKind.Memory → FailsIn body.now rest.from level.depth level.in_each (opened begun.name false begun.place) e) }
+    ensures ok { IfOk result (λ b. Blocks base body.now rest.from rest.taken level.depth level.in_each begun.name path begun.place (branch_of b.node)
+        b.rest.from b.rest.taken) }
+    ensures err { IfErr result (λ e. e.kind ≢ TemplateKind.Memory → FailsIn body.now rest.from level.depth level.in_each (opened begun.name false begun.place)
+        e) }
 {
     let inner = Level {
         depth: level.depth + 1,
@@ -312,8 +317,10 @@ fn read_other(
     requires within { rest.from + rest.taken ≤ length body.now }
     requires fits { base + length body.now < 2 ^ 64 }
     requires shallow { level.depth < 32 }
-    ensures ok { IfOk result (λ o. Others base body.now rest.from rest.taken level.depth level.in_each begun.name begun.place (tree_in o.nodes) o.rest.from o.rest.taken) }
-    ensures err { IfErr result (λ e. e.kind ≢ TemplateKind.Memory → FailsIn body.now rest.from level.depth level.in_each (opened begun.name true begun.place) e) }
+    ensures ok { IfOk result (λ o. Others base body.now rest.from rest.taken level.depth level.in_each begun.name begun.place (tree_in o.nodes) o.rest.from
+        o.rest.taken) }
+    ensures err { IfErr result (λ e. e.kind ≢ TemplateKind.Memory
+        → FailsIn body.now rest.from level.depth level.in_each (opened begun.name true begun.place) e) }
 {
     let inner = Level {
         depth: level.depth + 1,
@@ -335,7 +342,7 @@ fn read_other(
     }
 }
 
-/// The nodes of a body, with their places in a source in which `base` bytes stand before it. The
+/// The nodes of a body, with their places in a source in which `base` bytes are before it. The
 /// places of faults count in the body.
 pub fn read_body(alloc: Global, body: &[u8], base: usize) -> Result<Nodes, TemplateError>
     requires { base + length body.now < 2 ^ 64 }

@@ -12,7 +12,7 @@ pub fn tail(bytes: &[u8], at: usize) -> &[u8]
     bytes.split_at(at).1
 }
 
-/// The mark stands at the place.
+/// The mark is at the place.
 pub fn begins_at(bytes: &[u8], at: usize, mark: &[u8]) -> bool
     requires { at ≤ length bytes.now }
     ensures value { result ≡ begins (drop at bytes.now) mark.now }
@@ -21,7 +21,7 @@ pub fn begins_at(bytes: &[u8], at: usize, mark: &[u8]) -> bool
     tail(bytes, at).starts_with(mark)
 }
 
-/// How many bytes stand before the first `{{`.
+/// How many bytes are before the first `{{`.
 pub fn text_length(bytes: &[u8]) -> usize
     ensures { result ≡ text_length bytes.now }
 {
@@ -61,7 +61,7 @@ fn through_dashes(bytes: &[u8]) -> Option<usize>
     None
 }
 
-/// What follows a byte stands inside double quotes.
+/// What follows a byte is inside double quotes.
 pub fn is_quoted_after(quoted: bool, byte: u8) -> bool
     ensures { result ≡ quoted_after quoted byte }
 {
@@ -95,7 +95,7 @@ pub fn more(n: usize, found: Option<usize>) -> Option<usize>
     }
 }
 
-/// How many bytes the tag has that stands first.
+/// How many bytes the tag at the start has.
 #[tactic(auto, unfolding(crate::specs::Cut::tag_length))]
 pub fn tag_length(bytes: &[u8]) -> Option<usize>
     requires { 2 ≤ length bytes.now }

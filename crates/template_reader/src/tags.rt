@@ -159,7 +159,7 @@ fn read_print(alloc: Global, content: &[u8]) -> Result<Option<Tag>, AllocError>
     }
 }
 
-/// What a tag says, if it says something. The only error is want of memory.
+/// What a tag says, if it says something. The only error is out of memory.
 #[tactic(auto, unfolding(crate::specs::Says::tag_of))]
 pub fn read_tag(alloc: Global, bytes: &[u8]) -> Result<Option<Tag>, AllocError>
     requires { 2 ≤ length bytes.now }

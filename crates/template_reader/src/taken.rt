@@ -1,4 +1,4 @@
-//! The bytes of the texts beside a tag that the tag takes.
+//! The bytes of the texts next to a tag that the tag takes.
 ghost use Rattle.std.specs.Prelude.{◌≡◌, ◌≤◌, ◌==◌, ◌||◌, ◌∷◌, [], length, IfSome, Some};
 ghost use Rattle.std.specs.List.{prefix_len, suffix_len};
 ghost use Rattle.template_reader.specs.Bytes.{is_space, is_blank, ends};
@@ -58,7 +58,7 @@ fn spaces_last(bytes: &[u8]) -> usize
     bytes.len() - n
 }
 
-// How many bytes the line's end has that stands first.
+// How many bytes the line's end at the start has.
 #[tactic(auto, unfolding(crate::specs::Taken::line_end))]
 fn line_end(bytes: &[u8]) -> Option<usize>
     ensures value { result ≡ line_end bytes.now }
@@ -75,7 +75,7 @@ fn line_end(bytes: &[u8]) -> Option<usize>
     }
 }
 
-// The spaces and tabs that stand first, and the line's end behind them.
+// The spaces and tabs at the start, and the line's end after them.
 #[tactic(auto, unfolding(crate::specs::Taken::line_rest))]
 fn line_rest(after: &[u8]) -> Option<usize>
     ensures value { result ≡ line_rest after.now }
@@ -85,14 +85,14 @@ fn line_rest(after: &[u8]) -> Option<usize>
     more(n, line_end(tail(after, n)))
 }
 
-// No byte stands before the line, or an LF does.
+// No byte is before the line, or an LF is.
 fn starts_line(front: &[u8]) -> bool
     ensures { result ≡ (length front.now == 0 || ends front.now (10 ∷ [])) }
 {
     front.is_empty() || front.ends_with(b"\n")
 }
 
-// The spaces and tabs from the start of the line on, where nothing else stands there. It looks no
+// The spaces and tabs from the start of the line on, where nothing else is there. It looks no
 // farther back than they go, so that many tags of one line are read in one pass.
 fn line_front(before: &[u8]) -> Option<usize>
     ensures value { result ≡ line_front before.now }
@@ -115,7 +115,7 @@ fn may_be_alone(form: &Form) -> bool
     }
 }
 
-// What a tag takes before it and behind it where it is alone on its line.
+// What a tag takes before it and after it where it is alone on its line.
 #[tactic(auto, unfolding(crate::specs::Taken::alone))]
 fn alone(tag: &Tag, before: &[u8], after: &[u8]) -> Option<(usize, usize)>
     ensures value { result ≡ alone tag.now before.now after.now }
@@ -129,7 +129,7 @@ fn alone(tag: &Tag, before: &[u8], after: &[u8]) -> Option<(usize, usize)>
     Some((front, rest))
 }
 
-/// How many bytes a tag takes before it, and how many behind it.
+/// How many bytes a tag takes before it, and how many after it.
 #[tactic(auto, unfolding(crate::specs::Taken::tag_takes_before, crate::specs::Taken::tag_takes_after))]
 pub fn taken(tag: &Tag, before: &[u8], after: &[u8]) -> (usize, usize)
     ensures before { result.0 ≡ tag_takes_before (Some tag.now) before.now after.now }

@@ -18,7 +18,7 @@ pub struct Template {
     pub nodes: Nodes,
 }
 
-// The fault of a body, seen in a source in which `base` bytes stand before it.
+// The fault of a body, seen in a source in which `base` bytes are before it.
 fn moved(error: TemplateError, base: usize) -> TemplateError
     requires { base + error.place < 2 ^ 64 }
     ensures { result ≡ moved base error }
@@ -45,7 +45,7 @@ fn parsed(alloc: Global, source: &[u8]) -> Result<Template, TemplateError>
 }
 
 /// The template that the source is, or the source's first fault in text order; the only other error is
-/// want of memory. It takes one pass over the source, behind one over the frontmatter.
+/// out of memory. It takes one pass over the source, after one over the frontmatter.
 pub fn read(alloc: Global, source: &[u8]) -> Result<Template, TemplateError>
     ensures ok { IfOk result (λ t. Parses source.now (tree_in t.nodes)) }
     ensures refused { IfErr result (λ e. e.kind ≢ TemplateKind.Memory → fault source.now ≡ Some e) }

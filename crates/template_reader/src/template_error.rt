@@ -1,11 +1,11 @@
 //! The faults of templates.
 use std::alloc::AllocError;
 
-/// What is wrong with a template, or that memory was wanting. For one tag the first kind in this order
+/// What is wrong with a template, or that memory ran out. For one tag the first kind in this order
 /// is answered.
 #[derive(Clone, Copy, Debug, Drop, PartialEq, Eq)]
 pub enum TemplateKind {
-    /// What stands before the first line `+++` is no TOML. Its place is 0.
+    /// What is before the first line `+++` is no TOML. Its place is 0.
     BadFront,
     /// A backslash directly before a tag, in text. Its place is that of the backslash.
     Escape,
@@ -24,7 +24,7 @@ pub enum TemplateKind {
     TooDeep,
     /// At the end of the template a block is still begun. The place is that of the innermost one's tag.
     NeverClosed,
-    /// Memory was wanting. Its place is 0.
+    /// Out of memory. Its place is 0.
     Memory,
 }
 

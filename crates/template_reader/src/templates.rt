@@ -1,4 +1,4 @@
-//! Templates that are kept beside their sources.
+//! Templates that are kept with their sources.
 ghost use Rattle.std.specs.Prelude.{◌≡◌, ◌≢◌, List, ℕ, Some, None, IfOk, IfErr, IfSome, IfNone, OnOk, OnErr, if◌then◌else◌};
 ghost use Rattle.std.specs.Option.{option_copied};
 ghost use Rattle.std.specs.Str.{bytes_eq};
@@ -20,7 +20,7 @@ pub struct Parsed<'a> {
     pub template: &'a Template,
 }
 
-/// The templates of configuration files, each beside its source. It keeps the allocator that it was
+/// The templates of configuration files, each with its source. It keeps the allocator that it was
 /// made with.
 #[derive(Drop)]
 pub struct Templates {

@@ -28,7 +28,7 @@ fn ends_word(byte: u8, quoted: bool) -> bool
     is_space(byte) && !quoted
 }
 
-// How many bytes stand before the first white space outside double quotes.
+// How many bytes are before the first white space outside double quotes.
 fn word_length(bytes: &[u8]) -> usize
     ensures value { result ≡ part_length is_space false bytes.now }
     ensures bound { result ≤ length bytes.now }
@@ -53,7 +53,7 @@ fn push_word<'a>(found: &mut Vec<&'a [u8]>, word: &'a [u8]) -> Result<(), AllocE
     Ok(())
 }
 
-/// The words, which white space outside double quotes separates. The only error is want of memory.
+/// The words, which white space outside double quotes separates. The only error is out of memory.
 pub fn words<'a>(alloc: Global, bytes: &'a [u8]) -> Result<Vec<&'a [u8]>, AllocError>
     ensures { IfOk result (λ v. map (λ word. word.now) v.items ≡ words bytes.now) }
 {

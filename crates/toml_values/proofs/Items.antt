@@ -5,7 +5,7 @@ use Rattle.toml.specs.View.{items_view}
 use Rattle.toml.specs.declared.value.Value.{Value}
 use Rattle.toml_values.specs.Values.{items_of}
 
--- The items so far, with those of the values to come behind them.
+-- The items so far, with those of the values to come after them.
 abbrev pub behind : List Item → Option (List Item) → Option (List Item)
 behind items rest = option_map (λ xs. items ++ xs) rest
 

@@ -12,7 +12,7 @@ use Rattle.toml.specs.declared.value.Value.{Value}
 abbrev pub table_of : List ℕ → Option Members
 table_of text = if is_utf8 text then parse_document text else None
 
--- Each name with what stands under it, in the table's order.
+-- Each name with what is under it, in the table's order.
 abbrev pub named : Members → List (List ℕ × Data)
 named no_members = []
 named (member name d ms) = (name, d) ∷ named ms

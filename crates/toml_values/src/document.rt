@@ -6,8 +6,8 @@ ghost use Rattle.toml_values.specs.Document.{table_of};
 use std::alloc::{AllocError, Global};
 use toml::Table;
 
-/// The table that the bytes are, None exactly where they aren't TOML in UTF-8. The only error is want of memory. It takes
-/// time linear in the bytes, and for each entry a logarithmic step in the number of those beside it.
+/// The table that the bytes are, None exactly where they aren't TOML in UTF-8. The only error is out of memory. It takes
+/// time linear in the bytes, and for each entry a logarithmic step in the number of those next to it.
 pub fn table_of(alloc: Global, text: &[u8]) -> Result<Option<Table>, AllocError>
     ensures { IfOk result (λ table. option_map (λ t. table_view t) table ≡ table_of text.now) }
 {

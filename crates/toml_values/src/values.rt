@@ -8,7 +8,7 @@ use key_names::Text;
 use std::alloc::{AllocError, Global};
 use toml::Value;
 
-/// The text that the value is, None exactly where it is of another type. The only error is want of memory.
+/// The text that the value is, None exactly where it is of another type. The only error is out of memory.
 pub fn text_of(value: &Value) -> Result<Option<Text>, AllocError>
     ensures { IfOk result (λ text. text ≡ text_of (view value.now)) }
 {
@@ -19,7 +19,7 @@ pub fn text_of(value: &Value) -> Result<Option<Text>, AllocError>
 }
 
 /// The scalar that the value is: a truth value, an integer, a text, or a list of these; None exactly where it is a float,
-/// a date or a time, a table, or an array that holds one of these or an array. The only error is want of memory. It takes
+/// a date or a time, a table, or an array that holds one of these or an array. The only error is out of memory. It takes
 /// time linear in the value.
 pub fn scalar_of(alloc: Global, value: &Value) -> Result<Option<Scalar>, AllocError>
     ensures { IfOk result (λ scalar. scalar ≡ scalar_of (view value.now)) }
@@ -37,7 +37,7 @@ pub fn scalar_of(alloc: Global, value: &Value) -> Result<Option<Scalar>, AllocEr
 }
 
 /// The items that the values of an array are: truth values, integers and texts; None exactly where one is none of these.
-/// The only error is want of memory. It takes time linear in the values.
+/// The only error is out of memory. It takes time linear in the values.
 pub fn items_of(alloc: Global, values: &[Value]) -> Result<Option<Items>, AllocError>
     ensures { IfOk result (λ items. items ≡ items_of (items_view values.now)) }
 {

@@ -4,7 +4,7 @@ ghost use Rattle.toml_values.specs.Words.{parts_of, words_among, words_in};
 
 use std::alloc::{AllocError, Global};
 
-// What stands between the spaces.
+// What is between the spaces.
 fn parts_of(alloc: Global, text: &str) -> Result<Vec<&str>, AllocError>
     ensures { IfOk result (λ parts. map (λ p. p.now) parts.items ≡ parts_of text.now) }
 {
@@ -32,7 +32,7 @@ fn words_among(alloc: Global, parts: &[&str]) -> Result<Vec<String>, AllocError>
     Ok(words)
 }
 
-/// The words of the text, which stand between its spaces. The only error is want of memory.
+/// The words of the text, which are between its spaces. The only error is out of memory.
 pub fn words_in(alloc: Global, text: &str) -> Result<Vec<String>, AllocError>
     ensures { IfOk result (λ words. map string_bytes words.items ≡ words_in text.now) }
 {

@@ -1,5 +1,6 @@
 -- Where no two rows meet, one row at most matches a key, and no known key begins another.
-use Rattle.std.proofs.Common.{◌≡◌, ℕ, zero, suc, ◌<◌, ◌≤◌, List, [], ◌∷◌, ◌++◌, length, get_or, length-append, sym, ◌∙◌, ap, subst, refl, true≢false, arith, ◌⊎◌, inl, inr}
+use Rattle.std.proofs.Common.{◌≡◌, ℕ, zero, suc, ◌<◌, ◌≤◌, List, [], ◌∷◌, ◌++◌, length}
+use Rattle.std.proofs.Common.{get_or, length-append, sym, ◌∙◌, ap, subst, refl, true≢false, arith, ◌⊎◌, inl, inr}
 use Rattle.std.proofs.lemmas.Bool.{cases_eq, cases_lt}
 use Rattle.std.proofs.lemmas.List.{append-nil, get_or_append_left, get_or_past, get_or_default}
 use Rattle.typed_settings.specs.Pattern.{Fits, Agree, Matches, Meet}
@@ -57,7 +58,8 @@ module _ (table : List Row) (apart : AreApart table) where
       both : (p q : List Place) → Matches p key → Matches q key → Meet p q
       both p q m n = meet_along p q key [] m (subst (λ k. Matches q k) (sym (append-nil key)) n)
 
-      at : (i j : ℕ) (d : Row) → i < length table → j < length table → Matches (get_or table i d).pattern key → Matches (get_or table j d).pattern key → (i < j) ⊎ (j ≤ i) → (j < i) ⊎ (i ≤ j) → i ≡ j
+      at : (i j : ℕ) (d : Row) → i < length table → j < length table → Matches (get_or table i d).pattern key → Matches (get_or table j d).pattern key
+          → (i < j) ⊎ (j ≤ i) → (j < i) ⊎ (i ≤ j) → i ≡ j
       at i j d within within' m n (inl h) g = absurd (apart i j d h within' (both _ _ m n))
       at i j d within within' m n (inr h) (inl g) = absurd (apart j i d g within (both _ _ n m))
       at i j d within within' m n (inr h) (inr g) = omega (arith, h, g)
@@ -87,12 +89,15 @@ module _ (table : List Row) (apart : AreApart table) where
           nothing (x ∷ xs) e = absurd (omega (arith, e))
 
           at : (k < j) ⊎ (j ≤ k) → (j < k) ⊎ (k ≤ j) → more ≡ []
-          at (inl h) g = absurd (apart k j r h has'.among.1 (subst (λ a. Meet a.pattern (get_or table j r).pattern) (sym has.among.2) (subst (λ b. Meet r.pattern b.pattern) (sym s_is) meet)))
-          at (inr h) (inl g) = absurd (apart j k r g has.among.1 (subst (λ b. Meet (get_or table j r).pattern b.pattern) (sym has.among.2) (subst (λ a. Meet a.pattern r.pattern) (sym s_is) (meet_back r.pattern s.pattern meet))))
+          at (inl h) g = absurd (apart k j r h has'.among.1 (subst (λ a. Meet a.pattern (get_or table j r).pattern) (sym has.among.2)
+              (subst (λ b. Meet r.pattern b.pattern) (sym s_is) meet)))
+          at (inr h) (inl g) = absurd (apart j k r g has.among.1 (subst (λ b. Meet (get_or table j r).pattern b.pattern) (sym has.among.2)
+              (subst (λ a. Meet a.pattern r.pattern) (sym s_is) (meet_back r.pattern s.pattern meet))))
           at (inr h) (inr g) =
               let same_place : k ≡ j = omega (arith, h, g) in
               let same : r ≡ s = sym has.among.2 ∙ ap (λ n. get_or table n r) same_place ∙ s_is in
-              let lengths : length (key ++ more) ≡ length key = has'.matches.same_length ∙ ap (λ x. length x.pattern) (sym same) ∙ sym has.matches.same_length in
+              let lengths : length (key ++ more) ≡ length key = has'.matches.same_length ∙ ap (λ x. length x.pattern) (sym same)
+              ∙ sym has.matches.same_length in
               nothing more (omega (arith, lengths, length-append key more))
 
   -- The row that matches a key is one.
@@ -101,10 +106,11 @@ module _ (table : List Row) (apart : AreApart table) where
       let k = has.among.0 in
       let j = has'.among.0 in
       let second : get_or table j r ≡ s = get_or_default table j r s has'.among.1 ∙ has'.among.2 in
-      let places : k ≡ j = (one_row key).one k j r has.among.1 has'.among.1 (subst (λ x. Matches x.pattern key) (sym has.among.2) has.matches) (subst (λ x. Matches x.pattern key) (sym second) has'.matches) in
+      let places : k ≡ j = (one_row key).one k j r has.among.1 has'.among.1 (subst (λ x. Matches x.pattern key) (sym has.among.2) has.matches)
+      (subst (λ x. Matches x.pattern key) (sym second) has'.matches) in
       sym has.among.2 ∙ ap (λ n. get_or table n r) places ∙ second
 
-  -- A value may stand at a key, or not, for one cause.
+  -- A value may be at a key, or not, for one cause.
   pub one_cause : (key : List (List ℕ)) (value : Scalar) (e f : TypeError) → IsIllTyped table key value e → IsIllTyped table key value f → e ≡ f
   one_cause key value (error.Unknown k) (error.Unknown l) a b = ap error.Unknown (a.0 ∙ sym b.0)
   one_cause key value (error.Unknown k) (error.Wrong l wanted) a b = absurd (a.1 (b.1.row, b.1.has))
@@ -116,10 +122,11 @@ module _ (table : List Row) (apart : AreApart table) where
   one_cause key value error.Memory f a b = absurd a
   one_cause key value e error.Memory a b = absurd b
 
-  -- A value that may stand there has none.
+  -- A value that may be there has none.
   pub no_cause : (key : List (List ℕ)) (value : Scalar) (e : TypeError) → IsTyped table key value → IsIllTyped table key value e → ⊥
   no_cause key value (error.Unknown k) is a = a.1 (is.row, is.has)
-  no_cause key value (error.Wrong k wanted) is a = true≢false (sym is.taken ∙ ap (λ r. takes r.word value) (same_row key is.row a.1.row is.has a.1.has) ∙ a.1.refused)
+  no_cause key value (error.Wrong k wanted) is a = true≢false (sym is.taken ∙ ap (λ r. takes r.word value) (same_row key is.row a.1.row is.has a.1.has)
+      ∙ a.1.refused)
   no_cause key value error.Memory is a = a
 
 -- ---- the table
@@ -142,12 +149,14 @@ first_of [] is = let e : None ≡ Some (Plain (codes "settings")) = is.first in 
 first_of (x ∷ pattern) is = let e : Some x ≡ Some (Plain (codes "settings")) = is.first in cc
 
 -- A row that begins with another segment doesn't meet it.
-other_first : (one other : Row) (segment : List ℕ) → get_or one.pattern 0 Any ≡ Plain segment → IsOfSettings other.pattern → (segment ≡ codes "settings" → ⊥) → Meet one.pattern other.pattern → ⊥
+other_first : (one other : Row) (segment : List ℕ) → get_or one.pattern 0 Any ≡ Plain segment → IsOfSettings other.pattern → (segment ≡ codes "settings" → ⊥)
+    → Meet one.pattern other.pattern → ⊥
 other_first one other segment is settings differ meet =
     differ (subst (λ y. Agree (Plain segment) y) (first_of other.pattern settings) (subst (λ x. Agree x (get_or other.pattern 0 Any)) is (meet.agree 0)))
 
 -- None that begins with another segment meets any of them.
-apart_from : (one : Row) (given : List Row) (segment : List ℕ) → get_or one.pattern 0 Any ≡ Plain segment → (segment ≡ codes "settings" → ⊥) → All (λ row. IsOfSettings row.pattern) given → All (λ row. Meet one.pattern row.pattern → ⊥) given
+apart_from : (one : Row) (given : List Row) (segment : List ℕ) → get_or one.pattern 0 Any ≡ Plain segment → (segment ≡ codes "settings" → ⊥)
+    → All (λ row. IsOfSettings row.pattern) given → All (λ row. Meet one.pattern row.pattern → ⊥) given
 apart_from one given segment is differ settings k d within = other_first one (get_or given k d) segment is (settings k d within) differ
 
 -- The words that rows begin with differ.
@@ -177,7 +186,8 @@ template = row_with (Plain (codes "configuration-files") ∷ Any ∷ Plain (code
 -- Where no two rows that are given meet, none meet in the table.
 pub whole_apart : (given : List Row) → All (λ row. IsOfSettings row.pattern) given → AreApart given → AreApart (built_in ++ given)
 whole_apart given settings apart =
-    all_pairs_cons Apart files (commands ∷ path ∷ template ∷ given) (all_cons (Apart files) commands (path ∷ template ∷ given) (λ m. omega (arith, ap length (m.agree 2)))
+    all_pairs_cons Apart files (commands ∷ path ∷ template ∷ given) (all_cons (Apart files) commands (path ∷ template ∷ given)
+    (λ m. omega (arith, ap length (m.agree 2)))
     (all_cons (Apart files) path (template ∷ given) (λ m. omega (arith, ap length (m.agree 0)))
     (all_cons (Apart files) template given (λ m. omega (arith, ap length (m.agree 0)))
     (apart_from files given (codes "services") refl services_differ settings))))
@@ -191,7 +201,8 @@ whole_apart given settings apart =
 -- ---- in another order
 
 -- Two rows of different places don't meet.
-apart_any : (rows : List Row) → AreApart rows → (i j : ℕ) (d : Row) → (i ≡ j → ⊥) → i < length rows → j < length rows → Apart (get_or rows i d) (get_or rows j d)
+apart_any : (rows : List Row) → AreApart rows → (i j : ℕ) (d : Row) → (i ≡ j → ⊥) → i < length rows → j < length rows
+    → Apart (get_or rows i d) (get_or rows j d)
 apart_any rows apart i j d differ within within' = by_order (cases_lt i j) (cases_lt j i)
   where
     by_order : (i < j) ⊎ (j ≤ i) → (j < i) ⊎ (i ≤ j) → Apart (get_or rows i d) (get_or rows j d)
@@ -199,14 +210,14 @@ apart_any rows apart i j d differ within within' = by_order (cases_lt i j) (case
     by_order (inr h) (inl g) = λ meet. apart j i d g within (meet_back (get_or rows i d).pattern (get_or rows j d).pattern meet)
     by_order (inr h) (inr g) = absurd (differ (omega (arith, h, g)))
 
--- Where an element stood before an exchange.
+-- Where an element was before an exchange.
 record CameFrom (xs ys : List Row) (a b x : ℕ) (d : Row) : Type 0 where
   place : ℕ
   within : place < length xs
   same : get_or ys x d ≡ get_or xs place d
   moved : ((x ≡ a) × (place ≡ b)) ⊎ ((x ≡ b) × (place ≡ a)) ⊎ ((x ≡ a → ⊥) × (x ≡ b → ⊥) × (place ≡ x))
 
--- Each stood somewhere.
+-- Each was somewhere.
 came_from : (xs ys : List Row) (a b x : ℕ) (d : Row) → a < length xs → b < length xs → x < length xs → ys ≡ swap xs a b → CameFrom xs ys a b x d
 came_from xs ys a b x d a_in b_in x_in swapped = at (cases_eq x a) (cases_eq x b)
   where
@@ -218,8 +229,9 @@ came_from xs ys a b x d a_in b_in x_in swapped = at (cases_eq x a) (cases_eq x b
     at (inr e) (inl g) = record { place = a; within = a_in; same = ap (λ n. get_or ys n d) g ∙ moves.1; moved = inr (inl (g, refl)) }
     at (inr e) (inr g) = record { place = x; within = x_in; same = moves.2 x e g; moved = inr (inr (e, g, refl)) }
 
--- Two that stand at different places stood at different places.
-came_apart : {a b x y p q : ℕ} → ((x ≡ a) × (p ≡ b)) ⊎ ((x ≡ b) × (p ≡ a)) ⊎ ((x ≡ a → ⊥) × (x ≡ b → ⊥) × (p ≡ x)) → ((y ≡ a) × (q ≡ b)) ⊎ ((y ≡ b) × (q ≡ a)) ⊎ ((y ≡ a → ⊥) × (y ≡ b → ⊥) × (q ≡ y)) → x < y → p ≡ q → ⊥
+-- Two that are at different places were at different places.
+came_apart : {a b x y p q : ℕ} → ((x ≡ a) × (p ≡ b)) ⊎ ((x ≡ b) × (p ≡ a)) ⊎ ((x ≡ a → ⊥) × (x ≡ b → ⊥) × (p ≡ x))
+    → ((y ≡ a) × (q ≡ b)) ⊎ ((y ≡ b) × (q ≡ a)) ⊎ ((y ≡ a → ⊥) × (y ≡ b → ⊥) × (q ≡ y)) → x < y → p ≡ q → ⊥
 came_apart (inl (e, f)) (inl (g, h)) before same = omega (arith, before, e, f, g, h, same)
 came_apart (inl (e, f)) (inr (inl (g, h))) before same = omega (arith, before, e, f, g, h, same)
 came_apart (inl (e, f)) (inr (inr (m, n, h))) before same = n (omega (arith, e, f, h, same))

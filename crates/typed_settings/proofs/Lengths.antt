@@ -5,11 +5,11 @@ use Rattle.std.proofs.lemmas.List.Sums.{sum_by-cons, sum_by_more, sum_by-take-le
 use Rattle.typed_settings.specs.Pattern.{printed_place, printed_pattern}
 use Rattle.typed_settings.specs.declared.place.Place.{Place}
 
--- A printed place and the dot behind it.
+-- A printed place and the dot after it.
 abbrev pub dotted_len : Place → ℕ
 dotted_len place = length (printed_place place) + 1
 
--- The printed pattern and a dot behind it.
+-- The printed pattern and a dot after it.
 pub dotted_sum : (places : List Place) → 0 < length places → length (printed_pattern places) + 1 ≡ sum_by dotted_len places
 dotted_sum [] some = absurd (omega (arith, some))
 dotted_sum (x ∷ []) some = omega (arith, sum_by-cons dotted_len x [])
@@ -18,7 +18,8 @@ dotted_sum (x ∷ y ∷ places) some =
     omega (arith, rest, sum_by-cons dotted_len x (y ∷ places), length-append (printed_place x) (46 ∷ printed_pattern (y ∷ places)))
 
 -- Where the places so far are too long, all are.
-pub too_long : (places : List Place) (i : ℕ) (place : Place) → i < length places → place ≡ get_or places i place → 1025 < sum_by dotted_len (take i places) + dotted_len place → 1024 < length (printed_pattern places)
+pub too_long : (places : List Place) (i : ℕ) (place : Place) → i < length places → place ≡ get_or places i place
+    → 1025 < sum_by dotted_len (take i places) + dotted_len place → 1024 < length (printed_pattern places)
 too_long places i place within is long =
     let more = sum_by_more dotted_len places i place within in
     let here = ap dotted_len is in

@@ -1,5 +1,6 @@
 -- Texts spell one row each, and so one list of rows.
-use Rattle.std.proofs.Common.{◌≡◌, ◌≢◌, ℕ, zero, suc, ◌+◌, ◌<◌, ◌≤◌, List, [], ◌∷◌, ◌++◌, length, get_or, take, refl, true≢false, sym, ◌∙◌, ap, subst, arith, ◌⊎◌, inl, inr}
+use Rattle.std.proofs.Common.{◌≡◌, ◌≢◌, ℕ, zero, suc, ◌+◌, ◌<◌, ◌≤◌, List, [], ◌∷◌, ◌++◌}
+use Rattle.std.proofs.Common.{length, get_or, take, refl, true≢false, sym, ◌∙◌, ap, subst, arith, ◌⊎◌, inl, inr}
 use Rattle.std.proofs.lemmas.Bool.{cases_lt}
 use Rattle.std.proofs.lemmas.List.{get_or-take, length-take, take_more}
 use Rattle.std.specs.Prelude.{Result, Ok, Err}
@@ -55,7 +56,8 @@ same_length (t ∷ ts) [] a = absurd a
 same_length (t ∷ ts) (x ∷ xs) a = omega (arith, same_length ts xs a.1)
 
 -- Each row is spelled by the texts at its place.
-spelled_at : (texts : List (List ℕ × List ℕ)) (rows : List Row) (i : ℕ) (d : Row) → AreSpelled texts rows → i < length texts → SpellsRow (get_or texts i ([], [])) (get_or rows i d)
+spelled_at : (texts : List (List ℕ × List ℕ)) (rows : List Row) (i : ℕ) (d : Row) → AreSpelled texts rows → i < length texts
+    → SpellsRow (get_or texts i ([], [])) (get_or rows i d)
 spelled_at [] rows i d a within = absurd (omega (arith, within))
 spelled_at (t ∷ ts) [] i d a within = absurd a
 spelled_at (t ∷ ts) (x ∷ xs) zero d a within = a.0
@@ -106,7 +108,8 @@ one_pair rows i j k l a b = (by_first (cases_lt i k) (cases_lt k i), seconds)
         let first : get_or (take l rows) i d ≡ get_or rows i d = get_or-take l rows i d (omega (arith, a.ordered)) in
         let second : get_or (take l rows) j d ≡ get_or rows j d = get_or-take l rows j d before in
         b.least_second i j d a.ordered (omega (arith, length-take l rows, b.within))
-        (subst (λ x. Meet x.pattern (get_or (take l rows) j d).pattern) (sym first) (subst (λ y. Meet (get_or rows i d).pattern y.pattern) (sym second) (a.meet d)))
+        (subst (λ x. Meet x.pattern (get_or (take l rows) j d).pattern) (sym first)
+        (subst (λ y. Meet (get_or rows i d).pattern y.pattern) (sym second) (a.meet d)))
 
     by_second : (j < l) ⊎ (l ≤ j) → (l < j) ⊎ (j ≤ l) → j ≡ l
     by_second (inl h) g = absurd (not_before i j k l a b h)
@@ -117,8 +120,10 @@ one_pair rows i j k l a b = (by_first (cases_lt i k) (cases_lt k i), seconds)
     seconds = by_second (cases_lt j l) (cases_lt l j)
 
     by_first : (i < k) ⊎ (k ≤ i) → (k < i) ⊎ (i ≤ k) → i ≡ k
-    by_first (inl h) g = let d = some_row rows j a.within in absurd (b.least_first i d h (subst (λ n. Meet (get_or rows i d).pattern (get_or rows n d).pattern) seconds (a.meet d)))
-    by_first (inr h) (inl g) = let d = some_row rows j a.within in absurd (a.least_first k d g (subst (λ n. Meet (get_or rows k d).pattern (get_or rows n d).pattern) (sym seconds) (b.meet d)))
+    by_first (inl h) g = let d = some_row rows j a.within in absurd (b.least_first i d h
+        (subst (λ n. Meet (get_or rows i d).pattern (get_or rows n d).pattern) seconds (a.meet d)))
+    by_first (inr h) (inl g) = let d = some_row rows j a.within in absurd
+        (a.least_first k d g (subst (λ n. Meet (get_or rows k d).pattern (get_or rows n d).pattern) (sym seconds) (b.meet d)))
     by_first (inr h) (inr g) = omega (arith, h, g)
 
 -- Texts have one fault at most.
@@ -137,25 +142,33 @@ one_fault texts e error.Memory a b = absurd b
 -- Texts of which a table is made have none.
 pub no_fault : (texts : List (List ℕ × List ℕ)) (table : List Row) (e : RowsError) → IsTableOf texts table → HasFault texts e → ⊥
 no_fault texts table (error.BadRow i) is a = none_bad texts is.given i is.spelled a
-no_fault texts table (error.Meet i j) is a = none_meeting is.given i j is.apart (subst (λ rows. IsLeastPair rows i j) (one_list texts a.given is.given a.spelled is.spelled) a.least)
+no_fault texts table (error.Meet i j) is a = none_meeting is.given i j is.apart
+    (subst (λ rows. IsLeastPair rows i j) (one_list texts a.given is.given a.spelled is.spelled) a.least)
 no_fault texts table error.Memory is a = a
 
 -- A fault that is answered is the one that the texts have.
-pub exact_fault : {T : Type 0} (texts : List (List ℕ × List ℕ)) (result : Result T RowsError) → IsErr result → ((fault : RowsError) → result ≡ Err fault → fault ≢ error.Memory → HasFault texts fault) → (fault : RowsError) → HasFault texts fault → IsFault error.Memory result fault
+pub exact_fault : {T : Type 0} (texts : List (List ℕ × List ℕ)) (result : Result T RowsError) → IsErr result
+    → ((fault : RowsError) → result ≡ Err fault → fault ≢ error.Memory → HasFault texts fault) → (fault : RowsError) → HasFault texts fault
+    → IsFault error.Memory result fault
 exact_fault texts (Ok value) refused answered fault has = absurd (true≢false (sym refused))
 exact_fault texts (Err e) refused answered fault has = λ other. one_fault texts e fault (answered e refl other) has
 
--- Where a table is made of them, memory was wanting.
-pub exact_none : {T : Type 0} (texts : List (List ℕ × List ℕ)) (result : Result T RowsError) → IsErr result → ((fault : RowsError) → result ≡ Err fault → fault ≢ error.Memory → HasFault texts fault) → (table : List Row) → IsTableOf texts table → IsNoFault error.Memory result
+-- Where a table is made of them, the error is out of memory.
+pub exact_none : {T : Type 0} (texts : List (List ℕ × List ℕ)) (result : Result T RowsError) → IsErr result
+    → ((fault : RowsError) → result ≡ Err fault → fault ≢ error.Memory → HasFault texts fault) → (table : List Row) → IsTableOf texts table
+    → IsNoFault error.Memory result
 exact_none texts (Ok value) refused answered table is = tt
-exact_none texts (Err (error.BadRow i)) refused answered table is = absurd (no_fault texts table (error.BadRow i) is (answered (error.BadRow i) refl (λ e. absurd (cc))))
-exact_none texts (Err (error.Meet i j)) refused answered table is = absurd (no_fault texts table (error.Meet i j) is (answered (error.Meet i j) refl (λ e. absurd (cc))))
+exact_none texts (Err (error.BadRow i)) refused answered table is = absurd
+    (no_fault texts table (error.BadRow i) is (answered (error.BadRow i) refl (λ e. absurd (cc))))
+exact_none texts (Err (error.Meet i j)) refused answered table is = absurd
+    (no_fault texts table (error.Meet i j) is (answered (error.Meet i j) refl (λ e. absurd (cc))))
 exact_none texts (Err error.Memory) refused answered table is = refl
 
 -- ---- one row after another
 
 -- One more row is spelled.
-pub spelled_more : (texts : List (List ℕ × List ℕ)) (rows : List Row) (i : ℕ) (two : List ℕ × List ℕ) (row : Row) → i < length texts → two ≡ get_or texts i two → AreSpelled (take i texts) rows → SpellsRow two row → AreSpelled (take (i + 1) texts) (rows ++ row ∷ [])
+pub spelled_more : (texts : List (List ℕ × List ℕ)) (rows : List Row) (i : ℕ) (two : List ℕ × List ℕ) (row : Row) → i < length texts → two ≡ get_or texts i two
+    → AreSpelled (take i texts) rows → SpellsRow two row → AreSpelled (take (i + 1) texts) (rows ++ row ∷ [])
 spelled_more texts rows i two row within is spelled more =
     let grown : take (i + 1) texts ≡ take i texts ++ two ∷ [] = take_more texts i two within ∙ ap (λ t. take i texts ++ t ∷ []) (sym is) in
     subst (λ t. AreSpelled t (rows ++ row ∷ [])) (sym grown) (push (take i texts) rows spelled)

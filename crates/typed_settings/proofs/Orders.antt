@@ -1,5 +1,6 @@
 -- The order of patterns, and how it finds the pattern that matches a key.
-use Rattle.std.proofs.Common.{◌≡◌, ℕ, zero, suc, ◌<◌, ◌≤◌, min, true, false, true≢false, List, [], ◌∷◌, length, get_or, drop, Less, Equal, Greater, refl, sym, ◌∙◌, ap, subst, arith}
+use Rattle.std.proofs.Common.{◌≡◌, ℕ, zero, suc, ◌<◌, ◌≤◌, min, true, false, true≢false, List, []}
+use Rattle.std.proofs.Common.{◌∷◌, length, get_or, drop, Less, Equal, Greater, refl, sym, ◌∙◌, ap, subst, arith}
 use Rattle.std.specs.declared.cmp.Ordering.{Ordering}
 use Rattle.std.specs.Ordering.{is_eq, is_lt, ordering_then, ordering_reverse}
 use Rattle.key_names.specs.Order.{bytes_cmp, key_cmp, bytes_total, bytes_cmp-IsAntisymmetric}
@@ -18,7 +19,7 @@ ties_itself Greater e = absurd (cc)
 pub bytes_tie : (xs : List ℕ) → bytes_cmp xs xs ≡ Equal
 bytes_tie xs = ties_itself (bytes_cmp xs xs) (bytes_total.antisymm xs xs)
 
--- `Equal` is told by its test.
+-- What passes the test for `Equal` is `Equal`.
 is_eq-Equal : (r : Ordering) → is_eq r ≡ true → r ≡ Equal
 is_eq-Equal Less e = absurd (true≢false (sym e))
 is_eq-Equal Equal e = refl
@@ -32,11 +33,13 @@ like_same one other like = bytes_cmp-IsAntisymmetric (shape one) (shape other) (
 pub like_itself : (one : List Place) → is_like one one ≡ true
 like_itself one = ap is_eq (bytes_tie (shape one))
 
--- A shape that stands between the same shape twice is that shape.
-pub like_between : (low mid high : List Place) → is_lt (bytes_cmp (shape mid) (shape low)) ≡ false → is_lt (bytes_cmp (shape high) (shape mid)) ≡ false → is_like high low ≡ true → is_like mid low ≡ true
+-- A shape that is between the same shape twice is that shape.
+pub like_between : (low mid high : List Place) → is_lt (bytes_cmp (shape mid) (shape low)) ≡ false → is_lt (bytes_cmp (shape high) (shape mid)) ≡ false
+    → is_like high low ≡ true → is_like mid low ≡ true
 like_between low mid high up on like =
     let same = like_same high low like in
-    between (bytes_cmp (shape mid) (shape low)) (bytes_cmp (shape low) (shape mid)) (bytes_total.antisymm (shape mid) (shape low)) up (ap (λ t. is_lt (bytes_cmp t (shape mid))) (sym same) ∙ on)
+    between (bytes_cmp (shape mid) (shape low)) (bytes_cmp (shape low) (shape mid)) (bytes_total.antisymm (shape mid) (shape low)) up
+    (ap (λ t. is_lt (bytes_cmp t (shape mid))) (sym same) ∙ on)
   where
     between : (r s : Ordering) → r ≡ ordering_reverse s → is_lt r ≡ false → is_lt s ≡ false → is_eq r ≡ true
     between Less s e r_not s_not = absurd (true≢false r_not)
@@ -86,7 +89,7 @@ cells_at (x ∷ places) [] = []
 cells_at (Any ∷ places) (segment ∷ key) = [] ∷ cells_at places key
 cells_at (Plain own ∷ places) (segment ∷ key) = segment ∷ cells_at places key
 
--- How a pattern stands to a key is how its cells stand to these.
+-- How a pattern compares to a key is how its cells compare to these.
 pub order_cells : (places : List Place) (key : List (List ℕ)) → length places ≡ length key → order_to places key ≡ key_cmp (cells places) (cells_at places key)
 order_cells [] [] same = refl
 order_cells [] (s ∷ key) same = absurd (omega (arith, same))
@@ -119,16 +122,19 @@ both_equal Equal b e = (refl, e)
 both_equal Greater b e = absurd (cc)
 
 -- A pattern fits a key where no place decides.
-pub fits_equal : (places : List Place) (key : List (List ℕ)) → length places ≡ length key → order_to places key ≡ Equal → (i : ℕ) → i < length key → Fits (get_or places i Any) (get_or key i [])
+pub fits_equal : (places : List Place) (key : List (List ℕ)) → length places ≡ length key → order_to places key ≡ Equal → (i : ℕ) → i < length key
+    → Fits (get_or places i Any) (get_or key i [])
 fits_equal [] key same equal i within = absurd (omega (arith, same, within))
 fits_equal (x ∷ places) [] same equal i within = absurd (omega (arith, within))
 fits_equal (Any ∷ places) (s ∷ key) same equal zero within = tt
 fits_equal (Any ∷ places) (s ∷ key) same equal (suc i) within = fits_equal places key (omega (arith, same)) equal i (omega (arith, within))
 fits_equal (Plain own ∷ places) (s ∷ key) same equal zero within = bytes_cmp-IsAntisymmetric own s (both_equal (bytes_cmp own s) (order_to places key) equal).0
-fits_equal (Plain own ∷ places) (s ∷ key) same equal (suc i) within = fits_equal places key (omega (arith, same)) (both_equal (bytes_cmp own s) (order_to places key) equal).1 i (omega (arith, within))
+fits_equal (Plain own ∷ places) (s ∷ key) same equal (suc i) within = fits_equal places key (omega (arith, same))
+    (both_equal (bytes_cmp own s) (order_to places key) equal).1 i (omega (arith, within))
 
 -- And none does where it fits.
-pub equal_fits : (places : List Place) (key : List (List ℕ)) → length places ≡ length key → ((i : ℕ) → i < length key → Fits (get_or places i Any) (get_or key i [])) → order_to places key ≡ Equal
+pub equal_fits : (places : List Place) (key : List (List ℕ)) → length places ≡ length key
+    → ((i : ℕ) → i < length key → Fits (get_or places i Any) (get_or key i [])) → order_to places key ≡ Equal
 equal_fits [] key same fits = refl
 equal_fits (x ∷ places) [] same fits = refl
 equal_fits (Any ∷ places) (s ∷ key) same fits = equal_fits places key (omega (arith, same)) (λ i within. fits (suc i) (omega (arith, within)))

@@ -1,5 +1,6 @@
 -- The places that a text spells are determined, one after another.
-use Rattle.std.proofs.Common.{◌≡◌, ◌≢◌, ℕ, zero, suc, Bool, true, false, true≢false, nat_eq, List, [], ◌∷◌, ◌++◌, length, get_or, take, drop, refl, sym, ap, ◌∙◌, subst, arith, ◌⊎◌, inl, inr}
+use Rattle.std.proofs.Common.{◌≡◌, ◌≢◌, ℕ, zero, suc, Bool, true, false, true≢false, nat_eq, List, [], ◌∷◌}
+use Rattle.std.proofs.Common.{◌++◌, length, get_or, take, drop, refl, sym, ap, ◌∙◌, subst, arith, ◌⊎◌, inl, inr}
 use Rattle.std.proofs.lemmas.Bool.{false≢true}
 use Rattle.std.specs.Cmp.Lexicographic.{pointwise}
 use Rattle.std.proofs.lemmas.List.{append_assoc, append-nil}
@@ -29,11 +30,12 @@ one_place text (Plain s) Any a b = absurd (no_star s (subst (λ t. SpellsKey t (
 one_place text (Plain s) (Plain t) a b = let same : s ∷ [] ≡ t ∷ [] = one_key a b in ap Plain (cc)
 
 -- A text that is a key, of no one segment, and no bare `*` spells no place.
-pub no_place : (text : List ℕ) (key : List (List ℕ)) (star : Bool) → star ≡ pointwise nat_eq text (42 ∷ []) → star ≡ false → SpellsKey text key → ((place : Place) → IsPlaceOf key place → ⊥) → (place : Place) → IsPlaceText text place → ⊥
+pub no_place : (text : List ℕ) (key : List (List ℕ)) (star : Bool) → star ≡ pointwise nat_eq text (42 ∷ []) → star ≡ false → SpellsKey text key
+    → ((place : Place) → IsPlaceOf key place → ⊥) → (place : Place) → IsPlaceText text place → ⊥
 no_place text key star star_is no_star spelled none Any is = true≢false (sym (ap (λ t. pointwise nat_eq t (42 ∷ [])) is) ∙ sym star_is ∙ no_star)
 no_place text key star star_is no_star spelled none (Plain s) is = none (Plain s) (record { segment = s; one = one_key spelled is; plain = refl })
 
--- What a text of places begins with, and what comes behind it.
+-- What a text of places begins with, and what comes after it.
 pub record FirstPlace (text : List ℕ) (place : Place) (places : List Place) : Type 0 where
   pub front : List ℕ
   pub back : List ℕ
@@ -46,7 +48,15 @@ pub record FirstPlace (text : List ℕ) (place : Place) (places : List Place) : 
 first_place : (text : List ℕ) (place : Place) (places : List Place) → Joins IsPlaceText 46 text (place ∷ places) → FirstPlace text place places
 unfolding Joins
 first_place text place [] is = record { front = text; back = []; parts = sym (append-nil text); is_text = is; ends = inl refl; others = inl (refl, refl) }
-first_place text place (y ∷ ys) (front, rest, parts, is, more) = record { front = front; back = 46 ∷ rest; parts = parts; is_text = is; ends = inr (rest, refl); others = inr (rest, refl, more) }
+first_place text place (y ∷ ys) (front, rest, parts, is, more) = record {
+  front = front;
+  back = 46 ∷ rest;
+  parts = parts;
+  is_text = is;
+  ends =
+      inr (rest, refl);
+  others = inr (rest, refl, more);
+}
 
 -- No places have no text.
 some_place : (text : List ℕ) → Joins IsPlaceText 46 text [] → ⊥
@@ -59,7 +69,8 @@ unfolding Joins
 last_place text place is = is
 
 -- A place and others are spelled by their texts, with a dot between.
-next_place : (front more : List ℕ) (place : Place) (places : List Place) → IsPlaceText front place → Joins IsPlaceText 46 more places → Joins IsPlaceText 46 (front ++ 46 ∷ more) (place ∷ places)
+next_place : (front more : List ℕ) (place : Place) (places : List Place) → IsPlaceText front place → Joins IsPlaceText 46 more places
+    → Joins IsPlaceText 46 (front ++ 46 ∷ more) (place ∷ places)
 unfolding Joins
 next_place front more place [] is none = absurd none
 next_place front more place (y ∷ ys) is others = (front, more, refl, is, others)
@@ -91,16 +102,20 @@ one_joined text (x ∷ xs) (y ∷ ys) a b = of_others (λ more others others'. o
 
     fronts : first.front ≡ second.front
     fronts =
-        sym (take_front first.front first.back) ∙ ap (take (length first.front)) (sym first.parts ∙ second.parts) ∙ ap (λ n. take n (second.front ++ second.back)) lengths ∙ take_front second.front second.back
+        sym (take_front first.front first.back) ∙ ap (take (length first.front)) (sym first.parts ∙ second.parts)
+        ∙ ap (λ n. take n (second.front ++ second.back)) lengths ∙ take_front second.front second.back
 
     backs : first.back ≡ second.back
     backs =
-        sym (drop_front first.front first.back) ∙ ap (drop (length first.front)) (sym first.parts ∙ second.parts) ∙ ap (λ n. drop n (second.front ++ second.back)) lengths ∙ drop_front second.front second.back
+        sym (drop_front first.front first.back) ∙ ap (drop (length first.front)) (sym first.parts ∙ second.parts)
+        ∙ ap (λ n. drop n (second.front ++ second.back)) lengths ∙ drop_front second.front second.back
 
     same : x ≡ y
     same = one_place second.front x y (subst (λ t. IsPlaceText t x) fronts first.is_text) second.is_text
 
-    of_others : ((more : List ℕ) → Joins IsPlaceText 46 more xs → Joins IsPlaceText 46 more ys → xs ≡ ys) → ((xs ≡ []) × (first.back ≡ [])) ⊎ ((more : List ℕ) × (first.back ≡ 46 ∷ more) × Joins IsPlaceText 46 more xs) → ((ys ≡ []) × (second.back ≡ [])) ⊎ ((more : List ℕ) × (second.back ≡ 46 ∷ more) × Joins IsPlaceText 46 more ys) → x ∷ xs ≡ y ∷ ys
+    of_others : ((more : List ℕ) → Joins IsPlaceText 46 more xs → Joins IsPlaceText 46 more ys → xs ≡ ys)
+        → ((xs ≡ []) × (first.back ≡ [])) ⊎ ((more : List ℕ) × (first.back ≡ 46 ∷ more) × Joins IsPlaceText 46 more xs)
+        → ((ys ≡ []) × (second.back ≡ [])) ⊎ ((more : List ℕ) × (second.back ≡ 46 ∷ more) × Joins IsPlaceText 46 more ys) → x ∷ xs ≡ y ∷ ys
     of_others again (inl (none, end)) (inl (none', end')) = let rest : xs ≡ ys = none ∙ sym none' in cc same
     of_others again (inl (none, end)) (inr (more', dot', others')) =
         let e : 46 ∷ more' ≡ [] = sym dot' ∙ sym backs ∙ end in absurd (omega (arith, ap length e))
@@ -113,15 +128,17 @@ one_joined text (x ∷ xs) (y ∷ ys) a b = of_others (λ more others others'. o
         cc same
 
 module _ {text rest : List ℕ} {done : List Place} {len : ℕ} (remains : Remains text done rest) (head_len : IsHeadLen rest len) where
-  -- What stands at the head is the first place, with what is behind it.
+  -- What is at the head is the first place, with what is after it.
   same_parts : (place : Place) (places : List Place) (first : FirstPlace rest place places) → (take len rest ≡ first.front) × (drop len rest ≡ first.back)
   same_parts place places first =
       let n = head_len.exact first.front first.back place first.parts first.is_text first.ends in (
-        subst (λ k. take k rest ≡ first.front) (sym n) (subst (λ t. take (length first.front) t ≡ first.front) (sym first.parts) (take_front first.front first.back)),
-        subst (λ k. drop k rest ≡ first.back) (sym n) (subst (λ t. drop (length first.front) t ≡ first.back) (sym first.parts) (drop_front first.front first.back)),
+        subst (λ k. take k rest ≡ first.front) (sym n) (subst (λ t. take (length first.front) t ≡ first.front) (sym first.parts)
+            (take_front first.front first.back)),
+        subst (λ k. drop k rest ≡ first.back) (sym n) (subst (λ t. drop (length first.front) t ≡ first.back) (sym first.parts)
+            (drop_front first.front first.back)),
       )
 
-  -- The text is what stands at the head and what is behind it.
+  -- The text is what is at the head and what is after it.
   pub refused_head : ((place : Place) → IsPlaceText (take len rest) place → ⊥) → (places : List Place) → Joins IsPlaceText 46 text places → ⊥
   refused_head none places is = of_left (remains.exact places is)
     where
@@ -131,7 +148,7 @@ module _ {text rest : List ℕ} {done : List Place} {len : ℕ} (remains : Remai
           let first = first_place rest x xs is in
           none x (subst (λ t. IsPlaceText t x) (sym (same_parts x xs first).0) first.is_text)
 
-  -- Behind a place the text ends or a dot stands.
+  -- After a place the text ends or there is a dot.
   pub refused_behind : (b : ℕ) (more : List ℕ) → drop len rest ≡ b ∷ more → b ≢ 46 → (places : List Place) → Joins IsPlaceText 46 text places → ⊥
   refused_behind b more behind no_dot places is = of_left (remains.exact places is)
     where
@@ -158,7 +175,7 @@ module _ {text rest : List ℕ} {done : List Place} {len : ℕ} (remains : Remai
       whole : take len rest ≡ rest
       whole = split len rest none
 
-  -- Behind the dot the text goes on.
+  -- After the dot the text goes on.
   pub remains_more : (place : Place) (more : List ℕ) → IsPlaceText (take len rest) place → drop len rest ≡ 46 ∷ more → Remains text (done ++ place ∷ []) more
   remains_more place more is behind = record { sound = sound; exact = exact }
     where
@@ -173,9 +190,12 @@ module _ {text rest : List ℕ} {done : List Place} {len : ℕ} (remains : Remai
       sound : (places : List Place) → Joins IsPlaceText 46 more places → Joins IsPlaceText 46 text ((done ++ place ∷ []) ++ places)
       sound places others =
           subst (λ ps. Joins IsPlaceText 46 text ps) (sym (append_assoc done (place ∷ []) places))
-          (remains.sound (place ∷ places) (subst (λ t. Joins IsPlaceText 46 t (place ∷ places)) (sym parts) (next_place (take len rest) more place places is others)))
+          (remains.sound (place ∷ places) (subst (λ t. Joins IsPlaceText 46 t (place ∷ places)) (sym parts)
+          (next_place (take len rest) more place places is others)))
 
-      of_others : (x : Place) (xs places : List Place) (first : FirstPlace rest x xs) → places ≡ done ++ x ∷ xs → ((xs ≡ []) × (first.back ≡ [])) ⊎ ((tail : List ℕ) × (first.back ≡ 46 ∷ tail) × Joins IsPlaceText 46 tail xs) → (left : List Place) × (places ≡ (done ++ place ∷ []) ++ left) × Joins IsPlaceText 46 more left
+      of_others : (x : Place) (xs places : List Place) (first : FirstPlace rest x xs) → places ≡ done ++ x ∷ xs
+          → ((xs ≡ []) × (first.back ≡ [])) ⊎ ((tail : List ℕ) × (first.back ≡ 46 ∷ tail) × Joins IsPlaceText 46 tail xs)
+          → (left : List Place) × (places ≡ (done ++ place ∷ []) ++ left) × Joins IsPlaceText 46 more left
       of_others x xs places first same (inl (none, nothing)) =
           let e : 46 ∷ more ≡ [] = sym behind ∙ (same_parts x xs first).1 ∙ nothing in absurd (omega (arith, ap length e))
       of_others x xs places first same (inr (tail, back, others)) =
@@ -187,9 +207,11 @@ module _ {text rest : List ℕ} {done : List Place} {len : ℕ} (remains : Remai
             subst (λ t. Joins IsPlaceText 46 t xs) more_is others,
           )
 
-      exact : (places : List Place) → Joins IsPlaceText 46 text places → (left : List Place) × (places ≡ (done ++ place ∷ []) ++ left) × Joins IsPlaceText 46 more left
+      exact : (places : List Place) → Joins IsPlaceText 46 text places → (left : List Place) × (places ≡ (done ++ place ∷ []) ++ left) × Joins IsPlaceText 46
+          more left
       exact places is = of_left (remains.exact places is)
         where
-          of_left : ((left : List Place) × (places ≡ done ++ left) × Joins IsPlaceText 46 rest left) → (left : List Place) × (places ≡ (done ++ place ∷ []) ++ left) × Joins IsPlaceText 46 more left
+          of_left : ((left : List Place) × (places ≡ done ++ left) × Joins IsPlaceText 46 rest left)
+              → (left : List Place) × (places ≡ (done ++ place ∷ []) ++ left) × Joins IsPlaceText 46 more left
           of_left ([], same, is) = absurd (some_place rest is)
           of_left (x ∷ xs, same, is) = let first = first_place rest x xs is in of_others x xs places first same first.others

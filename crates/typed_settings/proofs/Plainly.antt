@@ -1,5 +1,6 @@
 -- Rows of which each is plainly before the next don't meet.
-use Rattle.std.proofs.Common.{◌≡◌, ℕ, zero, suc, ◌+◌, ◌-◌, ◌<◌, ◌≤◌, min, Bool, true, false, true≢false, List, [], ◌∷◌, length, get_or, drop, map, Some, Less, Equal, Greater, Bor, refl, sym, ◌∙◌, ap, subst, arith}
+use Rattle.std.proofs.Common.{◌≡◌, ℕ, zero, suc, ◌+◌, ◌-◌, ◌<◌, ◌≤◌, min, Bool, true, false, true≢false, List, []}
+use Rattle.std.proofs.Common.{◌∷◌, length, get_or, drop, map, Some, Less, Equal, Greater, Bor, refl, sym, ◌∙◌, ap, subst, arith}
 use Rattle.std.specs.declared.cmp.Ordering.{Ordering}
 use Rattle.std.specs.List.{AllPairs}
 use Rattle.std.specs.List.Sorted.{IsPermutation}
@@ -15,7 +16,7 @@ use Rattle.typed_settings.specs.declared.place.Place.{Place}
 use Rattle.typed_settings.specs.declared.place.Place.TheVariants.{Any, Plain}
 use Rattle.typed_settings.specs.declared.row.Row.{Row}
 
--- Where one of the two is through, nothing is told.
+-- Where one of the two is through, the test says no.
 pub none_before : (one other : List Place) (i : ℕ) → min (length one) (length other) ≤ i → is_plainly_before (drop i one) (drop i other) ≡ false
 none_before [] other zero past = refl
 none_before [] other (suc i) past = refl
@@ -58,18 +59,23 @@ pub before_trans : (p q r : List Place) → is_plainly_before p q ≡ true → i
 before_trans [] q r a b = absurd (true≢false (sym a))
 before_trans (x ∷ p) [] r a b = absurd (true≢false (sym a))
 before_trans (x ∷ p) (y ∷ q) [] a b = absurd (true≢false (sym b))
-before_trans (x ∷ p) (y ∷ q) (z ∷ r) a b = join (λ m n. before_trans p q r m n) (first_of x y (is_plainly_before p q) a) (first_of y z (is_plainly_before q r) b)
+before_trans (x ∷ p) (y ∷ q) (z ∷ r) a b = join (λ m n. before_trans p q r m n) (first_of x y (is_plainly_before p q) a)
+    (first_of y z (is_plainly_before q r) b)
   where
-    join : (is_plainly_before p q ≡ true → is_plainly_before q r ≡ true → is_plainly_before p r ≡ true) → First x y (is_plainly_before p q) → First y z (is_plainly_before q r) → before_then (plain_cmp x z) (is_plainly_before p r) ≡ true
+    join : (is_plainly_before p q ≡ true → is_plainly_before q r ≡ true → is_plainly_before p r ≡ true) → First x y (is_plainly_before p q)
+        → First y z (is_plainly_before q r) → before_then (plain_cmp x z) (is_plainly_before p r) ≡ true
     join again (less a b x_is y_is first) (less c d y_is' z_is second) =
         let same_middle : b ≡ c = cc in
-        subst (λ u. before_then (plain_cmp u z) (is_plainly_before p r) ≡ true) (sym x_is) (subst (λ v. before_then (plain_cmp (Plain a) v) (is_plainly_before p r) ≡ true) (sym z_is)
+        subst (λ u. before_then (plain_cmp u z) (is_plainly_before p r) ≡ true) (sym x_is)
+        (subst (λ v. before_then (plain_cmp (Plain a) v) (is_plainly_before p r) ≡ true) (sym z_is)
         (less_tells a d (is_plainly_before p r) (bytes_total.trans a b d first (subst (λ m. bytes_cmp m d ≡ Less) (sym same_middle) second))))
     join again (less a b x_is y_is first) (same y_z others) =
-        subst (λ u. before_then (plain_cmp u z) (is_plainly_before p r) ≡ true) (sym x_is) (subst (λ v. before_then (plain_cmp (Plain a) v) (is_plainly_before p r) ≡ true) (sym y_is ∙ y_z)
+        subst (λ u. before_then (plain_cmp u z) (is_plainly_before p r) ≡ true) (sym x_is)
+        (subst (λ v. before_then (plain_cmp (Plain a) v) (is_plainly_before p r) ≡ true) (sym y_is ∙ y_z)
         (less_tells a b (is_plainly_before p r) first))
     join again (same x_y others) (less c d y_is z_is second) =
-        subst (λ u. before_then (plain_cmp u z) (is_plainly_before p r) ≡ true) (sym (x_y ∙ y_is)) (subst (λ v. before_then (plain_cmp (Plain c) v) (is_plainly_before p r) ≡ true) (sym z_is)
+        subst (λ u. before_then (plain_cmp u z) (is_plainly_before p r) ≡ true) (sym (x_y ∙ y_is))
+        (subst (λ v. before_then (plain_cmp (Plain c) v) (is_plainly_before p r) ≡ true) (sym z_is)
         (less_tells c d (is_plainly_before p r) second))
     join again (same x_y others) (same y_z others') =
         subst (λ v. before_then (plain_cmp x v) (is_plainly_before p r) ≡ true) (x_y ∙ y_z) (place_tie x (is_plainly_before p r) (again others others'))
@@ -78,7 +84,8 @@ before_trans (x ∷ p) (y ∷ q) (z ∷ r) a b = join (λ m n. before_trans p q 
 pub before_apart : (p q : List Place) → is_plainly_before p q ≡ true → Meet p q → ⊥
 before_apart [] q told meet = true≢false (sym told)
 before_apart (x ∷ p) [] told meet = true≢false (sym told)
-before_apart (x ∷ p) (y ∷ q) told meet = by_first (λ others. before_apart p q others (record { agree = λ i. meet.agree (suc i) })) (first_of x y (is_plainly_before p q) told)
+before_apart (x ∷ p) (y ∷ q) told meet = by_first (λ others. before_apart p q others (record { agree = λ i. meet.agree (suc i) }))
+    (first_of x y (is_plainly_before p q) told)
   where
     by_first : (is_plainly_before p q ≡ true → ⊥) → First x y (is_plainly_before p q) → ⊥
     by_first again (less a b x_is y_is first) =
@@ -94,8 +101,9 @@ module _ (rows : List (Bor Row)) where
   abbrev pub Ascend : Type 0
   Ascend = (k : ℕ) (d : Bor Row) → k + 1 < length rows → is_plainly_before (get_or rows k d).now.pattern (get_or rows (k + 1) d).now.pattern ≡ true
 
-  -- So it is before one that stands further behind it.
-  far : Ascend → (n i j : ℕ) (d : Bor Row) → j ≡ i + suc n → j < length rows → is_plainly_before (get_or rows i d).now.pattern (get_or rows j d).now.pattern ≡ true
+  -- So it is before one that is further on.
+  far : Ascend → (n i j : ℕ) (d : Bor Row) → j ≡ i + suc n → j < length rows → is_plainly_before (get_or rows i d).now.pattern (get_or rows j d).now.pattern ≡
+      true
   far next zero i j d is within =
       let j_is : i + 1 ≡ j = omega (arith, is) in
       subst (λ m. is_plainly_before (get_or rows i d).now.pattern (get_or rows m d).now.pattern ≡ true) j_is (next i d (omega (arith, is, within)))
@@ -103,9 +111,10 @@ module _ (rows : List (Bor Row)) where
       let j_is : (i + suc n) + 1 ≡ j = omega (arith, is) in
       before_trans (get_or rows i d).now.pattern (get_or rows (i + suc n) d).now.pattern (get_or rows j d).now.pattern
       (far next n i (i + suc n) d refl (omega (arith, is, within)))
-      (subst (λ m. is_plainly_before (get_or rows (i + suc n) d).now.pattern (get_or rows m d).now.pattern ≡ true) j_is (next (i + suc n) d (omega (arith, is, within))))
+      (subst (λ m. is_plainly_before (get_or rows (i + suc n) d).now.pattern (get_or rows m d).now.pattern ≡ true) j_is
+      (next (i + suc n) d (omega (arith, is, within))))
 
-  -- And before all behind it.
+  -- And before all that are after it.
   all_before : Ascend → AllPairs (λ a b. is_plainly_before a.now.pattern b.now.pattern ≡ true) rows
   all_before next i j d before within = far next (j - (i + 1)) i j d (omega (arith, before)) within
 
@@ -123,7 +132,9 @@ apart_before rows told i j d before within =
     (before_apart (get_or rows i e).now.pattern (get_or rows j e).now.pattern (told i j e before here))
 
 -- Nor of the rows that were sorted.
-pub apart_sorted : (rows : List Row) (collected sorted : List (Bor Row)) → map (λ b. b.now) collected ≡ rows → IsPermutation collected sorted → Ascend sorted → AreApart rows
+pub apart_sorted : (rows : List Row) (collected sorted : List (Bor Row)) → map (λ b. b.now) collected ≡ rows → IsPermutation collected sorted → Ascend sorted
+    → AreApart rows
 apart_sorted rows collected sorted is moved next =
-    let back = IsPermutation-sym (map (λ (b : Bor Row). b.now) collected) (map (λ (b : Bor Row). b.now) sorted) (IsPermutation-map (λ (b : Bor Row). b.now) collected sorted moved) in
+    let back = IsPermutation-sym (map (λ (b : Bor Row). b.now) collected) (map (λ (b : Bor Row). b.now) sorted)
+    (IsPermutation-map (λ (b : Bor Row). b.now) collected sorted moved) in
     subst AreApart is (permuted_apart (map (λ b. b.now) sorted) (map (λ b. b.now) collected) back (apart_before sorted (all_before sorted next)))

@@ -1,5 +1,6 @@
 -- A text determines the bounds and the names that it spells.
-use Rattle.std.proofs.Common.{◌≡◌, ◌≢◌, ℕ, ℤ, zero, suc, ◌+◌, ◌^◌, ◌<◌, true, false, true≢false, eqb, List, [], ◌∷◌, ◌++◌, length, get_or, take, sym, ◌∙◌, ap, refl, arith, lit<}
+use Rattle.std.proofs.Common.{◌≡◌, ◌≢◌, ℕ, ℤ, zero, suc, ◌+◌, ◌^◌, ◌<◌, true, false, true≢false, eqb}
+use Rattle.std.proofs.Common.{List, [], ◌∷◌, ◌++◌, length, get_or, take, sym, ◌∙◌, ap, refl, arith, lit<}
 use Rattle.std.specs.Prelude.{FitsSigned, Option, MatchOption}
 use Rattle.std.specs.Int.{w64}
 use Rattle.std.specs.List.{All, AllPairs, list_all, slice_split, join_with_byte}
@@ -51,7 +52,8 @@ split_bounds low high valid =
 -- A text spells one pair of bounds.
 pub one_bounds : (text : List ℕ) (low high low' high' : ℤ) → SpellsBounds text low high → SpellsBounds text low' high' → (low ≡ low') × (high ≡ high')
 one_bounds text low high low' high' is is' =
-    let parts : signed_decimal low ∷ signed_decimal high ∷ [] ≡ signed_decimal low' ∷ signed_decimal high' ∷ [] = sym (split_bounds low high is.valid) ∙ ap (slice_split (λ b. eqb b 32)) (sym is.spelled ∙ is'.spelled) ∙ split_bounds low' high' is'.valid in
+    let parts : signed_decimal low ∷ signed_decimal high ∷ [] ≡ signed_decimal low' ∷ signed_decimal high' ∷ [] = sym (split_bounds low high is.valid)
+    ∙ ap (slice_split (λ b. eqb b 32)) (sym is.spelled ∙ is'.spelled) ∙ split_bounds low' high' is'.valid in
     let lows : signed_decimal low ≡ signed_decimal low' = cc in
     let highs : signed_decimal high ≡ signed_decimal high' = cc in (
       signed_decimal_injective low low' is.valid.low_fits.sfits is'.valid.low_fits.sfits lows,
@@ -59,8 +61,10 @@ one_bounds text low high low' high' is is' =
     )
 
 -- A text of bounds that is cut at its first space gives their texts.
-pub cut_bounds : (text : List ℕ) (r : Option (Bor (List ℕ) × Bor (List ℕ))) → IsSplitOnceResult 32 text r → (low high : ℤ) → SpellsBounds text low high → MatchOption r ⊥ (λ x. (x.0.now ≡ signed_decimal low) × (x.1.now ≡ signed_decimal high))
-cut_bounds text r cut low high is = split_after 32 text (signed_decimal low) (signed_decimal high) r cut (lit< tt) is.spelled (spaceless_at low is.valid.low_fits)
+pub cut_bounds : (text : List ℕ) (r : Option (Bor (List ℕ) × Bor (List ℕ))) → IsSplitOnceResult 32 text r → (low high : ℤ) → SpellsBounds text low high
+    → MatchOption r ⊥ (λ x. (x.0.now ≡ signed_decimal low) × (x.1.now ≡ signed_decimal high))
+cut_bounds text r cut low high is = split_after 32 text (signed_decimal low) (signed_decimal high) r cut (lit< tt) is.spelled
+    (spaceless_at low is.valid.low_fits)
 
 -- ---- names
 
@@ -93,7 +97,8 @@ pub spelled_pieces : (text : List ℕ) (names : List (List ℕ)) → SpellsChoic
 spelled_pieces text names is = ap pieces is.spelled ∙ pieces_of names is.valid.some is.valid.valid
 
 -- Each of them is an identifier.
-pub valid_piece : (text : List ℕ) (names : List (List ℕ)) → SpellsChoices text names → (k : ℕ) (d : List ℕ) → k < length (pieces text) → is_identifier (get_or (pieces text) k d) ≡ true
+pub valid_piece : (text : List ℕ) (names : List (List ℕ)) → SpellsChoices text names → (k : ℕ) (d : List ℕ) → k < length (pieces text)
+    → is_identifier (get_or (pieces text) k d) ≡ true
 valid_piece text names is = of_all (pieces text) (ap (list_all is_identifier) (spelled_pieces text names is) ∙ is.valid.valid)
   where
     of_all : (parts : List (List ℕ)) → list_all is_identifier parts ≡ true → (k : ℕ) (d : List ℕ) → k < length parts → is_identifier (get_or parts k d) ≡ true
@@ -102,40 +107,49 @@ valid_piece text names is = of_all (pieces text) (ap (list_all is_identifier) (s
     of_all (x ∷ parts) all (suc k) d within = of_all parts (and_parts (is_identifier x) (list_all is_identifier parts) all).1 k d (omega (arith, within))
 
 -- A part that is no identifier is refused.
-pub refused_piece : (text : List ℕ) (names : List (List ℕ)) (k : ℕ) (name : List ℕ) → (k < length (pieces text)) × (name ≡ get_or (pieces text) k name) → is_identifier name ≡ false → SpellsChoices text names → ⊥
+pub refused_piece : (text : List ℕ) (names : List (List ℕ)) (k : ℕ) (name : List ℕ) → (k < length (pieces text)) × (name ≡ get_or (pieces text) k name)
+    → is_identifier name ≡ false → SpellsChoices text names → ⊥
 refused_piece text names k name at bad is = true≢false (sym (valid_piece text names is k name at.0) ∙ ap is_identifier (sym at.1) ∙ bad)
 
 -- So is one that is among those before it.
-pub refused_twice : (text : List ℕ) (names done : List (List ℕ)) (k : ℕ) (name : List ℕ) → done ≡ take k (pieces text) → (k < length (pieces text)) × (name ≡ get_or (pieces text) k name) → is_offered done name ≡ true → SpellsChoices text names → ⊥
+pub refused_twice : (text : List ℕ) (names done : List (List ℕ)) (k : ℕ) (name : List ℕ) → done ≡ take k (pieces text)
+    → (k < length (pieces text)) × (name ≡ get_or (pieces text) k name) → is_offered done name ≡ true → SpellsChoices text names → ⊥
 refused_twice text names done k name same at offered is = of_any (Any-from_list_any (λ other. bytes_eq other name) done offered)
   where
     of_any : ((j : ℕ) × (x : List ℕ) × (j < length done) × (get_or done j x ≡ x) × (bytes_eq x name ≡ true)) → ⊥
     of_any (j, x, within, there, equal) =
         let parts = spelled_pieces text names is in
         let before : j < k = omega (arith, within, ap length same, length-take k (pieces text)) in
-        let x_is : get_or names j x ≡ x = ap (λ p. get_or p j x) (sym parts) ∙ sym (get_or-take k (pieces text) j x before) ∙ ap (λ p. get_or p j x) (sym same) ∙ there in
+        let x_is : get_or names j x ≡ x = ap (λ p. get_or p j x) (sym parts) ∙ sym (get_or-take k (pieces text) j x before) ∙ ap (λ p. get_or p j x) (sym same)
+        ∙ there in
         let name_is : get_or names k x ≡ name = ap (λ p. get_or p k x) (sym parts) ∙ get_or_default (pieces text) k x name at.0 ∙ sym at.1 in
         is.valid.different j k x before (omega (arith, at.0, ap length parts)) (x_is ∙ same_text x name (sym equal) ∙ sym name_is)
 
 -- One more part is done.
-pub more_pieces : (text : List ℕ) (done : List (List ℕ)) (k n : ℕ) (name : List ℕ) → done ≡ take k (pieces text) → (k < length (pieces text)) × (name ≡ get_or (pieces text) k name) → n ≡ k + 1 → done ++ name ∷ [] ≡ take n (pieces text)
+pub more_pieces : (text : List ℕ) (done : List (List ℕ)) (k n : ℕ) (name : List ℕ) → done ≡ take k (pieces text)
+    → (k < length (pieces text)) × (name ≡ get_or (pieces text) k name) → n ≡ k + 1 → done ++ name ∷ [] ≡ take n (pieces text)
 more_pieces text done k n name same at more =
-    ap (λ d. d ++ name ∷ []) same ∙ ap (λ x. take k (pieces text) ++ x ∷ []) at.1 ∙ sym (take_more (pieces text) k name at.0) ∙ ap (λ m. take m (pieces text)) (sym more)
+    ap (λ d. d ++ name ∷ []) same ∙ ap (λ x. take k (pieces text) ++ x ∷ []) at.1 ∙ sym (take_more (pieces text) k name at.0)
+    ∙ ap (λ m. take m (pieces text)) (sym more)
 
 -- It is an identifier, as all before.
-pub valid_more : (done : List (List ℕ)) (name : List ℕ) → list_all is_identifier done ≡ true → is_identifier name ≡ true → list_all is_identifier (done ++ name ∷ []) ≡ true
+pub valid_more : (done : List (List ℕ)) (name : List ℕ) → list_all is_identifier done ≡ true → is_identifier name ≡ true
+    → list_all is_identifier (done ++ name ∷ []) ≡ true
 valid_more [] name all valid = rw valid refl
 valid_more (x ∷ done) name all valid =
     let parts = and_parts (is_identifier x) (list_all is_identifier done) all in
     rw parts.0 (valid_more done name parts.1 valid)
 
 -- And none of them.
-pub different_more : (done : List (List ℕ)) (name : List ℕ) → AllPairs (λ one other. one ≢ other) done → is_offered done name ≡ false → AllPairs (λ one other. one ≢ other) (done ++ name ∷ [])
+pub different_more : (done : List (List ℕ)) (name : List ℕ) → AllPairs (λ one other. one ≢ other) done → is_offered done name ≡ false
+    → AllPairs (λ one other. one ≢ other) (done ++ name ∷ [])
 different_more done name different fresh =
-    all_pairs_push (λ one other. one ≢ other) done name different (λ k d within same. true≢false (sym (list_any_at (λ other. bytes_eq other name) done k d within ((bytes_eq-Decides (get_or done k d) name).1 same)) ∙ fresh))
+    all_pairs_push (λ one other. one ≢ other) done name different (λ k d within same. true≢false
+    (sym (list_any_at (λ other. bytes_eq other name) done k d within ((bytes_eq-Decides (get_or done k d) name).1 same)) ∙ fresh))
 
 -- Where all are done, the text spells them.
-pub spells_all : (text : List ℕ) (done : List (List ℕ)) (k : ℕ) → done ≡ take k (pieces text) → k ≡ length (pieces text) → list_all is_identifier done ≡ true → AllPairs (λ one other. one ≢ other) done → SpellsChoices text done
+pub spells_all : (text : List ℕ) (done : List (List ℕ)) (k : ℕ) → done ≡ take k (pieces text) → k ≡ length (pieces text) → list_all is_identifier done ≡ true
+    → AllPairs (λ one other. one ≢ other) done → SpellsChoices text done
 spells_all text done k same all valid different =
     let whole : done ≡ pieces text = same ∙ ap (λ n. take n (pieces text)) all ∙ take_all (length (pieces text)) (pieces text) (omega arith) in
     record {

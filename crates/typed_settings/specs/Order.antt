@@ -39,12 +39,12 @@ pattern_cmp one other = key_cmp (signature one) (signature other)
 abbrev pub is_like : List Place → List Place → Bool
 is_like one other = is_eq (bytes_cmp (shape one) (shape other))
 
--- How a place stands to a segment: a bare `*` fits it.
+-- How a place compares to a segment: a bare `*` fits it.
 abbrev pub place_to : Place → List ℕ → Ordering
 place_to Any segment = Equal
 place_to (Plain own) segment = bytes_cmp own segment
 
--- How a pattern stands to a key: the first place that doesn't fit its segment decides.
+-- How a pattern compares to a key: the first place that doesn't fit its segment decides.
 abbrev pub order_to : List Place → List (List ℕ) → Ordering
 order_to [] key = Equal
 order_to (x ∷ places) [] = Equal

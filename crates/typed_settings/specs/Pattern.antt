@@ -73,7 +73,7 @@ pub record IsPlaceOf (key : List (List ℕ)) (place : Place) : Type 0 where
   pub one : key ≡ segment ∷ []
   pub plain : place ≡ Plain segment
 
--- Behind the places that are done, the text spells what the rest spells.
+-- After the places that are done, the text spells what the rest spells.
 pub record Remains (text : List ℕ) (done : List Place) (rest : List ℕ) : Type 0 where
   pub sound : (places : List Place) → Joins IsPlaceText 46 rest places → Joins IsPlaceText 46 text (done ++ places)
   pub exact : (places : List Place) → Joins IsPlaceText 46 text places → (left : List Place) × (places ≡ done ++ left) × Joins IsPlaceText 46 rest left

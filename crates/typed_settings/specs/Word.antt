@@ -85,7 +85,7 @@ pub record SpellsWord (text : List ℕ) (w : Word) : Type 0 where
 
 -- ---- for private clauses
 
--- The word has parts behind its name.
+-- The word has parts after its name.
 abbrev pub has_parts : ItemWord → Bool
 has_parts (item.Int low high) = true
 has_parts (item.Choice names) = true

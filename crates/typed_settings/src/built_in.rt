@@ -53,7 +53,7 @@ fn push_row(
     Ok(())
 }
 
-/// The built-in rows. The only error is want of memory.
+/// The built-in rows. The only error is out of memory.
 pub fn built_in(alloc: Global) -> Result<Vec<Row>, AllocError>
     ensures { IfOk result (λ rows. rows.items ≡ built_in) }
 {

@@ -37,7 +37,7 @@ impl Choices {
         self.names.iter().any(|name| name.as_str() == text)
     }
 
-    /// Appends a copy of the name. The only error is want of memory, and the names are then as before.
+    /// Appends a copy of the name. The only error is out of memory, and the names are then as before.
     pub(crate) fn push(&mut self, name: &str) -> Result<(), AllocError>
         ensures ok { OnOk result (self.new ≡ self.old ++ name.now ∷ []) }
         ensures err { OnErr result (self.new ≡ self.old) }

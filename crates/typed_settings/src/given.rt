@@ -11,7 +11,7 @@ use key_names::Text;
 use std::alloc::Global;
 
 /// The rows that the texts spell, one each. The errors are `BadRow` at the first texts that spell none,
-/// and want of memory.
+/// and out of memory.
 pub fn rows_of(alloc: Global, texts: &[(Text, Text)]) -> Result<Vec<Row>, RowsError>
     ensures rows { IfOk result (λ rows. AreSpelled texts.now rows.items) }
     ensures fault { (fault : RowsError) → result ≡ Err fault → fault ≢ RowsError.Memory

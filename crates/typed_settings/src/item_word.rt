@@ -48,7 +48,7 @@ impl ItemWord {
         }
     }
 
-    /// Whether the word takes this text. The only error is want of memory, at `base64` alone. It takes
+    /// Whether the word takes this text. The only error is out of memory, at `base64` alone. It takes
     /// time linear in the text, and at `choice` in the number of names.
     pub(crate) fn takes_text(&self, alloc: Global, text: &str) -> Result<bool, AllocError>
         ensures { IfOk result (λ answer. answer ≡ takes_text self.now text.now) }

@@ -37,7 +37,7 @@ fn row_among<'a>(rows: &'a [Row], key: &Key) -> Option<&'a Row>
 }
 
 /// The row that matches the key, or `None` where none does. It takes no memory, and for each shape of
-/// the rows, which is where their stars stand, time logarithmic in the number of rows.
+/// the rows, which is where their stars are, time logarithmic in the number of rows.
 pub fn row_for<'a>(rows: &'a [Row], key: &Key) -> Option<&'a Row>
     requires { AreOrdered rows.now }
     ensures some { IfSome result (λ row. HasRow rows.now key.now row.now) }

@@ -61,7 +61,7 @@ fn least_of_all(rows: &[Row]) -> Option<(usize, usize)>
 }
 
 /// The indices of the least two rows that meet, by the second and then by the first, or `None` where
-/// no two do. The only error is want of memory. It takes the time of a sort where the first place at
+/// no two do. The only error is out of memory. It takes the time of a sort where the first place at
 /// which neighbours in that order differ has no `*`, and time quadratic in the number of rows else.
 pub fn least_meeting(alloc: Global, rows: &[Row]) -> Result<Option<(usize, usize)>, AllocError>
     ensures some { IfOk result (λ o. IfSome o (λ pair. IsLeastPair rows.now pair.0 pair.1)) }

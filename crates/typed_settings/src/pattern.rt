@@ -107,7 +107,7 @@ impl Pattern {
         self.shape_cmp(other).is_eq()
     }
 
-    /// How the pattern stands to the key: the first place that doesn't fit its segment decides, by the
+    /// How the pattern compares to the key: the first place that doesn't fit its segment decides, by the
     /// bytes. It takes no memory.
     pub(crate) fn order_to(&self, key: &Key) -> Ordering
         ensures { result ≡ order_to self.now key.now }

@@ -16,7 +16,7 @@ pub enum Place {
 }
 
 impl Place {
-    /// Whether the segment may stand here. It takes no memory.
+    /// Whether the segment may be here. It takes no memory.
     pub(crate) fn fits(&self, segment: &[u8]) -> bool
         ensures { IsTrue result ↔ Fits self.now segment.now }
     {
@@ -26,7 +26,7 @@ impl Place {
         }
     }
 
-    /// Whether some segment may stand at both places. It takes no memory.
+    /// Whether some segment may be at both places. It takes no memory.
     pub(crate) fn agrees(&self, other: &Place) -> bool
         ensures { IsTrue result ↔ Agree self.now other.now }
     {
@@ -67,7 +67,7 @@ impl Place {
         }
     }
 
-    /// How the place stands to the segment by its bytes: a `*` fits it. It takes no memory.
+    /// How the place compares to the segment by its bytes: a `*` fits it. It takes no memory.
     pub(crate) fn order_to(&self, segment: &[u8]) -> Ordering
         ensures { result ≡ place_to self.now segment.now }
     {

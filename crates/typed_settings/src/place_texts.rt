@@ -65,7 +65,7 @@ fn place_of(alloc: Global, text: &[u8]) -> Result<Option<Place>, AllocError>
 }
 
 /// The places that the text spells, joined by dots, or `None` where it spells none. The only error is
-/// want of memory. It takes time linear in the text.
+/// out of memory. It takes time linear in the text.
 pub fn places_of(alloc: Global, text: &[u8]) -> Result<Option<Vec<Place>>, AllocError>
     ensures some { IfOk result
         (λ o. IfSome o (λ places. Joins IsPlaceText 46 text.now places.items)) }

@@ -13,7 +13,7 @@ use crate::word_texts::word_of;
 use key_names::Text;
 use std::alloc::{AllocError, Global};
 
-// Whether the printed places have at most 1,024 bytes. The sum has a dot behind each place.
+// Whether the printed places have at most 1,024 bytes. The sum has a dot after each place.
 fn is_short(places: &[Place]) -> bool
     ensures { IsTrue result ↔ (length (printed_pattern places.now) ≤ 1024) }
 {
@@ -47,7 +47,7 @@ fn is_of_settings(places: &[Place]) -> bool
 
 /// The pattern that the text spells, or `None` where it spells none. It is spelled as a key is, but
 /// for a bare `*`, which is any segment; a `*` in quotes is a segment of one byte. The limits are those
-/// of a key whose printed text has the `*`. The only error is want of memory.
+/// of a key whose printed text has the `*`. The only error is out of memory.
 pub fn pattern_of(alloc: Global, text: &[u8]) -> Result<Option<Pattern>, AllocError>
     ensures some { IfOk result (λ o. IfSome o (SpellsPattern text.now)) }
     ensures none { result ≡ Ok None → (pattern : List Place) → ¬ SpellsPattern text.now pattern }
@@ -62,7 +62,7 @@ pub fn pattern_of(alloc: Global, text: &[u8]) -> Result<Option<Pattern>, AllocEr
 }
 
 /// The row that the texts of its pattern and its word spell, or `None` where they spell none. The only
-/// error is want of memory.
+/// error is out of memory.
 pub fn row_of(alloc: Global, pattern: &Text, word: &Text) -> Result<Option<Row>, AllocError>
     ensures some { IfOk result (λ o. IfSome o (SpellsRow (pattern.now, word.now))) }
     ensures none { result ≡ Ok None → (row : Row) → ¬ SpellsRow (pattern.now, word.now) row }

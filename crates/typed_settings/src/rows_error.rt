@@ -21,7 +21,7 @@ pub enum RowsError {
         /// The index of the later row.
         second: usize,
     },
-    /// Memory was wanting. It says nothing of the rows.
+    /// Out of memory. It says nothing of the rows.
     #[error("memory was wanting")]
     Memory,
 }

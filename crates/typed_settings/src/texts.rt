@@ -23,7 +23,7 @@ pub fn is_line(text: &[u8]) -> bool
     text.iter().all(|b| *b != b'\n' && *b != b'\r')
 }
 
-/// Whether the text is padded standard base64. The only error is want of memory, which it takes for
+/// Whether the text is padded standard base64. The only error is out of memory, which it takes for
 /// the bytes.
 pub fn is_base64(alloc: Global, text: &[u8]) -> Result<bool, AllocError>
     ensures { IfOk result (λ answer. answer ≡ is_base64 text.now) }

@@ -1,9 +1,9 @@
-//! Why a value may not stand at a key.
+//! Why a value may not be at a key.
 
 use key_names::{Key, Text};
 use std::alloc::AllocError;
 
-/// Why a value may not stand at a key.
+/// Why a value may not be at a key.
 #[derive(Debug, Drop)]
 pub enum TypeError {
     /// No row matches the key.
@@ -18,7 +18,7 @@ pub enum TypeError {
         /// The row's word, as it was given.
         wanted: Text,
     },
-    /// Memory was wanting. It says nothing of the key and the value.
+    /// Out of memory. It says nothing of the key and the value.
     Memory,
 }
 

@@ -74,7 +74,7 @@ impl Types {
         self.rows.len()
     }
 
-    /// Checks that the value may stand at the key: `Unknown` is answered exactly where no row matches
+    /// Checks that the value may be at the key: `Unknown` is answered exactly where no row matches
     /// the key, `Wrong` exactly where the word of the row that does refuses the value. `Memory` alone
     /// may come at any place. The row is found as by `matches`; the rest takes time linear in the value.
     pub fn check(&self, key: &Key, value: &Scalar) -> Result<(), TypeError>
@@ -98,7 +98,7 @@ impl Types {
     }
 
     /// Whether some row matches the key. It takes no memory, and for each shape of the rows, which is
-    /// where their stars stand, time logarithmic in the number of rows.
+    /// where their stars are, time logarithmic in the number of rows.
     pub fn matches(&self, key: &Key) -> bool
         ensures known { IsTrue result ↔ IsKnown self.now key.now }
 

@@ -59,7 +59,7 @@ fn takes_list(alloc: Global, word: &ItemWord, value: &Scalar) -> Result<bool, Al
 
 impl Word {
     /// Whether the word takes this value: a list word takes lists alone, and each other word single
-    /// values alone. The only error is want of memory. It takes time linear in the value, and at
+    /// values alone. The only error is out of memory. It takes time linear in the value, and at
     /// `choice` in the number of names too.
     pub(crate) fn takes(&self, alloc: Global, value: &Scalar) -> Result<bool, AllocError>
         ensures { IfOk result (λ answer. answer ≡ takes self.now value.now) }

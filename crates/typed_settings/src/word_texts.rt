@@ -142,7 +142,7 @@ fn item_word_of(alloc: Global, text: &str) -> Result<Option<ItemWord>, AllocErro
     Ok(named(text))
 }
 
-// The list whose items' word is spelled behind `list`.
+// The list whose items' word is spelled after `list`.
 fn list_of(alloc: Global, rest: &str) -> Result<Option<Word>, AllocError>
     ensures some { IfOk result (λ o. IfSome o (SpellsWord (codes "list " ++ rest.now))) }
     ensures none { result ≡ Ok None → (word : Word) → ¬ SpellsWord (codes "list " ++ rest.now) word }
@@ -164,7 +164,7 @@ fn single_of(alloc: Global, text: &str) -> Result<Option<Word>, AllocError>
     }
 }
 
-/// The word that the text spells, or `None` where it spells none. The only error is want of memory.
+/// The word that the text spells, or `None` where it spells none. The only error is out of memory.
 /// It takes time linear in the text, and quadratic in the names of a `choice`.
 pub fn word_of(alloc: Global, text: &str) -> Result<Option<Word>, AllocError>
     ensures some { IfOk result (λ o. IfSome o (SpellsWord text.now)) }

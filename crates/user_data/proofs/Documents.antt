@@ -23,23 +23,26 @@ refuses_name : (found : Option (List ℕ)) (name : List ℕ) (e : Refusal) → f
 refuses_name found name Memory is at = tt
 refuses_name found name (Fault kind text) is at = (at.0, is ∙ ap Some (sym at.1))
 
-pub name_refused : (document rest left : Members) (name bytes printed : List ℕ) (d : Data) (e : Refusal) → other_name document ≡ other_name rest → rest ≡ member name d left → bytes ≡ name → printed ≡ name
+pub name_refused : (document rest left : Members) (name bytes printed : List ℕ) (d : Data) (e : Refusal) → other_name document ≡ other_name rest
+    → rest ≡ member name d left → bytes ≡ name → printed ≡ name
     → false ≡ eq_by_cmp bytes_cmp bytes settings → IsAt NotSettings printed e → RefusesName (other_name document) e
 name_refused document rest left name bytes printed d e so_far is same also other at =
     refuses_name (other_name document) printed e
     (so_far ∙ ap other_name is ∙ other_first name d left (ap (λ (n : List ℕ). eq_by_cmp bytes_cmp n settings) (sym same) ∙ sym other) ∙ ap Some (sym also)) at
 
 -- A name that is `settings` is passed.
-pub name_passed : (document rest left : Members) (name bytes : List ℕ) (d : Data) → other_name document ≡ other_name rest → rest ≡ member name d left → bytes ≡ name → true ≡ eq_by_cmp bytes_cmp bytes settings
+pub name_passed : (document rest left : Members) (name bytes : List ℕ) (d : Data) → other_name document ≡ other_name rest → rest ≡ member name d left
+    → bytes ≡ name → true ≡ eq_by_cmp bytes_cmp bytes settings
     → other_name document ≡ other_name left
 name_passed document rest left name bytes d so_far is same tie =
     so_far ∙ ap other_name is ∙ ap (λ b. if b then other_name left else Some name) (ap (λ (n : List ℕ). eq_by_cmp bytes_cmp n settings) (sym same) ∙ sym tie)
 
 refuses_as : (pairs : Pairs) (e : Refusal) → pairs ≡ Err (fault_at NotSettings settings) → IsAt NotSettings settings e → Refuses pairs e
 refuses_as pairs Memory is at = tt
-refuses_as pairs (Fault k text) is at = is ∙ ap (λ (n : UserDataKind). Err (fault_at n settings)) (sym at.0) ∙ ap (λ (l : List ℕ). Err (fault_at k l)) (sym at.1)
+refuses_as pairs (Fault k text) is at = is ∙ ap (λ (n : UserDataKind). Err (fault_at n settings)) (sym at.0)
+    ∙ ap (λ (l : List ℕ). Err (fault_at k l)) (sym at.1)
 
--- What stands under the name is a table.
+-- What is under the name is a table.
 pub table_pairs : (o : Option Data) (d : Data) (ms : Members) → o ≡ Some d → as_table d ≡ Some ms → settings_pairs o ≡ members_pairs settings_key ms
 table_pairs o d ms there is = ap settings_pairs there ∙ by d is
   where
@@ -52,7 +55,7 @@ table_pairs o d ms there is = ap settings_pairs there ∙ by d is
     by (array ds) is = absurd (cc is)
     by (table own) is = let same : own ≡ ms = cc in ap (members_pairs settings_key) same
 
--- Another value stands there.
+-- Another value is there.
 pub other_refuses : (o : Option Data) (d : Data) (e : Refusal) → o ≡ Some d → as_table d ≡ None → IsAt NotSettings settings e → Refuses (settings_pairs o) e
 other_refuses o d e there is at = refuses_as (settings_pairs o) e (ap settings_pairs there ∙ by d is) at
   where

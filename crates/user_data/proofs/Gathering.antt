@@ -53,7 +53,8 @@ module _ (path : Path) (whole rest : Members) (bytes name : List ℕ) (d : Data)
       ∙ ap (λ (r : Pairs). joined (Ok so_far.found) (joined r (members_pairs path left))) (sym here ∙ refused)
 
 -- At last all are found.
-pub ended : (path : Path) (whole rest : Members) (old new : List (Path × Scalar)) → Gathering path whole rest old new → rest ≡ no_members → Appends (members_pairs path whole) old new
+pub ended : (path : Path) (whole rest : Members) (old new : List (Path × Scalar)) → Gathering path whole rest old new → rest ≡ no_members
+    → Appends (members_pairs path whole) old new
 ended path whole rest old new so_far is = record {
   found = so_far.found;
   none_refused = so_far.to_come ∙ ap (λ (ms : Members). joined (Ok so_far.found) (members_pairs path ms)) is ∙ ap Ok (append-nil so_far.found);

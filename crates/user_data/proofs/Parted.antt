@@ -1,5 +1,6 @@
 -- The keys of the pairs are apart.
-use Rattle.std.proofs.Common.{◌≡◌, ℕ, List, [], ◌∷◌, ◌++◌, Option, Some, None, Ok, Err, ok_or, option_map, Bool, true, false, inl, Less, append_assoc, append-nil, if◌then◌else◌, refl, sym, ap, ◌∙◌}
+use Rattle.std.proofs.Common.{◌≡◌, ℕ, List, [], ◌∷◌, ◌++◌, Option, Some, None, Ok, Err, ok_or}
+use Rattle.std.proofs.Common.{option_map, Bool, true, false, inl, Less, append_assoc, append-nil, if◌then◌else◌, refl, sym, ap, ◌∙◌}
 use Rattle.std.specs.List.{AllByRecursion}
 use Rattle.std.specs.Map.{keys_of}
 use Rattle.std.proofs.lemmas.List.{map-append}
@@ -34,7 +35,14 @@ record Halves (front back : Pairs) (whole : List (Path × Scalar)) : Type 0 wher
 halves : (front back : Pairs) (whole : List (Path × Scalar)) → joined front back ≡ Ok whole → Halves front back whole
 halves (Err e) back whole h = cc
 halves (Ok xs) (Err e) whole h = cc
-halves (Ok xs) (Ok ys) whole h = record { first = xs; second = ys; first_is = refl; second_is = refl; keys_are = let both : whole ≡ xs ++ ys = cc in ap keys_of both ∙ map-append (λ p. p.0) xs ys }
+halves (Ok xs) (Ok ys) whole h = record {
+  first = xs;
+  second = ys;
+  first_is = refl;
+  second_is = refl;
+  keys_are = let both : whole ≡ xs ++ ys = cc in
+      ap keys_of both ∙ map-append (λ p. p.0) xs ys;
+}
 
 -- What is read at a key is read of its value.
 pub kept : (path : Path) (pairs : Pairs) (found : List (Path × Scalar)) → where_key path pairs ≡ Ok found → pairs ≡ Ok found
@@ -44,11 +52,13 @@ kept path pairs found = by (is_key path)
     by true h = h
     by false h = absurd (cc h)
 
-leaf_key : (key : Path) (o : Option Scalar) (pairs : List (Path × Scalar)) → ok_or (option_map (λ v. (key, v) ∷ []) o) (fault_at BadValue (printed_path key)) ≡ Ok pairs → keys_of pairs ≡ key ∷ []
+leaf_key : (key : Path) (o : Option Scalar) (pairs : List (Path × Scalar)) → ok_or (option_map (λ v. (key, v) ∷ []) o) (fault_at BadValue (printed_path key)) ≡
+    Ok pairs → keys_of pairs ≡ key ∷ []
 leaf_key key None pairs e = cc
 leaf_key key (Some v) pairs e = let same : pairs ≡ (key, v) ∷ [] = cc in ap keys_of same
 
-at_leaf : (key : Path) (d : Data) (pairs : List (Path × Scalar)) → leaf_pairs key d ≡ Ok pairs → AllByRecursion (IsBelow key) (keys_of pairs) × Pairwise Parts (keys_of pairs)
+at_leaf : (key : Path) (d : Data) (pairs : List (Path × Scalar)) → leaf_pairs key d ≡ Ok pairs
+    → AllByRecursion (IsBelow key) (keys_of pairs) × Pairwise Parts (keys_of pairs)
 at_leaf key d pairs e = rw (leaf_key key (scalar_of d) pairs e) ((([], sym (append-nil key)), tt), (tt, tt))
 
 member_halves : (path : Path) (name : List ℕ) (d : Data) (ms : Members) (pairs : List (Path × Scalar)) → members_pairs path (member name d ms) ≡ Ok pairs
@@ -76,17 +86,20 @@ mutual
       let h = member_halves path name d ms pairs e in
       rw h.keys_are
       (AllByRecursion-append (IsBelow path) (keys_of h.first) (keys_of h.second)
-      (AllByRecursion-weaker (IsBelow (path ++ name ∷ [])) (IsBelow path) (keys_of h.first) (λ k below. (name ∷ below.0, past path name k below)) (value_below (path ++ name ∷ []) d h.first h.first_is))
+      (AllByRecursion-weaker (IsBelow (path ++ name ∷ [])) (IsBelow path) (keys_of h.first) (λ k below. (name ∷ below.0, past path name k below))
+      (value_below (path ++ name ∷ []) d h.first h.first_is))
       (members_below path ms h.second h.second_is))
 
-members_after : (path : Path) (name : List ℕ) (ms : Members) (pairs : List (Path × Scalar)) → AllByRecursion (λ entry. bytes_cmp name entry.0 ≡ Less) (named ms) → members_pairs path ms ≡ Ok pairs
+members_after : (path : Path) (name : List ℕ) (ms : Members) (pairs : List (Path × Scalar)) → AllByRecursion (λ entry. bytes_cmp name entry.0 ≡ Less) (named ms)
+    → members_pairs path ms ≡ Ok pairs
     → AllByRecursion (IsAfter path name) (keys_of pairs)
 members_after path name no_members pairs rise e = let none : pairs ≡ [] = cc in rw none tt
 members_after path name (member next d ms) pairs rise e =
     let h = member_halves path next d ms pairs e in
     rw h.keys_are
     (AllByRecursion-append (IsAfter path name) (keys_of h.first) (keys_of h.second)
-    (AllByRecursion-weaker (IsBelow (path ++ next ∷ [])) (IsAfter path name) (keys_of h.first) (λ k below. (next, below.0, rise.0, past path next k below)) (value_below (path ++ next ∷ []) d h.first h.first_is))
+    (AllByRecursion-weaker (IsBelow (path ++ next ∷ [])) (IsAfter path name) (keys_of h.first) (λ k below. (next, below.0, rise.0, past path next k below))
+    (value_below (path ++ next ∷ []) d h.first h.first_is))
     (members_after path name ms h.second rise.1 h.second_is))
 
 across : (path : Path) (name : List ℕ) (k l : Path) → IsBelow (path ++ name ∷ []) k → IsAfter path name l → Parts k l
@@ -102,7 +115,8 @@ mutual
   value_parted key (array ds) pairs rise e = (at_leaf key (array ds) pairs e).1
   value_parted key (table ms) pairs rise e = members_parted key ms pairs rise.0 rise.1 e
 
-  members_parted : (path : Path) (ms : Members) (pairs : List (Path × Scalar)) → NamesRise ms → ValuesRise ms → members_pairs path ms ≡ Ok pairs → Pairwise Parts (keys_of pairs)
+  members_parted : (path : Path) (ms : Members) (pairs : List (Path × Scalar)) → NamesRise ms → ValuesRise ms → members_pairs path ms ≡ Ok pairs
+      → Pairwise Parts (keys_of pairs)
   members_parted path no_members pairs names values e = let none : pairs ≡ [] = cc in rw none tt
   members_parted path (member name d ms) pairs names values e =
       let h = member_halves path name d ms pairs e in
@@ -112,5 +126,6 @@ mutual
       (value_parted (path ++ name ∷ []) d h.first values.0 h.first_is) (members_parted path ms h.second names.1 values.1 h.second_is))
 
 -- The keys of the pairs of members are apart, where the names rise.
-pub members_apart : (path : Path) (ms : Members) (pairs : List (Path × Scalar)) → NamesRise ms → ValuesRise ms → members_pairs path ms ≡ Ok pairs → AreApart (keys_of pairs)
+pub members_apart : (path : Path) (ms : Members) (pairs : List (Path × Scalar)) → NamesRise ms → ValuesRise ms → members_pairs path ms ≡ Ok pairs
+    → AreApart (keys_of pairs)
 members_apart path ms pairs names values e = AreApart-from_Pairwise (keys_of pairs) (members_parted path ms pairs names values e)

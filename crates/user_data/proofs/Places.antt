@@ -10,7 +10,8 @@ below [] name some = absurd (omega arith)
 below (first ∷ names) name some = join_push 47 first names name
 
 -- The place of an entry is that of the table with a slash and its name.
-pub place_is : (path key : Path) (at place name : List ℕ) → 0 < length path → at ≡ printed_path path → key ≡ path ++ name ∷ [] → place ≡ at ++ 47 ∷ name → place ≡ printed_path key
+pub place_is : (path key : Path) (at place name : List ℕ) → 0 < length path → at ≡ printed_path path → key ≡ path ++ name ∷ [] → place ≡ at ++ 47 ∷ name
+    → place ≡ printed_path key
 place_is path key at place name some is same there = there ∙ ap (λ (l : List ℕ). l ++ 47 ∷ name) is ∙ sym (below path name some) ∙ ap printed_path (sym same)
 
 -- A key that goes on has a segment.
@@ -18,5 +19,6 @@ pub some_names : (path key : Path) (name : List ℕ) → key ≡ path ++ name �
 some_names path key name same = omega (arith, ap length same, length-append path (name ∷ []))
 
 -- Names that are no key are refused at their place.
-pub no_key : (path : Path) (place : List ℕ) (pairs : Pairs) → is_key path ≡ false → place ≡ printed_path path → where_key path pairs ≡ Err (fault_at BadKey place)
+pub no_key : (path : Path) (place : List ℕ) (pairs : Pairs) → is_key path ≡ false → place ≡ printed_path path
+    → where_key path pairs ≡ Err (fault_at BadKey place)
 no_key path place pairs none at = rw (none, at) refl

@@ -32,7 +32,7 @@ fault_at kind at = record { kind = kind; at = at }
 
 -- ---- the entries below `settings`
 
--- The pair of a value that stands at a key and is no table.
+-- The pair of a value that is at a key and is no table.
 abbrev pub leaf_pairs : Path → Data → Pairs
 leaf_pairs path d = ok_or (option_map (λ scalar. (path, scalar) ∷ []) (scalar_of d)) (fault_at BadValue (printed_path path))
 
@@ -44,7 +44,7 @@ where_key path pairs = if is_key path then pairs else Err (fault_at BadKey (prin
 abbrev pub joined : Pairs → Pairs → Pairs
 joined front back = result_and_then (λ xs. result_map (λ ys. xs ++ ys) back) front
 
--- The pairs of a value that stands at a key, and of a table's members, which stand below it under their names, in the table's order.
+-- The pairs of a value that is at a key, and of a table's members, which are below it under their names, in the table's order.
 abbrev mutual
   pub value_pairs : Path → Data → Pairs
   value_pairs path (string s) = leaf_pairs path (string s)
@@ -70,7 +70,7 @@ abbrev pub other_name : Members → Option (List ℕ)
 other_name no_members = None
 other_name (member name d ms) = if eq_by_cmp bytes_cmp name settings then other_name ms else Some name
 
--- The pairs of what stands under the name `settings`: a table, or nothing.
+-- The pairs of what is under the name `settings`: a table, or nothing.
 abbrev pub settings_pairs : Option Data → Pairs
 settings_pairs None = Ok []
 settings_pairs (Some (table ms)) = members_pairs settings_key ms

@@ -13,17 +13,17 @@ pub record Appends (pairs : Pairs) (old new : List (Path × Scalar)) : Type 0 wh
   pub none_refused : pairs ≡ Ok found
   pub appended : new ≡ old ++ found
 
--- The refusal is that of the pairs, unless memory was wanting.
+-- The refusal is that of the pairs, unless it ran out of memory.
 abbrev pub Refuses : Pairs → Refusal → Type 0
 Refuses pairs Memory = ⊤
 Refuses pairs (Fault kind at) = pairs ≡ Err (fault_at kind at)
 
--- The refusal is of this kind and at this place, unless memory was wanting.
+-- The refusal is of this kind and at this place, unless it ran out of memory.
 abbrev pub IsAt : UserDataKind → List ℕ → Refusal → Type 0
 IsAt kind place Memory = ⊤
 IsAt kind place (Fault k at) = (k ≡ kind) × (at ≡ place)
 
--- The refusal is of this top-level name, unless memory was wanting.
+-- The refusal is of this top-level name, unless it ran out of memory.
 abbrev pub RefusesName : Option (List ℕ) → Refusal → Type 0
 RefusesName name Memory = ⊤
 RefusesName name (Fault kind at) = (kind ≡ NotSettings) × (name ≡ Some at)

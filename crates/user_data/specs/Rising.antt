@@ -6,12 +6,12 @@ use Rattle.key_names.specs.Order.{bytes_cmp}
 use Rattle.toml.specs.Data.{Data, string, integer, float, boolean, datetime, array, table, Members, no_members, member}
 use Rattle.toml_values.specs.Document.{named}
 
--- Each name is below those behind it.
+-- Each name is below those after it.
 abbrev pub NamesRise : Members → Type 0
 NamesRise no_members = ⊤
 NamesRise (member name d ms) = AllByRecursion (λ entry. bytes_cmp name entry.0 ≡ Less) (named ms) × NamesRise ms
 
--- The names of each table rise; what stands in arrays is left out.
+-- The names of each table rise; what is in arrays is left out.
 abbrev mutual
   pub HasRisingNames : Data → Type 0
   HasRisingNames (string s) = ⊤

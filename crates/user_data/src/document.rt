@@ -48,7 +48,7 @@ fn check_names(alloc: Global, document: &Table) -> Result<(), Refusal>
     Ok(())
 }
 
-// What stands under the name `settings`, None exactly where nothing does.
+// What is under the name `settings`, None exactly where nothing does.
 fn settings_of(document: &Table) -> Option<&Value>
     ensures { option_map (λ value. view value.now) result ≡ get_member settings (table_view document.now) }
 {

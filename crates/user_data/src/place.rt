@@ -1,4 +1,4 @@
-//! Where an entry stands.
+//! Where an entry is.
 ghost use Rattle.std.specs.Prelude.{◌≡◌, ◌<◌, ◌++◌, length, ◌∷◌, [], false, IfOk, IfErr, IsTrue, MatchOption, string_bytes};
 ghost use Rattle.key_names.specs.Key.{is_key};
 ghost use Rattle.settings_tree.specs.Content.{settings_key};
@@ -10,7 +10,7 @@ use crate::refusal::Refusal;
 use key_names::{Key, KeyFault, Text};
 use std::alloc::{AllocError, Global};
 
-/// Where an entry stands: the key that the names down to it are, and these names joined by `/`.
+/// Where an entry is: the key that the names down to it are, and these names joined by `/`.
 #[derive(Debug, Drop)]
 pub struct Place {
     pub key: Key,
@@ -20,7 +20,7 @@ pub struct Place {
 }
 
 impl Place {
-    /// The place of the table `settings`. The only error is want of memory.
+    /// The place of the table `settings`. The only error is out of memory.
     pub fn settings(alloc: Global) -> Result<Place, AllocError>
         ensures { IfOk result (λ place. place.key ≡ settings_key) }
     {

@@ -24,7 +24,7 @@ use toml_values::table_of;
 /// names down to it are together no key, an empty table's too, and else `BadValue` where it is neither a table nor a scalar.
 /// `Memory` may come at any place. It takes time linear in the text, up to a logarithm in the number of its entries.
 pub fn read(alloc: Global, text: &[u8]) -> Result<Vec<(Key, Scalar)>, UserDataError>
-    // What is to be read is defined for each text, so that each answer but want of memory is the only one.
+    // What is to be read is defined for each text, so that each answer but out of memory is the only one.
     ensures ok { IfOk result (λ pairs. pairs_of text.now ≡ Ok pairs.items) }
     ensures fault { IfErr result (λ e. e.kind ≢ Memory → pairs_of text.now ≡ Err e) }
     ensures apart { IfOk result (λ pairs. AreApart (keys_of pairs.items)) }

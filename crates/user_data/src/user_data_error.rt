@@ -2,7 +2,7 @@
 
 use key_names::Text;
 
-/// What is wrong with user data, or that memory was wanting.
+/// What is wrong with user data, or that it ran out of memory.
 #[derive(Clone, Copy, Debug, Drop, PartialEq, Eq)]
 pub enum UserDataKind {
     /// The text is no TOML. It is at `-`.
@@ -14,7 +14,7 @@ pub enum UserDataKind {
     /// An entry is neither a table nor a scalar: a float, a date or a time, or an array that holds another value than truth
     /// values, integers and texts.
     BadValue,
-    /// Memory was wanting. It is at the empty text.
+    /// It ran out of memory. It is at the empty text.
     Memory,
 }
 

@@ -14,7 +14,7 @@ use std::alloc::Global;
 use toml::{Table, Value};
 use toml_values::scalar_of;
 
-/// Appends the pairs of the members of a table that stands at this place.
+/// Appends the pairs of the members of a table that is at this place.
 #[cycle(walk)]
 pub fn push_members(
     alloc: Global,
@@ -52,7 +52,7 @@ fn push_entry(
     }
 }
 
-// Appends the pair of a value that stands at this place and is no table.
+// Appends the pair of a value that is at this place and is no table.
 fn push_leaf(
     alloc: Global,
     place: Place,

@@ -1,5 +1,6 @@
 -- Chains of links.
-use Rattle.std.proofs.Common.{◌≡◌, ℕ, ◌+◌, ◌<◌, ◌≤◌, List, [], ◌∷◌, ◌++◌, length, codes, Some, None, refl, sym, ◌∙◌, ap, subst, arith, append_assoc, length-append}
+use Rattle.std.proofs.Common.{◌≡◌, ℕ, ◌+◌, ◌<◌, ◌≤◌, List, [], ◌∷◌, ◌++◌, length}
+use Rattle.std.proofs.Common.{codes, Some, None, refl, sym, ◌∙◌, ap, subst, arith, append_assoc, length-append}
 use Rattle.std.proofs.lemmas.List.{append_cancel_left, append-nil}
 use Rattle.outside.specs.Names.{Names}
 use Rattle.outside.specs.Tree.{Tree}
@@ -35,7 +36,8 @@ module _ (tree : Tree) where
       let names : name_of (from ++ m ∷ []) ≡ name_of (from ++ n ∷ []) = cc in
       let a = length-more from m [] in
       let b = length-more from n [] in
-      let more = name_same (from ++ m ∷ []) (from ++ n ∷ []) (omega arith) (omega arith) (fit-append from (m ∷ []) fits (one.fits, tt)) (fit-append from (n ∷ []) fits (two.fits, tt)) names in
+      let more = name_same (from ++ m ∷ []) (from ++ n ∷ []) (omega arith) (omega arith) (fit-append from (m ∷ []) fits (one.fits, tt))
+      (fit-append from (n ∷ []) fits (two.fits, tt)) names in
       let last : m ∷ [] ≡ n ∷ [] = append_cancel_left from (m ∷ []) (n ∷ []) more in
       cc
 
@@ -52,7 +54,8 @@ module _ (tree : Tree) where
       cc
 
   -- A chain that can't go on is as long as any.
-  pub led_ends : (from xs ys : List ℕ) → length from + length xs < 4 → Fit from → Leads tree from xs → ((n : ℕ) → HasStep tree (from ++ xs) n → ⊥) → Leads tree from ys → length ys ≤ length xs
+  pub led_ends : (from xs ys : List ℕ) → length from + length xs < 4 → Fit from → Leads tree from xs → ((n : ℕ) → HasStep tree (from ++ xs) n → ⊥)
+      → Leads tree from ys → length ys ≤ length xs
   led_ends from xs [] short fits one ends two = omega arith
   led_ends from [] (y ∷ ys) short fits one ends two = absurd (ends y (subst (λ (l : List ℕ). HasStep tree l y) (sym (append-nil from)) two.0))
   led_ends from (x ∷ xs) (y ∷ ys) short fits one ends two =
@@ -60,7 +63,8 @@ module _ (tree : Tree) where
       let a = length-more from x [] in
       let there : Leads tree (from ++ x ∷ []) ys = subst (λ n. Leads tree (from ++ n ∷ []) ys) (sym head) two.1 in
       let joins : (from ++ x ∷ []) ++ xs ≡ from ++ x ∷ xs = append_assoc from (x ∷ []) xs in
-      let rest = led_ends (from ++ x ∷ []) xs ys (omega arith) (fit-append from (x ∷ []) fits (one.0.fits, tt)) one.1 (λ n step. ends n (subst (λ (l : List ℕ). HasStep tree l n) joins step)) there in
+      let rest = led_ends (from ++ x ∷ []) xs ys (omega arith) (fit-append from (x ∷ []) fits (one.0.fits, tt)) one.1
+      (λ n step. ends n (subst (λ (l : List ℕ). HasStep tree l n) joins step)) there in
       omega arith
 
   -- The numbers of two data directories that the links lead to.
@@ -78,7 +82,8 @@ module _ (tree : Tree) where
 
   -- A bad link is no part of a chain that leads to a data directory.
   not_both : (target : Target) (path : Names) → LeadsTo tree target → IsBadAt tree path → ⊥
-  not_both target path a b = let le = led_ends [] b.from (numbers target) (omega (arith, b.short)) tt b.led b.ends a in let s = b.short in let k : 4 ≤ length b.from = le in absurd (omega arith)
+  not_both target path a b = let le = led_ends [] b.from (numbers target) (omega (arith, b.short)) tt b.led b.ends a in let s = b.short in
+      let k : 4 ≤ length b.from = le in absurd (omega arith)
 
   -- A chain begins with a link.
   some_link : (target : Target) → LeadsTo tree target → link_at tree (codes "current") ≡ None → ⊥
@@ -86,7 +91,8 @@ module _ (tree : Tree) where
 
   -- Equal data directories are one outcome.
   a_place : (one other : Target) (d e : Names) → one ≡ other → d ≡ directory one → e ≡ directory other → found one.version d ≡ found other.version e
-  a_place one other d e same is are = ap (λ (p : Names). found one.version p) is ∙ ap (λ (t : Target). found t.version (directory t)) same ∙ ap (λ (p : Names). found other.version p) (sym are)
+  a_place one other d e same is are = ap (λ (p : Names). found one.version p) is ∙ ap (λ (t : Target). found t.version (directory t)) same
+      ∙ ap (λ (p : Names). found other.version p) (sym are)
 
   pub resolves_one : (one other : Outcome) → Resolves tree one → Resolves tree other → one ≡ other
   resolves_one nowhere nowhere a b = refl

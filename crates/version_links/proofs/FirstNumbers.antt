@@ -1,5 +1,6 @@
 -- A number at the front of a text, and names read by their numbers.
-use Rattle.std.proofs.Common.{◌≡◌, ◌≢◌, ◌==◌, ◌<◌, ◌+◌, ◌^◌, true, false, Bool, not, cond, ℕ, zero, suc, List, [], ◌∷◌, ◌++◌, length, take, drop, nat_lt, Some, None, refl, sym, ◌∙◌, ap, subst, arith}
+use Rattle.std.proofs.Common.{◌≡◌, ◌≢◌, ◌==◌, ◌<◌, ◌+◌, ◌^◌, true, false, Bool, not, cond, ℕ, zero, suc, List}
+use Rattle.std.proofs.Common.{[], ◌∷◌, ◌++◌, length, take, drop, nat_lt, Some, None, refl, sym, ◌∙◌, ap, subst, arith}
 use Rattle.std.proofs.lemmas.Bool.Decides.{nat_tests}
 use Rattle.std.proofs.lemmas.List.{take_all}
 use Rattle.std.specs.Fmt.{decimal}
@@ -25,7 +26,7 @@ glyphs_run (x ∷ xs) =
       | false ↦ λ e. tt
     ] refl
 
--- No digit is the first byte behind them.
+-- No digit is the first byte after them.
 ends_run : (text : List ℕ) → Ends (drop (run text) text)
 ends_run [] = tt
 ends_run (x ∷ xs) =
@@ -58,7 +59,8 @@ glyphs-behind : (mark n : ℕ) → n < 2 ^ 64 → Glyphs (digits_behind mark n)
 glyphs-behind mark n below = elim (mark == 95) as (λ b. Glyphs (cond b (id_text n) (decimal n))) [ true ↦ glyphs-id n | false ↦ glyphs-decimal n below ]
 
 -- Where the digits are no number's, the text begins with none.
-pub no_number : (mark : ℕ) (text rest digits behind : List ℕ) → text ≡ mark ∷ rest → rest ≡ digits ++ behind → Glyphs digits → Ends behind → ((n : ℕ) → n < 2 ^ 64 → digits ≢ digits_behind mark n) → HasNoNumber mark text
+pub no_number : (mark : ℕ) (text rest digits behind : List ℕ) → text ≡ mark ∷ rest → rest ≡ digits ++ behind → Glyphs digits → Ends behind
+    → ((n : ℕ) → n < 2 ^ 64 → digits ≢ digits_behind mark n) → HasNoNumber mark text
 no_number mark text rest digits behind marked split all ends other n more has =
     let tails : rest ≡ digits_behind mark n ++ more = let e = sym marked ∙ has.text_is in cc in
     other n has.fits (same_runs digits (digits_behind mark n) behind more all (glyphs-behind mark n has.fits) ends has.ends (sym split ∙ tails)).0
@@ -73,7 +75,8 @@ written_behind (suc (suc (suc k))) n = refl
 follows : (k n m : ℕ) (ns text rest : List ℕ) → m < 2 ^ 64 → HasNumber (mark k) text n rest → text ≡ spread k (m ∷ ns) → rest ≡ spread (suc k) ns
 follows k n m ns text rest below has is =
     let tails : digits_behind (mark k) n ++ rest ≡ written k m ++ spread (suc k) ns = let e = sym has.text_is ∙ is in cc in
-    (same_runs (digits_behind (mark k) n) (digits_behind (mark k) m) rest (spread (suc k) ns) (glyphs-behind (mark k) n has.fits) (glyphs-behind (mark k) m below) has.ends (ends-spread (suc k) ns) (tails ∙ ap (λ (l : List ℕ). l ++ spread (suc k) ns) (sym (written_behind k m)))).1
+    (same_runs (digits_behind (mark k) n) (digits_behind (mark k) m) rest (spread (suc k) ns) (glyphs-behind (mark k) n has.fits)
+    (glyphs-behind (mark k) m below) has.ends (ends-spread (suc k) ns) (tails ∙ ap (λ (l : List ℕ). l ++ spread (suc k) ns) (sym (written_behind k m)))).1
 
 -- Such a text begins with a number.
 begins : (k m : ℕ) (ns text : List ℕ) → m < 2 ^ 64 → HasNoNumber (mark k) text → text ≡ spread k (m ∷ ns) → ⊥

@@ -35,14 +35,16 @@ EachRelink Q (r ∷ rs) = Q r × EachRelink Q rs
 -- ---- any relinks that keep what trees with the same links share
 
 module _ (P : Tree → Type 0) (shared : (one other : Tree) → AgreeOn is_in_store one other → P other → P one) where
-  images : (h : History) (relink : Relink) → InStore relink → IsSettledOn is_in_store h → P (tree_of h) → P (put relink (tree_of h)) → EachImage P (relinked relink h)
+  images : (h : History) (relink : Relink) → InStore relink → IsSettledOn is_in_store h → P (tree_of h) → P (put relink (tree_of h))
+      → EachImage P (relinked relink h)
   images h relink inside settled old new image is = elim (image_replaced_on is_in_store h relink.0 (Some (link relink.1)) inside settled image is) [
     | inl was ↦ shared image (tree_of h) was old
     | inr put ↦ shared image (set_node (tree_of h) relink.0 (Some (link relink.1))) put new
   ]
 
-  -- Every image since the start.
-  pub moments : (rs : List Relink) → EachRelink InStore rs → {E : Type 0} (result : Result Unit E) (start old new : History) → IsSettledOn is_in_store old → P (tree_of old) → EachTree P (trees_after rs (tree_of old)) → EachSince P start old → KeepsAll rs result old new → EachSince P start new
+  -- Every crash state since the start.
+  pub moments : (rs : List Relink) → EachRelink InStore rs → {E : Type 0} (result : Result Unit E) (start old new : History) → IsSettledOn is_in_store old
+      → P (tree_of old) → EachTree P (trees_after rs (tree_of old)) → EachSince P start old → KeepsAll rs result old new → EachSince P start new
   moments [] inside (Ok done) start old new settled now steps since is = subst (λ h. EachSince P start h) (sym is) since
   moments [] inside (Err e) start old new settled now steps since is = absurd is
   moments (r ∷ rs) inside {E = E} (Ok done) start old new settled now steps since is =
@@ -58,7 +60,8 @@ module _ (P : Tree → Type 0) (shared : (one other : Tree) → AgreeOn is_in_st
       moments rs inside.1 {E = E} (Err e) start (kept r old) new (settled_on_synced is_in_store (relinked r old)) steps.0 steps.1 both more
 
 -- The tree at the end.
-tree_after : (P : Tree → Type 0) (rs : List Relink) {E : Type 0} (result : Result Unit E) (old new : History) → P (tree_of old) → EachTree P (trees_after rs (tree_of old)) → KeepsAll rs result old new → P (tree_of new)
+tree_after : (P : Tree → Type 0) (rs : List Relink) {E : Type 0} (result : Result Unit E) (old new : History) → P (tree_of old)
+    → EachTree P (trees_after rs (tree_of old)) → KeepsAll rs result old new → P (tree_of new)
 tree_after P [] (Ok done) old new now steps is = subst (λ h. P (tree_of h)) (sym is) now
 tree_after P [] (Err e) old new now steps is = absurd is
 tree_after P (r ∷ rs) {E = E} (Ok done) old new now steps is = tree_after P rs {E = E} (Ok done) (kept r old) new steps.0 steps.1 is
@@ -67,15 +70,19 @@ tree_after P (r ∷ rs) (Err e) old new now steps (inl (inr is)) = subst (λ h. 
 tree_after P (r ∷ rs) {E = E} (Err e) old new now steps (inr more) = tree_after P rs {E = E} (Err e) (kept r old) new steps.0 steps.1 more
 
 -- What is touched.
-touched : (Q : Names → Type 0) (rs : List Relink) → EachRelink (λ r. Q r.0) rs → {E : Type 0} (result : Result Unit E) (start old new : History) → Touches Q start old → KeepsAll rs result old new → Touches Q start new
+touched : (Q : Names → Type 0) (rs : List Relink) → EachRelink (λ r. Q r.0) rs → {E : Type 0} (result : Result Unit E) (start old new : History)
+    → Touches Q start old → KeepsAll rs result old new → Touches Q start new
 touched Q [] inside (Ok done) start old new so_far is = subst (λ h. Touches Q start h) (sym is) so_far
 touched Q [] inside (Err e) start old new so_far is = absurd is
 touched Q (r ∷ rs) inside {E = E} (Ok done) start old new so_far is =
-    touched Q rs inside.1 {E = E} (Ok done) start (kept r old) new (goes_next (IsAtOrSync Q) start (relinked r old) synced (goes_next (IsAtOrSync Q) start old (replaced r.0 (Some (link r.1))) so_far inside.0) tt) is
+    touched Q rs inside.1 {E = E} (Ok done) start (kept r old) new (goes_next (IsAtOrSync Q) start (relinked r old) synced
+    (goes_next (IsAtOrSync Q) start old (replaced r.0 (Some (link r.1))) so_far inside.0) tt) is
 touched Q (r ∷ rs) inside (Err e) start old new so_far (inl (inl is)) = subst (λ h. Touches Q start h) (sym is) so_far
-touched Q (r ∷ rs) inside (Err e) start old new so_far (inl (inr is)) = subst (λ h. Touches Q start h) (sym is) (goes_next (IsAtOrSync Q) start old (replaced r.0 (Some (link r.1))) so_far inside.0)
+touched Q (r ∷ rs) inside (Err e) start old new so_far (inl (inr is)) =
+    subst (λ h. Touches Q start h) (sym is) (goes_next (IsAtOrSync Q) start old (replaced r.0 (Some (link r.1))) so_far inside.0)
 touched Q (r ∷ rs) inside {E = E} (Err e) start old new so_far (inr more) =
-    touched Q rs inside.1 {E = E} (Err e) start (kept r old) new (goes_next (IsAtOrSync Q) start (relinked r old) synced (goes_next (IsAtOrSync Q) start old (replaced r.0 (Some (link r.1))) so_far inside.0) tt) more
+    touched Q rs inside.1 {E = E} (Err e) start (kept r old) new (goes_next (IsAtOrSync Q) start (relinked r old) synced
+    (goes_next (IsAtOrSync Q) start old (replaced r.0 (Some (link r.1))) so_far inside.0) tt) more
 
 -- After Ok the tree has all of them.
 all_made : (rs : List Relink) (E : Type 0) (done : Unit) (old new : History) → KeepsAll {E = E} rs (Ok done) old new → tree_of new ≡ puts rs (tree_of old)
@@ -89,8 +96,16 @@ ends_settled h new is = subst IsSettled (sym is) (settled_synced h)
 -- ---- the relinks that lead to a data directory
 
 -- The first trees resolve as before, if one more does so in front of them.
-once_more : (before : Outcome) (target : Target) (tree : Tree) (trees : List Tree) → Resolves tree before → TurnsOnce before target trees → TurnsOnce before target (tree ∷ trees)
-once_more before target tree trees same turns = record { first = tree ∷ turns.first; others = turns.others; are = ap (λ (l : List Tree). tree ∷ l) turns.are; same = (same, turns.same); turned = turns.turned }
+once_more : (before : Outcome) (target : Target) (tree : Tree) (trees : List Tree) → Resolves tree before → TurnsOnce before target trees
+    → TurnsOnce before target (tree ∷ trees)
+once_more before target tree trees same turns = record {
+  first = tree ∷ turns.first;
+  others = turns.others;
+  are =
+      ap (λ (l : List Tree). tree ∷ l) turns.are;
+  same = (same, turns.same);
+  turned = turns.turned;
+}
 
 -- All of them lead to the data directory.
 once_all : (before : Outcome) (target : Target) (trees : List Tree) → EachTree (λ tree. LeadsTo tree target) trees → TurnsOnce before target trees
@@ -113,10 +128,12 @@ module _ (target : Target) (fits : IsTarget target) (tree : Tree) where
   four = pointed three [] v.major
 
   led_one : Leads one (v.major ∷ v.minor ∷ v.patch ∷ []) (target.id ∷ [])
-  led_one = leads_on tree (v.major ∷ v.minor ∷ v.patch ∷ []) target.id (omega arith) (fits.version.major, (fits.version.minor, (fits.version.patch, tt))) fits.id [] (omega arith) tt
+  led_one = leads_on tree (v.major ∷ v.minor ∷ v.patch ∷ []) target.id (omega arith) (fits.version.major, (fits.version.minor, (fits.version.patch, tt)))
+      fits.id [] (omega arith) tt
 
   led_two : Leads two (v.major ∷ v.minor ∷ []) (v.patch ∷ target.id ∷ [])
-  led_two = leads_on one (v.major ∷ v.minor ∷ []) v.patch (omega arith) (fits.version.major, (fits.version.minor, tt)) fits.version.patch (target.id ∷ []) (omega arith) led_one
+  led_two = leads_on one (v.major ∷ v.minor ∷ []) v.patch (omega arith) (fits.version.major, (fits.version.minor, tt)) fits.version.patch (target.id ∷ [])
+      (omega arith) led_one
 
   led_three : Leads three (v.major ∷ []) (v.minor ∷ v.patch ∷ target.id ∷ [])
   led_three = leads_on two (v.major ∷ []) v.minor (omega arith) (fits.version.major, tt) fits.version.minor (v.patch ∷ target.id ∷ []) (omega arith) led_two
@@ -125,16 +142,19 @@ module _ (target : Target) (fits : IsTarget target) (tree : Tree) where
   led_four = leads_on three [] v.major (omega arith) tt fits.version.major (v.minor ∷ v.patch ∷ target.id ∷ []) (omega arith) led_three
 
   turn_one : (before : Outcome) → Resolves tree before → Resolves one before ⊎ LeadsTo one target
-  turn_one = turns tree (v.major ∷ v.minor ∷ v.patch ∷ []) target.id (omega arith) (fits.version.major, (fits.version.minor, (fits.version.patch, tt))) fits.id [] (omega arith) tt
+  turn_one = turns tree (v.major ∷ v.minor ∷ v.patch ∷ []) target.id (omega arith) (fits.version.major, (fits.version.minor, (fits.version.patch, tt))) fits.id
+      [] (omega arith) tt
 
   turn_two : (before : Outcome) → Resolves one before → Resolves two before ⊎ LeadsTo two target
-  turn_two = turns one (v.major ∷ v.minor ∷ []) v.patch (omega arith) (fits.version.major, (fits.version.minor, tt)) fits.version.patch (target.id ∷ []) (omega arith) led_one
+  turn_two = turns one (v.major ∷ v.minor ∷ []) v.patch (omega arith) (fits.version.major, (fits.version.minor, tt)) fits.version.patch (target.id ∷ [])
+      (omega arith) led_one
 
   turn_three : (before : Outcome) → Resolves two before → Resolves three before ⊎ LeadsTo three target
   turn_three = turns two (v.major ∷ []) v.minor (omega arith) (fits.version.major, tt) fits.version.minor (v.patch ∷ target.id ∷ []) (omega arith) led_two
 
   stays_two : LeadsTo one target → LeadsTo two target
-  stays_two = stays_led one (v.major ∷ v.minor ∷ []) v.patch (omega arith) (fits.version.major, (fits.version.minor, tt)) fits.version.patch (target.id ∷ []) (omega arith) led_one
+  stays_two = stays_led one (v.major ∷ v.minor ∷ []) v.patch (omega arith) (fits.version.major, (fits.version.minor, tt)) fits.version.patch (target.id ∷ [])
+      (omega arith) led_one
 
   stays_three : LeadsTo two target → LeadsTo three target
   stays_three = stays_led two (v.major ∷ []) v.minor (omega arith) (fits.version.major, tt) fits.version.minor (v.patch ∷ target.id ∷ []) (omega arith) led_two
@@ -154,37 +174,54 @@ module _ (target : Target) (fits : IsTarget target) (tree : Tree) where
 
 -- Each of the trees leads where the links led before, or to the data directory.
 either : (before : Outcome) (target : Target) (trees : List Tree) → TurnsOnce before target trees → EachTree (ResolvesToEither before target) trees
-either before target trees once = subst (λ (l : List Tree). EachTree (ResolvesToEither before target) l) (sym once.are) (both once.first once.others once.same once.turned)
+either before target trees once = subst (λ (l : List Tree). EachTree (ResolvesToEither before target) l) (sym once.are)
+    (both once.first once.others once.same once.turned)
   where
     later : (trees : List Tree) → EachTree (λ tree. LeadsTo tree target) trees → EachTree (ResolvesToEither before target) trees
     later [] all = tt
     later (tree ∷ trees) all = (inr all.0, later trees all.1)
 
-    both : (first others : List Tree) → EachTree (λ tree. Resolves tree before) first → EachTree (λ tree. LeadsTo tree target) others → EachTree (ResolvesToEither before target) (first ++ others)
+    both : (first others : List Tree) → EachTree (λ tree. Resolves tree before) first → EachTree (λ tree. LeadsTo tree target) others
+        → EachTree (ResolvesToEither before target) (first ++ others)
     both [] others same turned = later others turned
     both (tree ∷ first) others same turned = (inl same.0, both first others same.1 turned)
 
 -- Trees with the same links lead alike.
-shared_either : (before : Outcome) (target : Target) (one other : Tree) → AgreeOn is_in_store one other → ResolvesToEither before target other → ResolvesToEither before target one
+shared_either : (before : Outcome) (target : Target) (one other : Tree) → AgreeOn is_in_store one other → ResolvesToEither before target other
+    → ResolvesToEither before target one
 shared_either before target one other agree (inl same) = inl (same_outcome one other agree before same)
 shared_either before target one other agree (inr led) = inr (same_led one other agree [] (numbers target) led)
 
 -- After Ok the links lead to the data directory.
-all_done : (target : Target) → IsTarget target → {E : Type 0} (result : Result Unit E) (old new : History) → KeepsAll (relinks_to target) result old new → OnOk result (LeadsTo (tree_of new) target × IsSettled new)
-all_done target fits {E = E} (Ok done) old new is = (subst (λ tree. LeadsTo tree target) (sym (all_made (relinks_to target) E done old new is)) (led_four target fits (tree_of old)), ends_settled _ new is)
+all_done : (target : Target) → IsTarget target → {E : Type 0} (result : Result Unit E) (old new : History) → KeepsAll (relinks_to target) result old new
+    → OnOk result (LeadsTo (tree_of new) target × IsSettled new)
+all_done target fits {E = E} (Ok done) old new is = (
+  subst (λ tree. LeadsTo tree target) (sym (all_made (relinks_to target) E done old new is))
+      (led_four target fits (tree_of old)),
+  ends_settled _ new is,
+)
 all_done target fits (Err e) old new is = tt
 
 -- The relinks in their order point the links to the data directory.
-pub flipped : (target : Target) → IsTarget target → {E : Type 0} (result : Result Unit E) (old new : History) → KeepsAll (relinks_to target) result old new → Flips target result old new
-flipped target fits {E = E} result old new is = let touches = touched (IsLinkTo target) (relinks_to target) (inl refl, (inr (inl refl), (inr (inr (inl refl)), (inr (inr (inr refl)), tt)))) {E = E} result old old new (goes_stay (IsAtOrSync (IsLinkTo target)) old) is in record {
-  order = is;
-  any_moment = λ before settled resolves. moments (ResolvesToEither before target) (shared_either before target) (relinks_to target) (refl, (refl, (refl, (refl, tt)))) {E = E} result old old new settled (inl resolves) (either before target _ (turns_once target fits (tree_of old) before resolves)) (since_start (ResolvesToEither before target) old (λ image im. shared_either before target image (tree_of old) (image_on is_in_store old settled image im) (inl resolves))) is;
-  tree = λ before resolves. tree_after (ResolvesToEither before target) (relinks_to target) {E = E} result old new (inl resolves) (either before target _ (turns_once target fits (tree_of old) before resolves)) is;
-  once = λ before resolves. turns_once target fits (tree_of old) before resolves;
-  done = all_done target fits {E = E} result old new is;
-  others = record {
-    touches = touches;
-    tree = λ path apart. tree_untouched (IsLinkTo target) old new touches path apart;
-    images = λ path apart. since_untouched_at (IsLinkTo target) path apart old new touches;
-  };
-}
+pub flipped : (target : Target) → IsTarget target → {E : Type 0} (result : Result Unit E) (old new : History) → KeepsAll (relinks_to target) result old new
+    → Flips target result old new
+flipped target fits {E = E} result old new is = let touches = touched (IsLinkTo target) (relinks_to target)
+    (inl refl, (inr (inl refl), (inr (inr (inl refl)), (inr (inr (inr refl)), tt)))) {E = E} result old old new (goes_stay (IsAtOrSync (IsLinkTo target)) old)
+    is in record {
+      order = is;
+      any_moment = λ before settled resolves. moments (ResolvesToEither before target) (shared_either before target) (relinks_to target)
+          (refl, (refl, (refl, (refl, tt)))) {E = E} result old old new settled (inl resolves)
+          (either before target _ (turns_once target fits (tree_of old) before resolves))
+          (since_start (ResolvesToEither before target) old (λ image im. shared_either before target image (tree_of old)
+          (image_on is_in_store old settled image im)
+          (inl resolves))) is;
+      tree = λ before resolves. tree_after (ResolvesToEither before target) (relinks_to target) {E = E} result old new (inl resolves)
+          (either before target _ (turns_once target fits (tree_of old) before resolves)) is;
+      once = λ before resolves. turns_once target fits (tree_of old) before resolves;
+      done = all_done target fits {E = E} result old new is;
+      others = record {
+        touches = touches;
+        tree = λ path apart. tree_untouched (IsLinkTo target) old new touches path apart;
+        images = λ path apart. since_untouched_at (IsLinkTo target) path apart old new touches;
+      };
+    }

@@ -24,11 +24,13 @@ glyph_same : (m n : ℕ) → m < 16 → n < 16 → digit_glyph false m ≡ digit
 glyph_same m n one two same = grind (arith, nat_tests)
 
 pub glyphs-decimal : (n : ℕ) → n < 2 ^ 64 → Glyphs (decimal n)
-glyphs-decimal n below = decimal_by_steps (λ k ds. Glyphs ds) (λ k small. (small_glyph k small, tt)) (λ k ds large all. glyphs-append ds ((48 + k % 10) ∷ []) all (small_glyph (k % 10) (omega arith), tt)) n below
+glyphs-decimal n below = decimal_by_steps (λ k ds. Glyphs ds) (λ k small. (small_glyph k small, tt))
+    (λ k ds large all. glyphs-append ds ((48 + k % 10) ∷ []) all (small_glyph (k % 10) (omega arith), tt)) n below
 
 pub glyphs-hex : (count n : ℕ) → Glyphs (hex count n)
 glyphs-hex zero n = tt
-glyphs-hex (suc count) n = glyphs-append (hex count (n / 16)) (digit_glyph false (n % 16) ∷ []) (glyphs-hex count (n / 16)) (hex_glyph (n % 16) (omega arith), tt)
+glyphs-hex (suc count) n = glyphs-append (hex count (n / 16)) (digit_glyph false (n % 16) ∷ []) (glyphs-hex count (n / 16))
+    (hex_glyph (n % 16) (omega arith), tt)
 
 pub length-hex : (count n : ℕ) → length (hex count n) ≡ count
 length-hex zero n = refl
@@ -39,13 +41,15 @@ ends_same : (xs ys : List ℕ) (x y : ℕ) → length xs ≡ length ys → xs ++
 ends_same [] [] x y size same = (refl, cc)
 ends_same [] (y ∷ ys) a b size same = absurd (omega arith)
 ends_same (x ∷ xs) [] a b size same = absurd (omega arith)
-ends_same (x ∷ xs) (y ∷ ys) a b size same = let rest : xs ++ a ∷ [] ≡ ys ++ b ∷ [] = cc in let head : x ≡ y = cc in let more = ends_same xs ys a b (omega arith) rest in (cc, more.1)
+ends_same (x ∷ xs) (y ∷ ys) a b size same = let rest : xs ++ a ∷ [] ≡ ys ++ b ∷ [] = cc in let head : x ≡ y = cc in let more =
+    ends_same xs ys a b (omega arith) rest in (cc, more.1)
 
 -- The digits are those of one number.
 pub hex_same : (count m n : ℕ) → m < 16 ^ count → n < 16 ^ count → hex count m ≡ hex count n → m ≡ n
 hex_same zero m n one two same = omega arith
 hex_same (suc count) m n one two same =
-    let parts = ends_same (hex count (m / 16)) (hex count (n / 16)) (digit_glyph false (m % 16)) (digit_glyph false (n % 16)) (length-hex count (m / 16) ∙ sym (length-hex count (n / 16))) same in
+    let parts = ends_same (hex count (m / 16)) (hex count (n / 16)) (digit_glyph false (m % 16)) (digit_glyph false (n % 16))
+    (length-hex count (m / 16) ∙ sym (length-hex count (n / 16))) same in
     let high = hex_same count (m / 16) (n / 16) (grind arith) (grind arith) parts.0 in
     let low = glyph_same (m % 16) (n % 16) (omega arith) (omega arith) parts.1 in
     omega arith

@@ -1,4 +1,4 @@
--- Names as marks with digits behind them, and what they tell.
+-- Names as marks with digits after them, and what they tell.
 use Rattle.std.proofs.Common.{◌≡◌, ℕ, zero, suc, ◌<◌, ◌≤◌, ◌^◌, List, [], ◌∷◌, ◌++◌, length, codes, refl, sym, ◌∙◌, ap, arith, append_assoc}
 use Rattle.std.proofs.lemmas.Fmt.{decimal_injective}
 use Rattle.std.proofs.lemmas.List.{append-nil}
@@ -6,14 +6,14 @@ use Rattle.std.specs.Fmt.{decimal}
 use Rattle.version_links.specs.Names.{id_text, name_of}
 use Rattle.version_links.proofs.Glyphs.{Glyphs, Ends, glyphs-decimal, glyphs-hex, hex_same, same_runs}
 
--- The mark before a number, by how many numbers stand before it.
+-- The mark before a number, by how many numbers are before it.
 abbrev pub mark : ℕ → ℕ
 mark zero = 118
 mark (suc zero) = 46
 mark (suc (suc zero)) = 46
 mark (suc (suc (suc k))) = 95
 
--- The digits of a number, by how many numbers stand before it.
+-- The digits of a number, by how many numbers are before it.
 abbrev pub written : ℕ → ℕ → List ℕ
 written zero n = decimal n
 written (suc zero) n = decimal n
@@ -69,7 +69,8 @@ spread_same k [] (y ∷ ys) one two same = cc
 spread_same k (x ∷ xs) [] one two same = cc
 spread_same k (x ∷ xs) (y ∷ ys) one two same =
     let tails : written k x ++ spread (suc k) xs ≡ written k y ++ spread (suc k) ys = cc in
-    let parts = same_runs (written k x) (written k y) (spread (suc k) xs) (spread (suc k) ys) (glyphs-written k x one.0) (glyphs-written k y two.0) (ends-spread (suc k) xs) (ends-spread (suc k) ys) tails in
+    let parts = same_runs (written k x) (written k y) (spread (suc k) xs) (spread (suc k) ys) (glyphs-written k x one.0) (glyphs-written k y two.0)
+    (ends-spread (suc k) xs) (ends-spread (suc k) ys) tails in
     let head = written_same k x y one.0 two.0 parts.0 in
     let more = spread_same (suc k) xs ys one.1 two.1 parts.1 in
     cc
@@ -89,4 +90,5 @@ pub name_same : (xs ys : List ℕ) → length xs ≤ 4 → length ys ≤ 4 → F
 name_same [] [] few little one two same = refl
 name_same [] (y ∷ ys) few little one two same = absurd (not_current _ (same ∙ spread_is y ys (omega arith)))
 name_same (x ∷ xs) [] few little one two same = absurd (not_current _ (sym same ∙ spread_is x xs (omega arith)))
-name_same (x ∷ xs) (y ∷ ys) few little one two same = spread_same 0 (x ∷ xs) (y ∷ ys) one two (sym (spread_is x xs (omega arith)) ∙ same ∙ spread_is y ys (omega arith))
+name_same (x ∷ xs) (y ∷ ys) few little one two same = spread_same 0 (x ∷ xs) (y ∷ ys) one two
+    (sym (spread_is x xs (omega arith)) ∙ same ∙ spread_is y ys (omega arith))

@@ -1,5 +1,6 @@
 -- What it does to a tree's chain of links to point one link to a data directory.
-use Rattle.std.proofs.Common.{◌≡◌, ◌≢◌, inl, inr, ◌⊎◌, false, ℕ, ◌+◌, ◌<◌, ◌≤◌, ◌^◌, List, [], ◌∷◌, ◌++◌, length, codes, Some, None, refl, sym, ◌∙◌, ap, subst, arith, append_assoc, append-nil}
+use Rattle.std.proofs.Common.{◌≡◌, ◌≢◌, inl, inr, ◌⊎◌, false, ℕ, ◌+◌, ◌<◌, ◌≤◌, ◌^◌, List, []}
+use Rattle.std.proofs.Common.{◌∷◌, ◌++◌, length, codes, Some, None, refl, sym, ◌∙◌, ap, subst, arith, append_assoc, append-nil}
 use Rattle.std.specs.Ordering.{eq_by_cmp}
 use Rattle.outside.specs.Names.{path_cmp}
 use Rattle.outside.specs.Tree.{link, link_in, Tree, set_node, AgreeOn}
@@ -56,7 +57,8 @@ module _ (tree : Tree) (at : List ℕ) (n : ℕ) (short : length at < 4) (fits :
   here : HasStep new at n
   here = record { text = ap link_in (node_at-set_same tree (store (name_of at)) (Some (link (name_of (at ++ n ∷ []))))); fits = below }
 
-  elsewhere : (from : List ℕ) → eq_by_cmp path_cmp (store (name_of from)) (store (name_of at)) ≡ false → link_at new (name_of from) ≡ link_at tree (name_of from)
+  elsewhere : (from : List ℕ) → eq_by_cmp path_cmp (store (name_of from)) (store (name_of at)) ≡ false
+      → link_at new (name_of from) ≡ link_at tree (name_of from)
   elsewhere from other = ap link_in (node_at-set_other tree (store (name_of at)) (Some (link (name_of (at ++ n ∷ [])))) (store (name_of from)) other)
 
   -- It is this link, or it stays.
@@ -67,7 +69,8 @@ module _ (tree : Tree) (at : List ℕ) (n : ℕ) (short : length at < 4) (fits :
   ]
 
   -- A chain stays, or comes to that link.
-  walk : (from xs : List ℕ) → length from + length xs ≤ 4 → Fit from → Leads tree from xs → Leads new from xs ⊎ ((ys : List ℕ) × (from ++ ys ≡ at) × Leads new from ys)
+  walk : (from xs : List ℕ) → length from + length xs ≤ 4 → Fit from → Leads tree from xs
+      → Leads new from xs ⊎ ((ys : List ℕ) × (from ++ ys ≡ at) × Leads new from ys)
   walk from [] few fit led = inl tt
   walk from (x ∷ xs) few fit led = elim (link_cases from (omega arith) fit) [
     | inl same ↦ inr ([], append-nil from ∙ same, tt)
@@ -83,13 +86,21 @@ module _ (tree : Tree) (at : List ℕ) (n : ℕ) (short : length at < 4) (fits :
   beyond from [] longer few fit led = tt
   beyond from (x ∷ xs) longer few fit led = elim (link_cases from (omega arith) fit) [
     | inl same ↦ let e = ap length same in absurd (omega arith)
-    | inr stays ↦ (record { text = stays ∙ led.0.text; fits = led.0.fits }, beyond (from ++ x ∷ []) xs (let e = length-more from x [] in omega arith) (let e = length-more from x [] in omega arith) (fit-append from (x ∷ []) fit (led.0.fits, tt)) led.1)
+    | inr stays ↦ (
+      record { text = stays ∙ led.0.text; fits = led.0.fits },
+      beyond (from ++ x ∷ []) xs (let e = length-more from x [] in omega arith)
+          (let e = length-more from x [] in omega arith) (fit-append from (x ∷ []) fit (led.0.fits, tt)) led.1,
+    )
   ]
 
   module _ (rest : List ℕ) (few : length at + (1 + length rest) ≤ 4) (led : Leads tree (at ++ n ∷ []) rest) where
     -- The link leads on as its new text did.
     pub leads_on : Leads new at (n ∷ rest)
-    leads_on = (here, beyond (at ++ n ∷ []) rest (let e = length-more at n [] in omega arith) (let e = length-more at n [] in omega arith) (fit-append at (n ∷ []) fits (below, tt)) led)
+    leads_on = (
+      here,
+      beyond (at ++ n ∷ []) rest (let e = length-more at n [] in omega arith) (let e = length-more at n [] in omega arith)
+          (fit-append at (n ∷ []) fits (below, tt)) led,
+    )
 
     -- A chain that comes to the link leads on from there.
     turned : (ys : List ℕ) → ys ≡ at → Leads new [] ys → Leads new [] (at ++ n ∷ rest)
@@ -98,7 +109,9 @@ module _ (tree : Tree) (at : List ℕ) (n : ℕ) (short : length at < 4) (fits :
     -- `current` is a link still.
     still_there : link_at tree (codes "current") ≢ None → link_at new (codes "current") ≢ None
     still_there some none = elim (link_cases [] (omega arith) tt) [
-      | inl same ↦ let e : link_at new (name_of []) ≡ Some (name_of (at ++ n ∷ [])) = subst (λ (l : List ℕ). link_at new (name_of l) ≡ Some (name_of (at ++ n ∷ []))) (sym same) here.text in let no : None ≡ Some (name_of (at ++ n ∷ [])) = sym none ∙ e in cc
+      | inl same ↦ let e : link_at new (name_of []) ≡ Some (name_of (at ++ n ∷ [])) =
+          subst (λ (l : List ℕ). link_at new (name_of l) ≡ Some (name_of (at ++ n ∷ []))) (sym same) here.text in
+          let no : None ≡ Some (name_of (at ++ n ∷ [])) = sym none ∙ e in cc
       | inr stays ↦ some (sym stays ∙ none)
     ]
 

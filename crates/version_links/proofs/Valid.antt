@@ -1,5 +1,6 @@
 -- Names of links and data directories are names of paths.
-use Rattle.std.proofs.Common.{◌≡◌, true, false, ℕ, zero, suc, ◌*◌, ◌<◌, ◌≤◌, ◌^◌, List, [], ◌∷◌, ◌++◌, length, refl, ◌∙◌, ap, ap₂, arith, length-append, IsTrue, ◌&&◌, nat_le, not}
+use Rattle.std.proofs.Common.{◌≡◌, true, false, ℕ, zero, suc, ◌*◌, ◌<◌, ◌≤◌, ◌^◌, List, []}
+use Rattle.std.proofs.Common.{◌∷◌, ◌++◌, length, refl, ◌∙◌, ap, ap₂, arith, length-append, IsTrue, ◌&&◌, nat_le, not}
 use Rattle.std.proofs.lemmas.Bool.Decides.{nat_tests}
 use Rattle.std.proofs.lemmas.Fmt.{length-decimal-le}
 use Rattle.std.proofs.lemmas.List.Folds.{list_all-append}
@@ -9,7 +10,7 @@ use Rattle.version_links.specs.Names.{id_text, name_of}
 use Rattle.version_links.proofs.Glyphs.{is_glyph, Glyphs, length-hex}
 use Rattle.version_links.proofs.Spread.{Fit, mark, written, spread, spread_is, glyphs-written}
 
--- A digit may stand in a name.
+-- A digit may be in a name.
 glyph_named : (c : ℕ) → is_glyph c ≡ true → is_name_byte c ≡ true
 glyph_named c is = grind (arith, nat_tests)
 
@@ -48,7 +49,8 @@ spread_named : (k : ℕ) (ns : List ℕ) → Fit ns → list_all is_name_byte (s
 spread_named k [] fits = refl
 spread_named k (n ∷ ns) fits =
     ap₂ (λ a b. a && b) (mark_named k)
-    (list_all-append is_name_byte (written k n) (spread (suc k) ns) ∙ ap₂ (λ a b. a && b) (glyphs_named (written k n) (glyphs-written k n fits.0)) (spread_named (suc k) ns fits.1))
+    (list_all-append is_name_byte (written k n) (spread (suc k) ns) ∙ ap₂ (λ a b. a && b) (glyphs_named (written k n) (glyphs-written k n fits.0))
+    (spread_named (suc k) ns fits.1))
 
 -- What begins with `v` is no dots.
 no_dots : (xs : List ℕ) → is_dots (118 ∷ xs) ≡ false
@@ -57,7 +59,8 @@ no_dots (x ∷ []) = refl
 no_dots (x ∷ y ∷ xs) = refl
 
 v_named : (xs : List ℕ) → length xs ≤ 254 → list_all is_name_byte (118 ∷ xs) ≡ true → is_name (118 ∷ xs) ≡ true
-v_named xs few all = let dots = no_dots xs in let most : nat_le (length (118 ∷ xs)) 255 ≡ true = grind (arith, nat_tests) in let least : nat_le 1 (length (118 ∷ xs)) ≡ true = grind (arith, nat_tests) in
+v_named xs few all = let dots = no_dots xs in let most : nat_le (length (118 ∷ xs)) 255 ≡ true = grind (arith, nat_tests) in
+    let least : nat_le 1 (length (118 ∷ xs)) ≡ true = grind (arith, nat_tests) in
     ap₂ (λ a b. a && b) (ap₂ (λ a b. a && b) (ap₂ (λ a b. a && b) least most) all) (ap not dots)
 
 spread_valid : (n : ℕ) (ns : List ℕ) → length ns ≤ 3 → Fit (n ∷ ns) → is_name (spread 0 (n ∷ ns)) ≡ true

@@ -40,7 +40,8 @@ pub data Outcome : Type 0 where
 -- They lead nowhere where `current` is no link, and else to a data directory or to the first bad link.
 abbrev pub Resolves : Tree → Outcome → Type 0
 Resolves tree nowhere = link_at tree (codes "current") ≡ None
-Resolves tree (found version path) = (id : ℕ) × LeadsTo tree (record { version = version; id = id }) × (path ≡ directory (record { version = version; id = id }))
+Resolves tree (found version path) = (id : ℕ) × LeadsTo tree (record { version = version; id = id })
+    × (path ≡ directory (record { version = version; id = id }))
 Resolves tree (bad path) = (link_at tree (codes "current") ≢ None) × IsBadAt tree path
 
 -- The outcome that is this data directory.

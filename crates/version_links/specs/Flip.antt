@@ -64,9 +64,11 @@ ResolvesToEither before target tree = Resolves tree before ⊎ LeadsTo tree targ
 -- The path is that of one of the links that lead to a data directory.
 abbrev pub IsLinkTo : Target → Names → Type 0
 IsLinkTo target path = let v = target.version in
-    (path ≡ store (patch_name v.major v.minor v.patch)) ⊎ (path ≡ store (minor_name v.major v.minor)) ⊎ (path ≡ store (major_name v.major)) ⊎ (path ≡ store (codes "current"))
+    (path ≡ store (patch_name v.major v.minor v.patch)) ⊎ (path ≡ store (minor_name v.major v.minor)) ⊎ (path ≡ store (major_name v.major))
+    ⊎ (path ≡ store (codes "current"))
 
--- Only the links that lead to a data directory change: each other path keeps its node, and a crash since the start leaves there what it might have left at the start.
+-- Only the links that lead to a data directory change: each other path keeps its node, and a crash since the start leaves there what it might have left at
+-- the start.
 pub record ChangesOnlyLinks (target : Target) (old new : History) : Type 0 where
   pub touches : Touches (IsLinkTo target) old new
   pub tree : (path : Names) → (IsLinkTo target path → ⊥) → node_at (tree_of new) path ≡ node_at (tree_of old) path
@@ -76,7 +78,7 @@ pub record ChangesOnlyLinks (target : Target) (old new : History) : Type 0 where
 pub record Flips {E : Type 0} (target : Target) (result : Result Unit E) (old new : History) : Type 0 where
   -- The relinks are made from the data directory up to `current`, each with its sync.
   pub order : KeepsAll (relinks_to target) result old new
-  -- Where the links are settled at the start, they lead in every image since then where they led at the start, or to the data directory.
+  -- Where the links are settled at the start, they lead in every crash state since then where they led at the start, or to the data directory.
   pub any_moment : (before : Outcome) → IsSettledOn is_in_store old → Resolves (tree_of old) before → EachSince (ResolvesToEither before target) old new
   -- They lead so in the tree too, whatever a crash may leave.
   pub tree : (before : Outcome) → Resolves (tree_of old) before → ResolvesToEither before target (tree_of new)

@@ -6,11 +6,11 @@ use Rattle.version_links.specs.declared.chain.Place.{Place}
 use Rattle.version_links.specs.Names.{id_text}
 use Rattle.version_links.specs.Chain.{link_at, Outcome, nowhere, found}
 
--- Behind a `_` a number is an id of 16 hexadecimal digits, and behind another mark it is in decimal.
+-- After a `_` a number is an id of 16 hexadecimal digits, and after another mark it is in decimal.
 abbrev pub digits_behind : ℕ → ℕ → List ℕ
 digits_behind mark n = if mark == 95 then id_text n else decimal n
 
--- The text with a mark and a number behind it.
+-- The text with a mark and a number after it.
 abbrev pub extended : List ℕ → ℕ → ℕ → List ℕ
 extended front mark n = front ++ mark ∷ digits_behind mark n
 

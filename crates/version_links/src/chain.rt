@@ -23,7 +23,7 @@ pub struct Place {
     pub directory: Path,
 }
 
-// The text of the link with this name, and the number that it has behind the name and the mark.
+// The text of the link with this name, and the number that it has after the name and the mark.
 fn follow<D: Disk>(
     alloc: Global,
     disk: &mut D,
@@ -34,7 +34,8 @@ fn follow<D: Disk>(
     ensures link { IfOk result (λ step. WhereTold (D.told disk.old) (λ h. link_at (tree_of h) name.now ≡ Some step.0.items)) }
     ensures text { IfOk result (λ step. step.0.items ≡ extended name.now mark step.1) }
     ensures fits { IfOk result (λ step. step.1 < 2 ^ 64) }
-    ensures bad_link { (path : Names) → IsErrOf result (LinkError.BadLink path) → (path ≡ store name.now) × WhereTold (D.told disk.old) (λ h. IsStuck (tree_of h) name.now mark) }
+    ensures bad_link { (path : Names) → IsErrOf result (LinkError.BadLink path) → (path ≡ store name.now) × WhereTold (D.told disk.old)
+        (λ h. IsStuck (tree_of h) name.now mark) }
     ensures same { D.told disk.new ≡ D.told disk.old }
     ensures cause { HasCauseOf LinkError.Failed (D.faults disk.old) (D.faults disk.new) result }
     ensures bad_without_fault { (path : Names) → IsErrOf result (LinkError.BadLink path) → D.faults disk.new ≡ D.faults disk.old }
@@ -49,7 +50,7 @@ fn follow<D: Disk>(
     }
 }
 
-// The text of `current`, and the number that it has behind the `v`. None exactly where `current` is no link.
+// The text of `current`, and the number that it has after the `v`. None exactly where `current` is no link.
 fn first_step<D: Disk>(alloc: Global, disk: &mut D) -> Result<Option<(Vec<u8>, u64)>, LinkError>
     ensures link { IfOk result (λ found. WhereTold (D.told disk.old) (λ h. link_at (tree_of h) (codes "current") ≡ option_map (λ step. step.0.items) found)) }
     ensures text { IfOk result (λ found. IfSome found (λ step. step.0.items ≡ extended [] 118 step.1)) }
@@ -69,7 +70,7 @@ fn first_step<D: Disk>(alloc: Global, disk: &mut D) -> Result<Option<(Vec<u8>, u
     }
 }
 
-// The data directory to which the links lead behind `current`, whose text is that of this major version.
+// The data directory to which the links lead after `current`, whose text is that of this major version.
 fn place_behind<D: Disk>(
     alloc: Global,
     disk: &mut D,
@@ -101,8 +102,8 @@ fn place_behind<D: Disk>(
 /// The data directory to which the links lead from `store/current`, with its version. It changes nothing.
 ///
 /// None exactly where `store/current` is no link. `BadLink` exactly where a link of the chain is missing or its text
-/// doesn't go on as it should, with the first such path; `Failed` where the disk failed; `Memory` where memory is
-/// wanting.
+/// doesn't go on as it should, with the first such path; `Failed` where the disk failed; `Memory` where it ran
+/// out of memory.
 pub fn resolve<D: Disk>(alloc: Global, disk: &mut D) -> Result<Option<Place>, LinkError>
     ensures ok { IfOk result (λ found. WhereTold (D.told disk.old) (λ h. Resolves (tree_of h) (outcome_of found))) }
     ensures two_names { IfOk result (λ found. IfSome found (λ place. length place.directory ≡ 2)) }

@@ -21,7 +21,7 @@ fn relink<D: Disk>(disk: &mut D, link: &Link) -> Result<(), Failed>
 /// major version, and `current` last, each followed by a sync. It takes no memory.
 ///
 /// One of the relinks alone changes where the links lead, or none does where they led to the directory already. Where
-/// the links of the store are settled at the start, they lead in every image since then where they led at the start,
+/// the links of the store are settled at the start, they lead in every crash state since then where they led at the start,
 /// to a bad link or nowhere included, or to the directory: a link that an earlier version left never leads anywhere
 /// else. After Ok they lead to the directory, and this is on the disk. `Failed` where the disk failed.
 pub fn flip<D: Disk>(disk: &mut D, names: &Names) -> Result<(), Failed>

@@ -62,7 +62,7 @@ fn first_free<D: Disk>(alloc: Global, disk: &mut D, version: &Version) -> Result
 /// The names of a new data directory of the version: the one with the least id such that no path is below the
 /// directory, and the link that is named like the version doesn't name it. It changes nothing.
 ///
-/// `Failed` where the disk failed, `Memory` where memory is wanting, which would also be the answer if all ids below
+/// `Failed` where the disk failed, `Memory` where it ran out of memory, which would also be the answer if all ids below
 /// 2 ^ 64 - 1 were taken. It lists each directory of the version that is taken.
 pub fn fresh_dir<D: Disk>(alloc: Global, disk: &mut D, version: &Version) -> Result<Names, DiskErr>
     ensures version { IfOk result (λ names. names.version ≡ version.now) }

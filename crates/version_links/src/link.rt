@@ -27,7 +27,7 @@ pub fn link_of(alloc: Global, name: &[u8], text: Vec<u8>) -> Result<Link, AllocE
     Ok(Link { path, text })
 }
 
-/// The link with this name, whose text is the name with the mark and the number behind it.
+/// The link with this name, whose text is the name with the mark and the number after it.
 pub fn numbered_link(alloc: Global, name: &[u8], mark: u8, n: u64) -> Result<Link, AllocError>
     requires { IsTrue (is_name name.now) }
     ensures { IfOk result (λ link. IsLink link name.now (extended name.now mark n)) }

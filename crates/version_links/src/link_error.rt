@@ -15,7 +15,7 @@ pub enum LinkError {
         /// Where the link is, or should be.
         path: Path,
     },
-    /// Want of memory.
+    /// Out of memory.
     #[error("out of memory")]
     Memory,
 }

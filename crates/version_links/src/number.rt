@@ -73,7 +73,7 @@ fn past(text: &[u8], mark: u8) -> Option<&[u8]>
     }
 }
 
-// The number that these digits are behind the mark: an id behind a `_`, and else one in decimal.
+// The number that these digits are after the mark: an id after a `_`, and else one in decimal.
 fn value(digits: &[u8], mark: u8) -> Option<u64>
     ensures { MatchOption result ((n : ℕ) → n < 2 ^ 64 → digits.now ≢ digits_behind mark n)
         (λ n. digits.now ≡ digits_behind mark n) }
@@ -85,7 +85,7 @@ fn value(digits: &[u8], mark: u8) -> Option<u64>
     }
 }
 
-/// The number behind the front and the mark: an id behind a `_`, and else one in decimal.
+/// The number after the front and the mark: an id after a `_`, and else one in decimal.
 pub fn number_behind(text: &[u8], front: &[u8], mark: u8) -> Option<u64>
     ensures { MatchOption result ((n : ℕ) → n < 2 ^ 64 → text.now ≢ extended front.now mark n)
         (λ n. text.now ≡ extended front.now mark n) }
@@ -120,7 +120,7 @@ fn split_digits(text: &[u8]) -> (&[u8], &[u8])
     }
 }
 
-/// The number behind the mark at the front of the text, and what follows its digits: an id behind a `_`, and else a number
+/// The number after the mark at the front of the text, and what follows its digits: an id after a `_`, and else a number
 /// below 2 ^ 64 in decimal. None exactly where the text doesn't begin so. It takes no memory.
 pub fn first_number(text: &[u8], mark: u8) -> Option<(u64, &[u8])>
     ensures { MatchOption result (HasNoNumber mark text.now) (λ p. HasNumber mark text.now p.0 p.1.now) }

@@ -49,7 +49,7 @@ fn push_digits(text: &mut Vec<u8>, mark: u8, n: u64) -> Result<(), AllocError>
     }
 }
 
-/// The front with the mark and the number behind it: an id behind a `_`, and else in decimal.
+/// The front with the mark and the number after it: an id after a `_`, and else in decimal.
 pub fn with_number(alloc: Global, front: &[u8], mark: u8, n: u64) -> Result<Vec<u8>, AllocError>
     ensures { IfOk result (λ text. text.items ≡ extended front.now mark n) }
 {

@@ -6,7 +6,7 @@ ghost use Rattle.version_links.specs.Names.{store};
 use outside::{Name, Path};
 use std::alloc::{AllocError, Global};
 
-/// The path of this name in the folder `store`, or want of memory.
+/// The path of this name in the folder `store`, or out of memory.
 pub fn store_path(alloc: Global, name: &[u8]) -> Result<Path, AllocError>
     requires { IsTrue (is_name name.now) }
     ensures { IfOk result (λ path. path ≡ store name.now) }

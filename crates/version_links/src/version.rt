@@ -20,7 +20,7 @@ impl Version {
     /// The version that the text is by Semantic Versioning 2.0.0, as the crate `semver` reads it.
     ///
     /// None exactly where `semver` doesn't read the text, or a pre-release or build part is there. A text of three
-    /// numbers takes no memory, and none of the others matters, so want of memory never comes.
+    /// numbers takes no memory, and none of the others matters, so it never runs out of memory.
     pub fn read(alloc: Global, text: &str) -> Result<Option<Version>, AllocError>
         ensures { IfOk result (λ found. found ≡ version_of text.now) }
     {

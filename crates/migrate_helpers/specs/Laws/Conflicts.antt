@@ -20,10 +20,11 @@ use Rattle.migrate_helpers.specs.Laws.Standing.{stands_any, stands_none, fails_a
 
 -- A key that is no proper prefix of one that begins with it is that one.
 one_key : (k q : List (List ℕ)) → is_proper_prefix k q ≡ false → IsTrue (is_prefix k q) → k ≡ q
-one_key k q not_proper begins = key_cmp-IsAntisymmetric k q (tied_by _ (not-false _ (tie (is_prefix k q) (not (eq_by_cmp key_cmp k q)) begins not_proper))) where
-  tie : (a b : Bool) → a ≡ true → (a && b) ≡ false → b ≡ false
-  tie true b is both = both
-  tie false b is both = absurd (cc is)
+one_key k q not_proper begins = key_cmp-IsAntisymmetric k q (tied_by _
+    (not-false _ (tie (is_prefix k q) (not (eq_by_cmp key_cmp k q)) begins not_proper))) where
+      tie : (a b : Bool) → a ≡ true → (a && b) ≡ false → b ≡ false
+      tie true b is both = both
+      tie false b is both = absurd (cc is)
 
 not_proper : (k q : List (List ℕ)) (b : Bool) → is_prefix k q ≡ b → (IsTrue (is_prefix k q) → k ≡ q) → is_proper_prefix k q ≡ false
 not_proper k q false is one = and_left _ _ is
@@ -31,12 +32,14 @@ not_proper k q true is one = and_right _ _ (ap not (ap (eq_by_cmp key_cmp k) (sy
 
 module _ {X : Type 0} (m : FinMap key_cmp X) where
   none_longer : (k : List (List ℕ)) → HasNoLonger m k → has_longer m k ≡ false
-  none_longer k alone = stands_none key_total key_cmp-IsAntisymmetric m (is_proper_prefix k) (λ q has. not_proper k q (is_prefix k q) refl (λ begins. alone.alone q has begins))
+  none_longer k alone = stands_none key_total key_cmp-IsAntisymmetric m (is_proper_prefix k)
+      (λ q has. not_proper k q (is_prefix k q) refl (λ begins. alone.alone q has begins))
 
   -- The next key tells whether a key is a proper prefix of another.
   pub next_longer : (k n : List (List ℕ)) (x : X) (b : Bool) → IsLeastAfter m (Some k) n x → b ≡ is_prefix k n → b ≡ has_longer m k
   next_longer k n x true next is =
-      sym (stands_any key_total key_cmp-IsAntisymmetric m (is_proper_prefix k) n (ap is_some next.stands) (and_from _ _ (sym is) (ap (λ r. not (is_eq r)) next.past)))
+      sym (stands_any key_total key_cmp-IsAntisymmetric m (is_proper_prefix k) n (ap is_some next.stands)
+      (and_from _ _ (sym is) (ap (λ r. not (is_eq r)) next.past)))
   next_longer k n x false next is = sym (none_longer k (longer_some m k n x next (sym is)))
 
   -- The last key is no proper prefix of another.
@@ -52,7 +55,8 @@ module _ {X : Type 0} (m : FinMap key_cmp X) where
 
   at_next : (after : Option (List (List ℕ))) (k : List (List ℕ)) (x : X) → IsLeastAfter m after k x
       → conflict_past after ≡ cond (has_longer m k) (Some k) (conflict_past (Some k))
-  at_next after k x next = ap (λ (es : List (List (List ℕ) × X)). find (has_longer m) (map (λ e. e.0) es)) (walk_next key_total key_cmp-IsAntisymmetric m after k x next)
+  at_next after k x next = ap (λ (es : List (List (List ℕ) × X)). find (has_longer m) (map (λ e. e.0) es))
+      (walk_next key_total key_cmp-IsAntisymmetric m after k x next)
 
   -- A walk that finds a proper prefix has found the conflict.
   pub conflict_found : (after : Option (List (List ℕ))) (k : List (List ℕ)) (x : X) → IsLeastAfter m after k x → conflict_past after ≡ conflict m

@@ -50,12 +50,13 @@ keeps_step (Renames pairs) h g rule made = keeps_edited (Renames pairs) h g made
 keeps_step (RemovesNames key names) h g rule made = keeps_metadata h g _ (record { live = rule.live; pending = rule.pending }) refl refl made
 keeps_step (ReplacesName key name old new) h g rule made = keeps_metadata h g _ (record { live = rule.live; pending = rule.pending }) refl refl made
 keeps_step RemovesWeak h g rule made =
-    keeps_metadata h g (record h { live = strong h.live }) (record { live = removed_free h.live.weak h.live.values rule.live; pending = rule.pending }) refl refl made
+    keeps_metadata h g (record h { live = strong h.live }) (record { live = removed_free h.live.weak h.live.values rule.live; pending = rule.pending }) refl
+    refl made
 
 fine_step : (h : Held) (e : MapError) → ◌≡◌ {A = Result Held MapError} (Ok h) (Err e) → e ≢ Memory
 fine_step h e is = absurd (cc is)
 
--- No step refuses for want of memory.
+-- No step refuses because it is out of memory.
 pub refuses_step : (step : Step) (h : Held) (e : MapError) → after_step step h ≡ Err e → e ≢ Memory
 refuses_step Stays h e is = fine_step _ e is
 refuses_step (Removes keys) h e is = never_memory _ _ e is

@@ -33,7 +33,7 @@ or_none (Some x) = refl
 pub in_order : {K X : Type 0} {R : K → K → Ordering} (m : FinMap R X) → is_sorted R (entries m) ≡ true
 in_order m = of_T _ (entries_sorted m)
 
--- Nothing stands at a key that is below all others.
+-- Nothing is at a key that is below all others.
 pub none_below : {K X : Type 0} (R : K → K → Ordering) (es : List (K × X)) (k : K) → below_all R k es ≡ true → find R k es ≡ None
 none_below R [] k below = refl
 none_below R (e ∷ es) k below =
@@ -44,7 +44,7 @@ none_below R (e ∷ es) k below =
 abbrev pub with_mapped : {K X Y : Type 0} {R : K → K → Ordering} → (K → X → Y) → FinMap R Y → List (K × X) → FinMap R Y
 with_mapped f n es = fold (λ n e. insert n e.0 (f e.0 e.1)) n es
 
--- What is found behind the first entry is found.
+-- What is found after the first entry is found.
 pub found_behind : {K X : Type 0} {R : K → K → Ordering} → IsAntisymmetric R → (e : K × X) (es : List (K × X)) (k : K) (x : X) → below_all R e.0 es ≡ true
     → find R k es ≡ Some x → find R k (e ∷ es) ≡ Some x
 found_behind {K = K} {R = R} same e es k x below has = by (eq_by_cmp R k e.0) refl where
@@ -62,14 +62,15 @@ module _ {K X Y : Type 0} {R : K → K → Ordering} (o : IsTotalOrder R) (same 
         sorted = and_parts (below_all R e.0 es) (is_sorted R es) rises
 
         by : (b : Bool) → eq_by_cmp R q e.0 ≡ b
-            → option_or (option_map (f q) (find R q es)) (cond b (Some (f e.0 e.1)) (get n q)) ≡ option_or (option_map (f q) (cond b (Some e.1) (find R q es))) (get n q)
+            → option_or (option_map (f q) (find R q es)) (cond b (Some (f e.0 e.1)) (get n q)) ≡ option_or (option_map (f q) (cond b (Some e.1) (find R q es)))
+            (get n q)
         by true is =
             let one : q ≡ e.0 = same q e.0 (tied_by _ is) in
             ap (λ z. option_or (option_map (f q) z) (Some (f e.0 e.1))) (ap (λ (k : K). find R k es) one ∙ none_below R es e.0 sorted.0)
             ∙ ap (λ (k : K). Some (f k e.1)) (sym one)
         by false is = refl
 
-  -- What stands at each key.
+  -- What is at each key.
   pub get-mapped : (m : FinMap R X) (q : K) → get (mapped f m) q ≡ option_map (f q) (get m q)
   get-mapped m q = get-with_mapped (entries m) empty q (in_order m) ∙ ap (option_or (option_map (f q) (find R q (entries m)))) (get-empty R q) ∙ or_none _
       ∙ ap (option_map (f q)) (sym (get-entries m q))
@@ -85,7 +86,8 @@ module _ {K X Y : Type 0} {R : K → K → Ordering} (o : IsTotalOrder R) (same 
       ∙ sym (ap (with_mapped f n) (walk_next o same m after k x next)) ∙ left
 
   -- A walk that ends has mapped them all.
-  pub mapped_end : (m : FinMap R X) (after : Option K) (n : FinMap R Y) → HasNoneAfter m after → with_mapped f n (entries_past m after) ≡ mapped f m → n ≡ mapped f m
+  pub mapped_end : (m : FinMap R X) (after : Option K) (n : FinMap R Y) → HasNoneAfter m after → with_mapped f n (entries_past m after) ≡ mapped f m
+      → n ≡ mapped f m
   mapped_end m after n none left = sym (ap (with_mapped f n) (walk_end o same m after none)) ∙ left
 
 some_before : {X Y : Type 0} (f : X → Y) (z : Option X) → IsSome (option_map f z) → IsSome z

@@ -32,7 +32,8 @@ refused None x y e is = absurd (cc is)
 refused (Some k) x y e is = ap Err (ap (λ r. error_or r e) is)
 
 -- So does the first of two conflicts.
-pub refused_first : {X Y : Type 0} (a b : Option (List (List ℕ))) (x : X) (y : Y) (e : MapError) → unless_conflict a x ≡ Err e → unless_conflict (option_or a b) y ≡ Err e
+pub refused_first : {X Y : Type 0} (a b : Option (List (List ℕ))) (x : X) (y : Y) (e : MapError) → unless_conflict a x ≡ Err e
+    → unless_conflict (option_or a b) y ≡ Err e
 refused_first None b x y e is = absurd (cc is)
 refused_first (Some k) b x y e is = refused (Some k) x y e is
 
@@ -42,7 +43,7 @@ pub refused_second : {X Y Z : Type 0} (a b : Option (List (List ℕ))) (x z : X)
 refused_second None b x z y w e fine is = refused b y w e is
 refused_second (Some k) b x z y w e fine is = absurd (cc fine)
 
--- A refusal is never want of memory.
+-- A refusal is never `Memory`.
 pub never_memory : {X : Type 0} (c : Option (List (List ℕ))) (x : X) (e : MapError) → unless_conflict c x ≡ Err e → e ≢ Memory
 never_memory None x e is memory = absurd (cc is)
 never_memory (Some k) x e is memory = absurd (cc (is, memory))
@@ -65,7 +66,8 @@ pub held_allowed : (h : Held) (a b : Option (List (List ℕ))) (x live : Content
 held_allowed h a b x live y pending made first second is =
     let one = allowed a x live first in
     let two = allowed b y pending second in
-    ap (λ c. unless_conflict (option_or c b) (record h { live = x; pending = y })) one.0 ∙ ap (λ c. unless_conflict c (record h { live = x; pending = y })) two.0
+    ap (λ c. unless_conflict (option_or c b) (record h { live = x; pending = y })) one.0 ∙ ap (λ c. unless_conflict c (record h { live = x; pending = y }))
+    two.0
     ∙ ap Ok (ap (λ (l : Contents). record h { live = l; pending = y }) one.1
     ∙ ap (λ (p : FinMap bytes_cmp (FinMap key_cmp Pending)). record h { live = live; pending = p }) two.1 ∙ sym is)
 

@@ -29,14 +29,14 @@ module _ {K X : Type 0} {R : K → K → Ordering} (o : IsTotalOrder R) (same : 
         later true z has = refl
         later false z has = has
 
-  -- Some key passes where one that stands in the map does.
+  -- Some key passes where one that is in the map does.
   pub stands_any : (m : FinMap R X) (p : K → Bool) (k : K) → IsSome (get m k) → p k ≡ true → list_any p (keys m) ≡ true
   stands_any m p k has passes = any_of (entries m) p k (subst IsSome (get-entries m k) has) passes
 
-  -- No key passes where none that stands in the map does.
+  -- No key passes where none that is in the map does.
   pub stands_none : (m : FinMap R X) (p : K → Bool) → ((k : K) → IsSome (get m k) → p k ≡ false) → list_any p (keys m) ≡ false
   stands_none m p none = none_of (entries m) p (λ k has. none k (subst IsSome (sym (get-entries m k)) has))
 
-  -- Where no key passes, none that stands in the map does.
+  -- Where no key passes, none that is in the map does.
   pub fails_at : (m : FinMap R X) (p : K → Bool) (k : K) → list_any p (keys m) ≡ false → IsSome (get m k) → p k ≡ false
   fails_at m p k none has = false_from_ne_true (p k) (λ passes. both_ways _ none (stands_any m p k has passes))

@@ -80,12 +80,14 @@ pub record Edited (step : Step) (p m : Pendings) (after : Option (List ℕ)) : T
 module _ (step : Step) (p : Pendings) where
   pub edited_start : (m : Pendings) → m ≡ empty → Edited step p m None
   edited_start m none = record {
-    maps = ap (λ (w : Pendings). with_edited step w (entries_past p None)) none ∙ ap (with_edited step empty) (walk_start bytes_total bytes_cmp-IsAntisymmetric p);
+    maps = ap (λ (w : Pendings). with_edited step w (entries_past p None)) none
+        ∙ ap (with_edited step empty) (walk_start bytes_total bytes_cmp-IsAntisymmetric p);
     conflicts = ap (first_conflict step) (walk_start bytes_total bytes_cmp-IsAntisymmetric p);
     pending = subst IsPending (sym none) none_pending;
   }
 
-  module _ (m : Pendings) (after : Option (List ℕ)) (tx : List ℕ) (keys : FinMap key_cmp Pending) (next : IsLeastAfter p after tx keys) (so_far : Edited step p m after) where
+  module _ (m : Pendings) (after : Option (List ℕ)) (tx : List ℕ) (keys : FinMap key_cmp Pending) (next : IsLeastAfter p after tx keys)
+      (so_far : Edited step p m after) where
     at : entries_past p after ≡ (tx, keys) ∷ entries_past p (Some tx)
     at = walk_next bytes_total bytes_cmp-IsAntisymmetric p after tx keys next
 
@@ -93,12 +95,14 @@ module _ (step : Step) (p : Pendings) where
     conflicts_at = sym (ap (first_conflict step) at) ∙ so_far.conflicts
 
     -- The next transaction is edited and set.
-    pub edited_next : (made : FinMap key_cmp Pending) (now : Pendings) → unless_conflict (conflict (pending_edited step keys)) (pending_edited step keys) ≡ Ok made
+    pub edited_next : (made : FinMap key_cmp Pending) (now : Pendings) → unless_conflict (conflict (pending_edited step keys)) (pending_edited step keys) ≡ Ok
+        made
         → now ≡ with_inner m tx made → Edited step p now (Some tx)
     edited_next made now fine set =
         let parts = allowed (conflict (pending_edited step keys)) (pending_edited step keys) made fine in
         record {
-          maps = ap (λ (w : Pendings). with_edited step w (entries_past p (Some tx))) (set ∙ ap (with_inner m tx) (sym parts.1)) ∙ sym (ap (with_edited step m) at)
+          maps = ap (λ (w : Pendings). with_edited step w (entries_past p (Some tx))) (set ∙ ap (with_inner m tx) (sym parts.1))
+              ∙ sym (ap (with_edited step m) at)
               ∙ so_far.maps;
           conflicts = sym (ap (λ c. option_or c (first_conflict step (entries_past p (Some tx)))) parts.0) ∙ conflicts_at;
           pending = subst IsPending (sym set) (set_keeps m tx made so_far.pending (free_allowed (pending_edited step keys) made fine));

@@ -5,7 +5,8 @@ use Rattle.affected_apply.proofs.noting.merge_down.Given as goal
 
 abbrev pub invariant-loop-two : goal.invariant-loop-two
 invariant-loop-two l = record {
-  merged : l.all.items ++ joined (reverse l.one.items) (reverse l.two.items) ≡ l.initial.all.items ++ joined (reverse l.initial.one.items) (reverse l.initial.two.items);
+  merged : l.all.items ++ joined (reverse l.one.items) (reverse l.two.items) ≡ l.initial.all.items
+      ++ joined (reverse l.initial.one.items) (reverse l.initial.two.items);
   len : vec_len l.all + vec_len l.one + vec_len l.two ≤ vec_len l.initial.all + vec_len l.initial.one + vec_len l.initial.two;
   room : vec_capacity l.initial.all ≤ vec_capacity l.all;
 }

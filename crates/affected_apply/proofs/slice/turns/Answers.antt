@@ -13,8 +13,10 @@ loop-job-init g c = (
   moves_stay (none_yet c.args.store.now c.args.slice c.args.held.now (job_of c.args.job.now) (g.S.Spawner.runs c.args.spawner.now)),
   c.requires.known,
   λ e. e,
-  no_cause (is_running (job_of c.args.job.now) && failed_with_disk (job_of c.args.job.now)) (first_fine (job_of c.args.job.now)) (g.D.Disk.faults c.args.disk.now),
-  no_cause (is_running (job_of c.args.job.now) && failed_to_spawn (job_of c.args.job.now)) (first_unspawned (job_of c.args.job.now)) (g.S.Spawner.faults c.args.spawner.now),
+  no_cause (is_running (job_of c.args.job.now) && failed_with_disk (job_of c.args.job.now)) (first_fine (job_of c.args.job.now))
+      (g.D.Disk.faults c.args.disk.now),
+  no_cause (is_running (job_of c.args.job.now) && failed_to_spawn (job_of c.args.job.now)) (first_unspawned (job_of c.args.job.now))
+      (g.S.Spawner.faults c.args.spawner.now),
   refl,
   λ e. e,
   refl,
@@ -27,16 +29,19 @@ loop-job-preserved g c =
     let running : is_running (job_of c.loop-job.job) ≡ true = sym c.is_running.ensures ∙ c.if-is_running.true in
     let ran : is_running (job_of c.args.job.now) ≡ true = inv.2 running in (
       moves_then
-          (λ old mid new so_far turn. one_more c.args.store.now c.args.slice c.loop-job.left c.one_less-left.result c.one_less-left.ensures c.args.held.now (job_of c.args.job.now)
+          (λ old mid new so_far turn. one_more c.args.store.now c.args.slice c.loop-job.left c.one_less-left.result c.one_less-left.ensures c.args.held.now
+          (job_of c.args.job.now)
           c.loop-job.held (job_of c.loop-job.job) c.turn.new.held (job_of c.turn.new.job)
-          (g.S.Spawner.runs c.args.spawner.now) (g.S.Spawner.runs c.loop-job.spawner) (g.S.Spawner.runs c.turn.new.spawner) old mid new ran running some so_far turn)
+          (g.S.Spawner.runs c.args.spawner.now) (g.S.Spawner.runs c.loop-job.spawner) (g.S.Spawner.runs c.turn.new.spawner) old mid new ran running some so_far
+          turn)
           inv.0 c.turn.ensures.event,
       c.turn.ensures.known,
       λ e. ran,
       cause_more (g.D.Disk.faults c.args.disk.now) (g.D.Disk.faults c.loop-job.disk) (g.D.Disk.faults c.turn.new.disk) (is_running (job_of c.args.job.now))
           (failed_with_disk (job_of c.loop-job.job)) (failed_with_disk (job_of c.turn.new.job))
           ran (running_fine (job_of c.loop-job.job) running) inv.3 c.turn.ensures.disk_faults,
-      cause_more (g.S.Spawner.faults c.args.spawner.now) (g.S.Spawner.faults c.loop-job.spawner) (g.S.Spawner.faults c.turn.new.spawner) (is_running (job_of c.args.job.now))
+      cause_more (g.S.Spawner.faults c.args.spawner.now) (g.S.Spawner.faults c.loop-job.spawner) (g.S.Spawner.faults c.turn.new.spawner)
+          (is_running (job_of c.args.job.now))
           (failed_to_spawn (job_of c.loop-job.job))
           (failed_to_spawn (job_of c.turn.new.job))
           ran (running_unspawned (job_of c.loop-job.job) running) inv.4 c.turn.ensures.spawner_faults,

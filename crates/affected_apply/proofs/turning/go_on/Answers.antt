@@ -15,7 +15,8 @@ returns-in-Wrote-clause-event g c = moves_map
 
 pub returns-in-Ran-clause-event : goal.returns-in-Ran-clause-event
 returns-in-Ran-clause-event g c = moves_map
-    (λ old new makes. turn_made c.args.store.now c.args.held.now c.args.job.work c.turn.new.self.work (turn.Ran c.in-Ran.service c.in-Ran.index) _ refl refl refl refl
+    (λ old new makes. turn_made c.args.store.now c.args.held.now c.args.job.work c.turn.new.self.work (turn.Ran c.in-Ran.service c.in-Ran.index) _ refl refl
+    refl refl
     (λ same. cc) c.requires.known
     (g.S.Spawner.runs c.args.spawner.now) (g.S.Spawner.runs c.turn.new.spawner) old new makes)
     c.in-Ran.ensures.machine

@@ -5,7 +5,8 @@ use Rattle.api_core.proofs.live_values.settings_below.Goals as goal
 
 pub returns-then-not-is_setting : goal.returns-then-not-is_setting
 returns-then-not-is_setting c = c.new.ensures.items
-    ∙ sym (below_other c.args.live.now.values c.args.prefix.now (key_some c.args.prefix.now c.len.ensures.valid) (sym c.is_setting.ensures ∙ c.if-not-is_setting.true))
+    ∙ sym (below_other c.args.live.now.values c.args.prefix.now (key_some c.args.prefix.now c.len.ensures.valid)
+    (sym c.is_setting.ensures ∙ c.if-not-is_setting.true))
 
 pub returns : goal.returns
 returns c = IfOk-weaker c.below.result _ _

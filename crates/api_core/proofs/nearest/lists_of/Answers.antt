@@ -15,7 +15,8 @@ loop-key-smaller c = walk_falls key_total key_cmp-IsAntisymmetric c.args.once.no
 
 pub loop-key-preserved : goal.loop-key-preserved
 loop-key-preserved c = added_more (has_near c.args.index.now) (near_entry c.args.index.now) _ _ _ _ _ (c.in-Some.key.now, tt) c.loop-key.invariant
-    (walk_next key_total key_cmp-IsAntisymmetric c.args.once.now (option_copied c.loop-key.after) c.in-Some.key.now _ c.in-Some.ensures.least) c.in_ok-push_nearest.ensures
+    (walk_next key_total key_cmp-IsAntisymmetric c.args.once.now (option_copied c.loop-key.after) c.in-Some.key.now _ c.in-Some.ensures.least)
+    c.in_ok-push_nearest.ensures
 
 pub returns : goal.returns
 returns c = listed_all _ _ _ c.loop-key.invariant (ap (λ es. map (near_entry c.args.index.now) (filter (has_near c.args.index.now) es))

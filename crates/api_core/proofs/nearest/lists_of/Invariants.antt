@@ -7,7 +7,8 @@ use Rattle.api_core.proofs.nearest.lists_of.Given as goal
 
 -- the lists of the keys that are left are to be added
 abbrev pub invariant-loop-key : goal.invariant-loop-key
-invariant-loop-key l = map (λ e. (e.0, e.1.items)) l.lists.items ++ map (near_entry l.index) (filter (has_near l.index) (entries_past l.once (option_copied l.after)))
+invariant-loop-key l = map (λ e. (e.0, e.1.items)) l.lists.items ++ map (near_entry l.index)
+    (filter (has_near l.index) (entries_past l.once (option_copied l.after)))
     ≡ map (near_entry l.index) (filter (has_near l.index) (entries l.once))
 
 abbrev pub decreases-loop-key : goal.decreases-loop-key

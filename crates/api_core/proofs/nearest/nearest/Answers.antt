@@ -12,7 +12,8 @@ returns-in-Some c = found_is c.args.index.now c.args.key.now c.loop-len.len c.in
 pub loop-len-preserved : goal.loop-len-preserved
 loop-len-preserved c = record {
   within = omega arith;
-  so_far = sym (greatest_miss (has_list c.args.index.now c.args.key.now) c.loop-len.len (c.loop-len.len - 1) (omega arith) (ap is_some (sym c.in-None.ensures.list)))
+  so_far = sym (greatest_miss (has_list c.args.index.now c.args.key.now) c.loop-len.len (c.loop-len.len - 1) (omega arith)
+      (ap is_some (sym c.in-None.ensures.list)))
       ∙ c.loop-len.invariant.so_far;
 }
 

@@ -11,8 +11,10 @@ pub returns-in-Err-TooManyHeaders-clause-refused : goal.returns-in-Err-TooManyHe
 returns-in-Err-TooManyHeaders-clause-refused c _ =
     let part = c.requires.part in
     let room = length c.args.headers.now in (
-      subst HasNoRequest (sym part) (none_overflows c.args.bytes.now room c.requires.room (subst (RequestOverflows room) part c.in-Err-TooManyHeaders.ensures.no_room)),
-      inl (ap line_feeds part ∙ full_exceeds c.args.bytes.now room c.requires.room (subst (RequestExceeds room) part (c.in-Err-TooManyHeaders.ensures.too_many (ap Err c.in-Err-TooManyHeaders.field-0-is)))),
+      subst HasNoRequest (sym part) (none_overflows c.args.bytes.now room c.requires.room
+          (subst (RequestOverflows room) part c.in-Err-TooManyHeaders.ensures.no_room)),
+      inl (ap line_feeds part ∙ full_exceeds c.args.bytes.now room c.requires.room
+          (subst (RequestExceeds room) part (c.in-Err-TooManyHeaders.ensures.too_many (ap Err c.in-Err-TooManyHeaders.field-0-is)))),
     )
 
 pub returns-in-Err-clause-refused : goal.returns-in-Err-clause-refused
@@ -28,7 +30,8 @@ pub returns-in-Err-TooManyHeaders-clause-none : goal.returns-in-Err-TooManyHeade
 returns-in-Err-TooManyHeaders-clause-none c =
     let part = c.requires.part in
     let room = length c.args.headers.now in
-    subst HasNoRequest (sym part) (none_overflows c.args.bytes.now room c.requires.room (subst (RequestOverflows room) part c.in-Err-TooManyHeaders.ensures.no_room))
+    subst HasNoRequest (sym part) (none_overflows c.args.bytes.now room c.requires.room
+    (subst (RequestOverflows room) part c.in-Err-TooManyHeaders.ensures.no_room))
 
 pub returns-in-Err-clause-none : goal.returns-in-Err-clause-none
 returns-in-Err-clause-none c =

@@ -15,4 +15,5 @@ pub returns-in-Apply : goal.returns-in-Apply
 returns-in-Apply c pairs body none = rw c.in-Apply.is (at_apply none)
 
 pub returns-in_default : goal.returns-in_default
-returns-in_default c pairs body none = rw (last_bare c.args.route c.requires c.in_default.not-Root c.in_default.not-OsNames c.in_default.not-TxList c.in_default.not-Apply) (at_job none)
+returns-in_default c pairs body none = rw (last_bare c.args.route c.requires c.in_default.not-Root c.in_default.not-OsNames c.in_default.not-TxList
+    c.in_default.not-Apply) (at_job none)

@@ -12,4 +12,5 @@ pub returns-in-Commit : goal.returns-in-Commit
 returns-in-Commit c pairs body names = rw c.in-Commit.is (at_commit _ names)
 
 pub returns-in_default : goal.returns-in_default
-returns-in_default c pairs body names = rw (last_tx c.args.route c.requires c.in_default.not-Pending c.in_default.not-DropTx c.in_default.not-Commit) (at_commit_and_apply _ names)
+returns-in_default c pairs body names = rw (last_tx c.args.route c.requires c.in_default.not-Pending c.in_default.not-DropTx c.in_default.not-Commit)
+    (at_commit_and_apply _ names)

@@ -2,7 +2,7 @@ use Rattle.std.proofs.Common.{rules, ◌≡◌, ◌++◌, ◌∙◌, ap, drop, l
 use Rattle.std.proofs.Math.Seq.{drop-append_seam}
 use Rattle.api_http.proofs.reply.ended.Goals as goal
 
--- the bytes, and what of them is behind the head
+-- the bytes, and what of them is after the head
 parts : (bytes head front body : List ℕ) (at : ℕ) → bytes ≡ head ++ body → head ≡ front → at ≡ length head → (bytes ≡ front ++ body) × (drop at bytes ≡ body)
 parts bytes head front body at is begins here = (
   is ∙ ap (λ (l : List ℕ). l ++ body) begins,

@@ -6,15 +6,18 @@ use Rattle.std.proofs.lemmas.Result.{IfOk-weaker}
 
 pub returns-clause-every_whole : goal.returns-clause-every_whole
 returns-clause-every_whole c =
-    if_all c.reading_of.result _ _ _ _ (λ reading whole refused not_yet. every_whole c.args.bytes.now reading (record { whole = whole; refused = refused; not_yet = not_yet })) c.reading_of.ensures.whole c.reading_of.ensures.refused c.reading_of.ensures.not_yet
+    if_all c.reading_of.result _ _ _ _ (λ reading whole refused not_yet. every_whole c.args.bytes.now reading
+    (record { whole = whole; refused = refused; not_yet = not_yet })) c.reading_of.ensures.whole c.reading_of.ensures.refused c.reading_of.ensures.not_yet
 
 pub returns-clause-every_refused : goal.returns-clause-every_refused
 returns-clause-every_refused c =
-    if_all c.reading_of.result _ _ _ _ (λ reading whole refused not_yet. every_refused c.args.bytes.now reading (record { whole = whole; refused = refused; not_yet = not_yet })) c.reading_of.ensures.whole c.reading_of.ensures.refused c.reading_of.ensures.not_yet
+    if_all c.reading_of.result _ _ _ _ (λ reading whole refused not_yet. every_refused c.args.bytes.now reading
+    (record { whole = whole; refused = refused; not_yet = not_yet })) c.reading_of.ensures.whole c.reading_of.ensures.refused c.reading_of.ensures.not_yet
 
 pub returns-clause-every_wait : goal.returns-clause-every_wait
 returns-clause-every_wait c =
-    if_all c.reading_of.result _ _ _ _ (λ reading whole refused not_yet. every_wait c.args.bytes.now reading (record { whole = whole; refused = refused; not_yet = not_yet })) c.reading_of.ensures.whole c.reading_of.ensures.refused c.reading_of.ensures.not_yet
+    if_all c.reading_of.result _ _ _ _ (λ reading whole refused not_yet. every_wait c.args.bytes.now reading
+    (record { whole = whole; refused = refused; not_yet = not_yet })) c.reading_of.ensures.whole c.reading_of.ensures.refused c.reading_of.ensures.not_yet
 
 pub returns-clause-stays : goal.returns-clause-stays
 returns-clause-stays c = IfOk-weaker c.reading_of.result _ _ (whole_stays c.args.bytes.now) c.reading_of.ensures.whole
@@ -33,4 +36,5 @@ returns-clause-within c = IfOk-weaker c.reading_of.result _ _ (whole_within c.ar
 
 pub returns-clause-cut : goal.returns-clause-cut
 returns-clause-cut c =
-    if_all c.reading_of.result _ _ _ _ (λ reading whole refused _. cut_waits c.args.bytes.now reading whole refused) c.reading_of.ensures.whole c.reading_of.ensures.refused c.reading_of.ensures.not_yet
+    if_all c.reading_of.result _ _ _ _ (λ reading whole refused _. cut_waits c.args.bytes.now reading whole refused) c.reading_of.ensures.whole
+    c.reading_of.ensures.refused c.reading_of.ensures.not_yet

@@ -13,4 +13,5 @@ returns-in-Refused c =
 pub returns-in-Planned : goal.returns-in-Planned
 returns-in-Planned c =
     let t : Told = record { method = c.args.method.now; target = c.args.target.now; fields = map (header_bytes c.args.part.now) c.args.headers.now } in
-    rw c.planned.ensures (planned_tells t c.in-Planned.plan c.args.size c.has_field-coded.result (subst (AimsAt t) c.in-Planned.is (c.in_ok-refusal.ensures t.fields)) c.requires.sound c.has_field-coded.ensures)
+    rw c.planned.ensures (planned_tells t c.in-Planned.plan c.args.size c.has_field-coded.result
+    (subst (AimsAt t) c.in-Planned.is (c.in_ok-refusal.ensures t.fields)) c.requires.sound c.has_field-coded.ensures)

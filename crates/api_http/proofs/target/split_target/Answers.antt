@@ -7,4 +7,5 @@ returns-clause-path c = c.split_at.ensures.front ∙ ap (λ n. take n c.args.tar
 
 pub returns-clause-query : goal.returns-clause-query
 returns-clause-query c =
-    c.behind_first.ensures ∙ ap (drop 1) c.split_at.ensures.back ∙ drop-drop 1 c.path_len.result c.args.target.now ∙ ap (λ n. drop (n + 1) c.args.target.now) c.path_len.ensures.value
+    c.behind_first.ensures ∙ ap (drop 1) c.split_at.ensures.back ∙ drop-drop 1 c.path_len.result c.args.target.now
+    ∙ ap (λ n. drop (n + 1) c.args.target.now) c.path_len.ensures.value

@@ -10,11 +10,13 @@ returns-in-Ended-clause-answers g c = moves_stay (λ h. answered_nothing c.args.
 
 pub returns-in-Memory-clause-answers : goal.returns-in-Memory-clause-answers
 returns-in-Memory-clause-answers g c =
-    moves_stay (λ h. answered_memory c.args.core.now _ c.memory.result _ _ _ _ h c.bytes-in-Memory.ensures c.memory.ensures c.in-Memory.ensures.heard c.say.ensures.said)
+    moves_stay (λ h. answered_memory c.args.core.now _ c.memory.result _ _ _ _ h c.bytes-in-Memory.ensures c.memory.ensures c.in-Memory.ensures.heard
+    c.say.ensures.said)
 
 pub returns-in-Refused-clause-answers : goal.returns-in-Refused-clause-answers
 returns-in-Refused-clause-answers g c =
-    moves_stay (λ h. answered_refusal c.args.core.now _ c.in-Refused.refusal c.refusal_reply-reply.result _ _ _ _ h c.bytes-in-Refused.ensures c.refusal_reply-reply.ensures
+    moves_stay (λ h. answered_refusal c.args.core.now _ c.in-Refused.refusal c.refusal_reply-reply.result _ _ _ _ h c.bytes-in-Refused.ensures
+    c.refusal_reply-reply.ensures
     c.in-Refused.ensures.heard c.say-in-Refused.ensures.said)
 
 pub returns-in-Asked-clause-answers : goal.returns-in-Asked-clause-answers

@@ -22,16 +22,19 @@ loop-bytes-init g c =
 
 pub next_of-requires-clause-until : goal.next_of-requires-clause-until
 next_of-requires-clause-until g c =
-    subst (λ (l : List ℕ). WaitsUntil l c.loop-bytes.wanted) (sym c.deref.ensures.value) (until_longer _ _ _ c.loop-bytes.invariant.until c.in-Bytes.ensures.grows)
+    subst (λ (l : List ℕ). WaitsUntil l c.loop-bytes.wanted) (sym c.deref.ensures.value)
+    (until_longer _ _ _ c.loop-bytes.invariant.until c.in-Bytes.ensures.grows)
 
 pub returns-in-Asked-clause-heard : goal.returns-in-Asked-clause-heard
 returns-in-Asked-clause-heard g c =
-    heard_asked c.in-Asked.request _ _ _ _ c.in-Bytes.ensures.grows (subst (Comes (next.Asked c.in-Asked.request)) c.deref.ensures.value c.in-Asked.ensures.comes)
+    heard_asked c.in-Asked.request _ _ _ _ c.in-Bytes.ensures.grows (subst (Comes (next.Asked c.in-Asked.request)) c.deref.ensures.value
+    c.in-Asked.ensures.comes)
     (added_more _ _ _ _ _ c.loop-bytes.invariant.so_far c.in-Bytes.ensures.read)
 
 pub returns-in-Refused-clause-heard : goal.returns-in-Refused-clause-heard
 returns-in-Refused-clause-heard g c =
-    heard_refused c.in-Refused.refusal _ _ _ _ c.in-Bytes.ensures.grows (subst (Comes (next.Refused c.in-Refused.refusal)) c.deref.ensures.value c.in-Refused.ensures.comes)
+    heard_refused c.in-Refused.refusal _ _ _ _ c.in-Bytes.ensures.grows
+    (subst (Comes (next.Refused c.in-Refused.refusal)) c.deref.ensures.value c.in-Refused.ensures.comes)
     (added_more _ _ _ _ _ c.loop-bytes.invariant.so_far c.in-Bytes.ensures.read)
 
 pub loop-bytes-preserved : goal.loop-bytes-preserved
@@ -47,7 +50,8 @@ loop-bytes-preserved g c =
     }
 
 pub returns-in-Memory-next_of-clause-heard : goal.returns-in-Memory-next_of-clause-heard
-returns-in-Memory-next_of-clause-heard g c = heard_memory _ _ _ _ c.in-Bytes.ensures.grows (added_more _ _ _ _ _ c.loop-bytes.invariant.so_far c.in-Bytes.ensures.read)
+returns-in-Memory-next_of-clause-heard g c = heard_memory _ _ _ _ c.in-Bytes.ensures.grows
+    (added_more _ _ _ _ _ c.loop-bytes.invariant.so_far c.in-Bytes.ensures.read)
 
 pub returns-in-End-clause-heard : goal.returns-in-End-clause-heard
 returns-in-End-clause-heard g c =

@@ -25,7 +25,8 @@ loop-number-preserved g c =
     record {
       serves = moves_then
           (λ old between new all next.
-          rounds_more c.in-Ok-true.field-0 c.in-Ok-true.field-0-test c.args.slice c.args.core.now c.loop-number.core c.serve_one.new.core _ _ _ _ _ _ _ _ _ old between new
+          rounds_more c.in-Ok-true.field-0 c.in-Ok-true.field-0-test c.args.slice c.args.core.now c.loop-number.core c.serve_one.new.core _ _ _ _ _ _ _ _ _ old
+          between new
           c.in-Ok-true.ensures.opened all next) was.serves one.serves;
       sound = one.sound;
       idle = ap (λ (d : DoorState). d.busy) one.done;

@@ -7,7 +7,8 @@ use Rattle.api_server.proofs.serving.serve_all.Given as goal
 abbrev pub invariant-loop-number : goal.invariant-loop-number
 invariant-loop-number g l = record {
   serves : Moves (g.D.Disk.told l.initial.disk) (g.D.Disk.told l.disk)
-      (ServesAll l.slice l.initial.core l.core (g.N.Door.told l.initial.door) (g.N.Door.told l.door) (g.S.Spawner.runs l.initial.spawner) (g.S.Spawner.runs l.spawner));
+      (ServesAll l.slice l.initial.core l.core (g.N.Door.told l.initial.door) (g.N.Door.told l.door) (g.S.Spawner.runs l.initial.spawner)
+      (g.S.Spawner.runs l.spawner));
   sound : IsSound l.core;
   idle : (g.N.Door.state l.door).busy ≡ false;
   accepted : (g.N.Door.state l.door).accepted ≡ l._number;

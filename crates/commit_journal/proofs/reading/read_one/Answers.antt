@@ -12,4 +12,5 @@ pub returns-in_default-3 : goal.returns-in_default-3
 returns-in_default-3 c = writing_no_path _ _ _ _ c.in-Some-writing_of.ensures (MatchOption-at_none _ _ c.in_default-3.is c.in_ok-path-2.ensures)
 
 pub returns : goal.returns
-returns c = writing_read _ _ _ _ _ _ _ _ c.in-Some-writing_of.ensures (MatchOption-at_some _ _ _ c.in-Some-3.is c.in_ok-path-2.ensures) c.in_ok-bytes.ensures c.in_ok-push-2.ensures.items
+returns c = writing_read _ _ _ _ _ _ _ _ c.in-Some-writing_of.ensures (MatchOption-at_some _ _ _ c.in-Some-3.is c.in_ok-path-2.ensures) c.in_ok-bytes.ensures
+    c.in_ok-push-2.ensures.items

@@ -5,7 +5,7 @@ use Rattle.core_commands.proofs.Asked.{asks_told, asks_uncommitted, asks_unplann
 use Rattle.core_commands.proofs.Causes.{error_is}
 use Rattle.core_commands.proofs.asking.ask.Goals as goal
 
--- ---- memory was wanting
+-- ---- it ran out of memory
 
 pub returns-in_err-answer-clause-asks : goal.returns-in_err-answer-clause-asks
 returns-in_err-answer-clause-asks g c =

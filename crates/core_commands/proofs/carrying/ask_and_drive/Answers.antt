@@ -11,7 +11,8 @@ pub returns-in_err-ask_each-clause-goes : goal.returns-in_err-ask_each-clause-go
 returns-in_err-ask_each-clause-goes g c = λ store over.
     rw (error_is c.from_residual.result _ c.from_residual.ensures.1)
     (moves_map
-    (λ old new asks. follows_stop (requests c.args.asks.now) (λ W done. HoldsAll W c.ask_each.new.core) store c.in_err-ask_each.field-0.0 c.args.core.now c.ask_each.new.core
+    (λ old new asks. follows_stop (requests c.args.asks.now) (λ W done. HoldsAll W c.ask_each.new.core) store c.in_err-ask_each.field-0.0 c.args.core.now
+    c.ask_each.new.core
     _ _ old new over.state over.image refl asks)
     c.in_err-ask_each.ensures.asks)
 

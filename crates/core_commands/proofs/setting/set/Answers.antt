@@ -7,5 +7,6 @@ use Rattle.core_commands.proofs.setting.set.Goals as goal
 pub returns-clause-carried : goal.returns-clause-carried
 returns-clause-carried g c =
     inl
-    (subst (λ (qs : List Request). CarriesOut qs IsSettingsLine c.carry_and_tell.result (g.S.Spawner.runs c.args.spawner.now) (g.S.Spawner.runs c.carry_and_tell.new.spawner)
+    (subst (λ (qs : List Request). CarriesOut qs IsSettingsLine c.carry_and_tell.result (g.S.Spawner.runs c.args.spawner.now)
+    (g.S.Spawner.runs c.carry_and_tell.new.spawner)
     (g.D.Disk.told c.args.disk.now) (g.D.Disk.told c.carry_and_tell.new.disk)) c.in_ok-asks.ensures.requests c.carry_and_tell.ensures.carries)

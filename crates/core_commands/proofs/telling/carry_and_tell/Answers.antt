@@ -19,4 +19,5 @@ returns-clause-carries g c =
 
 pub returns-clause-cause : goal.returns-clause-cause
 returns-clause-cause g c =
-    quiet_cause c.last_line-line.result (g.D.Disk.faults c.args.disk.now) (g.D.Disk.faults c.carry.new.disk) c.in_ok-core.ensures.cause.kept c.last_line-line.ensures.memory
+    quiet_cause c.last_line-line.result (g.D.Disk.faults c.args.disk.now) (g.D.Disk.faults c.carry.new.disk) c.in_ok-core.ensures.cause.kept
+    c.last_line-line.ensures.memory

@@ -8,4 +8,5 @@ use Rattle.disk_memory.proofs.Picks.{after_picks}
 use Rattle.disk_memory.proofs.crash.lay_picks.Given as goal
 
 abbrev pub invariant-loop-path : goal.invariant-loop-path
-invariant-loop-path l = (q : Names) → after_picks l.path-iterator (iter_rest l.choices) (λ p. option_map node_of (get path_cmp l.nodes p)) q ≡ after_picks l.touches.entries l.picks (λ p. option_map node_of (get path_cmp l.initial.nodes p)) q
+invariant-loop-path l = (q : Names) → after_picks l.path-iterator (iter_rest l.choices) (λ p. option_map node_of (get path_cmp l.nodes p)) q ≡ after_picks
+    l.touches.entries l.picks (λ p. option_map node_of (get path_cmp l.initial.nodes p)) q

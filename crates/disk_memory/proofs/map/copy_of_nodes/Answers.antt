@@ -8,4 +8,5 @@ loop-path-init c =
     copies_none c.args.nodes.now c.new-copy.result _ c.new-copy.ensures.empty all c.iter-path-items.ensures.ordered
 
 pub loop-path-preserved : goal.loop-path-preserved
-loop-path-preserved c = copies_more c.loop-path.copy c.add_copy.new.copies c.in-Some.path.now c.in-Some.node.now _ c.next.new.self _ c.in-Some.ensures.steps c.in_ok-add_copy.ensures c.loop-path.invariant
+loop-path-preserved c = copies_more c.loop-path.copy c.add_copy.new.copies c.in-Some.path.now c.in-Some.node.now _ c.next.new.self _ c.in-Some.ensures.steps
+    c.in_ok-add_copy.ensures c.loop-path.invariant

@@ -10,19 +10,24 @@ use Rattle.fs_datastore.proofs.Batching.{first_names, all_fit, writes_down, foll
 use Rattle.fs_datastore.proofs.batch.batch_of.Goals as goal
 
 pub of-requires-clause-first_names : goal.of-requires-clause-first_names
-of-requires-clause-first_names c = first_names c.as_slice.result.now c.in_ok-files.files c.in_ok-entries.entries.items c.in_ok-files.ensures c.in_ok-entries.ensures.items c.in_ok-entries.ensures.ordered
+of-requires-clause-first_names c = first_names c.as_slice.result.now c.in_ok-files.files c.in_ok-entries.entries.items c.in_ok-files.ensures
+    c.in_ok-entries.ensures.items c.in_ok-entries.ensures.ordered
 
 pub unreachable-requires : goal.unreachable-requires
 unreachable-requires c =
     let broken : list_all (fits_below c.args.dir.now) c.in_ok-entries.entries.items ≡ false = search rules in
-    false≢true (sym broken ∙ all_fit c.as_slice.result.now c.in_ok-files.files c.in_ok-entries.entries.items c.in_ok-files.ensures c.in_ok-entries.ensures.items c.in_ok-entries.ensures.ordered c.args.dir.now c.requires)
+    false≢true (sym broken ∙ all_fit c.as_slice.result.now c.in_ok-files.files c.in_ok-entries.entries.items c.in_ok-files.ensures c.in_ok-entries.ensures.items
+    c.in_ok-entries.ensures.ordered c.args.dir.now c.requires)
 
 pub returns-in-Ok-clause-written : goal.returns-in-Ok-clause-written
 returns-in-Ok-clause-written c =
     subst (λ (es : List Entry). WritesDown es c.in-Ok.batch.entries) c.as_slice.ensures.entries
-    (writes_down c.as_slice.result.now c.in_ok-files.files c.in_ok-entries.entries.items c.in_ok-files.ensures c.in_ok-entries.ensures.items c.in_ok-entries.ensures.ordered c.in-Ok.batch.entries (ap (λ (b : Changes). b.entries) c.in-Ok.ensures.ok))
+    (writes_down c.as_slice.result.now c.in_ok-files.files c.in_ok-entries.entries.items c.in_ok-files.ensures c.in_ok-entries.ensures.items
+    c.in_ok-entries.ensures.ordered c.in-Ok.batch.entries (ap (λ (b : Changes). b.entries) c.in-Ok.ensures.ok))
 
 pub returns-in-Ok-clause-laid : goal.returns-in-Ok-clause-laid
 returns-in-Ok-clause-laid c =
     subst (λ (es : List Entry). Follows es c.in-Ok.batch.entries) c.as_slice.ensures.entries
-    (follows c.as_slice.result.now c.in_ok-files.files c.in_ok-entries.entries.items c.in_ok-files.ensures c.in_ok-entries.ensures.items c.in_ok-entries.ensures.ordered c.in-Ok.batch.entries (ap (λ (b : Changes). b.entries) c.in-Ok.ensures.ok) (subst (λ (es : List Entry). IsTrue (list_all has_bare_name es)) (sym c.as_slice.ensures.entries) c.as_slice.ensures.names))
+    (follows c.as_slice.result.now c.in_ok-files.files c.in_ok-entries.entries.items c.in_ok-files.ensures c.in_ok-entries.ensures.items
+    c.in_ok-entries.ensures.ordered c.in-Ok.batch.entries (ap (λ (b : Changes). b.entries) c.in-Ok.ensures.ok)
+    (subst (λ (es : List Entry). IsTrue (list_all has_bare_name es)) (sym c.as_slice.ensures.entries) c.as_slice.ensures.names))

@@ -7,7 +7,8 @@ use Rattle.fs_datastore.proofs.batch.listed.Goals as goal
 pub returns-clause-rising : goal.returns-clause-rising
 returns-clause-rising c =
     let l = c.loop-file in
-    let items : l.list.items ≡ c.args.files.entries = sym (append-nil l.list.items) ∙ ap (λ (xs : _). l.list.items ++ xs) (sym c.in-None.ensures.steps.0) ∙ l.invariant.2 in
+    let items : l.list.items ≡ c.args.files.entries = sym (append-nil l.list.items) ∙ ap (λ (xs : _). l.list.items ++ xs) (sym c.in-None.ensures.steps.0)
+    ∙ l.invariant.2 in
     subst (λ (xs : _). IsTrue (are_rising xs)) (sym items) (rising_of c.args.files.entries c.into_iter-file-iterator.ensures.into_iter_gives.5)
 
 pub returns-clause-ordered : goal.returns-clause-ordered

@@ -17,4 +17,5 @@ pub returns : goal.returns
 returns c =
     let yes : c.in_ok-push_quoted.field-0 ≡ true = search rules in
     let q : Quotes c.args.first.now c.in-Some.text.items = search rules in
-    key_found c.args.first.now c.args.last.now c.in-Some.text.items c.push_quoted.new.text.items c.deref.result.now c.in_ok-push_quoted.field-0 c.read_key.result q c.in_ok-push_quoted.ensures yes c.deref.ensures.value c.read_key.ensures
+    key_found c.args.first.now c.args.last.now c.in-Some.text.items c.push_quoted.new.text.items c.deref.result.now c.in_ok-push_quoted.field-0
+    c.read_key.result q c.in_ok-push_quoted.ensures yes c.deref.ensures.value c.read_key.ensures

@@ -21,11 +21,14 @@ loop-key-preserved g c =
     let m = c.args.metadata.now in
     let after = option_copied c.loop-key.after in
     record {
-      saved = walk_more key_total key_cmp-IsAntisymmetric meta_key m (all_metadata m) (metadata_of m) c.args.dir.now after c.in-Some.key.now (names_of_key c.in-Some.key.now (inner m c.in-Some.key.now)) _ _ _ _ c.in-Some.ensures.least (metadata_step m c.in-Some.key.now) c.loop-key.invariant.saved c.in_ok-save_names.ensures.saves;
+      saved = walk_more key_total key_cmp-IsAntisymmetric meta_key m (all_metadata m) (metadata_of m) c.args.dir.now after c.in-Some.key.now
+          (names_of_key c.in-Some.key.now (inner m c.in-Some.key.now)) _ _ _ _ c.in-Some.ensures.least (metadata_step m c.in-Some.key.now)
+          c.loop-key.invariant.saved c.in_ok-save_names.ensures.saves;
       faults = c.in_ok-save_names.ensures.cause.kept ∙ c.loop-key.invariant.faults;
     }
 
 pub returns-clause-saves : goal.returns-clause-saves
 returns-clause-saves g c =
     let m = c.args.metadata.now in
-    walk_all key_total key_cmp-IsAntisymmetric meta_key m (all_metadata m) (metadata_of m) c.args.dir.now (option_copied c.loop-key.after) _ _ c.in_default.ensures.none c.loop-key.invariant.saved
+    walk_all key_total key_cmp-IsAntisymmetric meta_key m (all_metadata m) (metadata_of m) c.args.dir.now (option_copied c.loop-key.after) _ _
+    c.in_default.ensures.none c.loop-key.invariant.saved

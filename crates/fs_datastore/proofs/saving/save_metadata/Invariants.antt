@@ -8,10 +8,11 @@ use Rattle.fs_datastore.specs.Saving.{all_metadata, SavesTo}
 use Rattle.fs_datastore.proofs.SavedWalks.{up_to, meta_key}
 use Rattle.fs_datastore.proofs.saving.save_metadata.Given as goal
 
--- what stands up to the last one is saved
+-- what is up to the last one is saved
 abbrev pub invariant-loop-key : goal.invariant-loop-key
 invariant-loop-key g l = record {
-  saved : Moves (g.D.Disk.told l.initial.disk) (g.D.Disk.told l.disk) (SavesTo {E = DiskErr} l.dir (up_to key_cmp meta_key (option_copied l.after) (all_metadata l.metadata)) (Ok tt));
+  saved : Moves (g.D.Disk.told l.initial.disk) (g.D.Disk.told l.disk) (SavesTo {E = DiskErr} l.dir
+      (up_to key_cmp meta_key (option_copied l.after) (all_metadata l.metadata)) (Ok tt));
   faults : g.D.Disk.faults l.disk ≡ g.D.Disk.faults l.initial.disk;
 }
 

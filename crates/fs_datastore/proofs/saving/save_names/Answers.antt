@@ -26,7 +26,8 @@ pub loop-name-smaller : goal.loop-name-smaller
 loop-name-smaller g c =
     let m = inner c.args.metadata.now c.args.key.now in
     let after = option_copied c.loop-name.after in
-    let least = subst (λ (n : List ℕ). IsLeastAfter m after n c.in-Some.value.now) (sym (c.as_bytes-name.ensures.value ∙ c.as_str.ensures)) c.in-Some.ensures.least in
+    let least = subst (λ (n : List ℕ). IsLeastAfter m after n c.in-Some.value.now) (sym (c.as_bytes-name.ensures.value ∙ c.as_str.ensures))
+    c.in-Some.ensures.least in
     walk_falls bytes_total bytes_cmp-IsAntisymmetric m after c.as_bytes-name.result.now c.in-Some.value.now least
 
 pub loop-name-preserved : goal.loop-name-preserved
@@ -38,7 +39,9 @@ loop-name-preserved g c =
     let value = c.in-Some.value.now in
     let least = subst (λ (n : List ℕ). IsLeastAfter m after n value) (sym (c.as_bytes-name.ensures.value ∙ c.as_str.ensures)) c.in-Some.ensures.least in
     record {
-      saved = walk_more bytes_total bytes_cmp-IsAntisymmetric (name_at key) m (names_of_key key m) (names_of key m) c.args.dir.now after name (value_at_place (Meta key name) (live value)) _ _ _ _ (entry_key m after name value least) (names_step key m name value least.stands) c.loop-name.invariant.saved c.in_ok-save_meta.ensures.saves;
+      saved = walk_more bytes_total bytes_cmp-IsAntisymmetric (name_at key) m (names_of_key key m) (names_of key m) c.args.dir.now after name
+          (value_at_place (Meta key name) (live value)) _ _ _ _ (entry_key m after name value least) (names_step key m name value least.stands)
+          c.loop-name.invariant.saved c.in_ok-save_meta.ensures.saves;
       faults = c.in_ok-save_meta.ensures.cause.kept ∙ c.loop-name.invariant.faults;
     }
 
@@ -46,4 +49,5 @@ pub returns-clause-saves : goal.returns-clause-saves
 returns-clause-saves g c =
     let key = c.args.key.now in
     let m = inner c.args.metadata.now key in
-    walk_all bytes_total bytes_cmp-IsAntisymmetric (name_at key) m (names_of_key key m) (names_of key m) c.args.dir.now (option_copied c.loop-name.after) _ _ c.in_default.ensures.none c.loop-name.invariant.saved
+    walk_all bytes_total bytes_cmp-IsAntisymmetric (name_at key) m (names_of_key key m) (names_of key m) c.args.dir.now (option_copied c.loop-name.after) _ _
+    c.in_default.ensures.none c.loop-name.invariant.saved

@@ -9,10 +9,11 @@ use Rattle.fs_datastore.specs.Saving.{names_of_key, SavesTo}
 use Rattle.fs_datastore.proofs.SavedWalks.{up_to, name_at}
 use Rattle.fs_datastore.proofs.saving.save_names.Given as goal
 
--- what stands up to the last one is saved
+-- what is up to the last one is saved
 abbrev pub invariant-loop-name : goal.invariant-loop-name
 invariant-loop-name g l = record {
-  saved : Moves (g.D.Disk.told l.initial.disk) (g.D.Disk.told l.disk) (SavesTo {E = DiskErr} l.dir (up_to bytes_cmp (name_at l.key) (option_copied l.after) (names_of_key l.key (inner l.metadata l.key))) (Ok tt));
+  saved : Moves (g.D.Disk.told l.initial.disk) (g.D.Disk.told l.disk) (SavesTo {E = DiskErr} l.dir
+      (up_to bytes_cmp (name_at l.key) (option_copied l.after) (names_of_key l.key (inner l.metadata l.key))) (Ok tt));
   faults : g.D.Disk.faults l.disk ≡ g.D.Disk.faults l.initial.disk;
 }
 

@@ -21,11 +21,14 @@ loop-tx-preserved g c =
     let m = c.args.transactions.now in
     let after = option_copied c.loop-tx.after in
     record {
-      saved = walk_more bytes_total bytes_cmp-IsAntisymmetric pending_tx m (all_pending m) (pending_of m) c.args.dir.now after c.in-Some.tx.now (keys_of_transaction c.in-Some.tx.now c.in-Some.keys.now) _ _ _ _ (entry_key m after c.in-Some.tx.now c.in-Some.keys.now c.in-Some.ensures.least) (pending_step m c.in-Some.tx.now c.in-Some.keys.now c.in-Some.ensures.least.stands) c.loop-tx.invariant.saved c.in_ok-save_keys.ensures.saves;
+      saved = walk_more bytes_total bytes_cmp-IsAntisymmetric pending_tx m (all_pending m) (pending_of m) c.args.dir.now after c.in-Some.tx.now
+          (keys_of_transaction c.in-Some.tx.now c.in-Some.keys.now) _ _ _ _ (entry_key m after c.in-Some.tx.now c.in-Some.keys.now c.in-Some.ensures.least)
+          (pending_step m c.in-Some.tx.now c.in-Some.keys.now c.in-Some.ensures.least.stands) c.loop-tx.invariant.saved c.in_ok-save_keys.ensures.saves;
       faults = c.in_ok-save_keys.ensures.cause.kept ∙ c.loop-tx.invariant.faults;
     }
 
 pub returns-clause-saves : goal.returns-clause-saves
 returns-clause-saves g c =
     let m = c.args.transactions.now in
-    walk_all bytes_total bytes_cmp-IsAntisymmetric pending_tx m (all_pending m) (pending_of m) c.args.dir.now (option_copied c.loop-tx.after) _ _ c.in_default.ensures.none c.loop-tx.invariant.saved
+    walk_all bytes_total bytes_cmp-IsAntisymmetric pending_tx m (all_pending m) (pending_of m) c.args.dir.now (option_copied c.loop-tx.after) _ _
+    c.in_default.ensures.none c.loop-tx.invariant.saved

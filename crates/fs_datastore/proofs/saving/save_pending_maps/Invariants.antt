@@ -8,10 +8,11 @@ use Rattle.fs_datastore.specs.Saving.{all_pending, SavesTo}
 use Rattle.fs_datastore.proofs.SavedWalks.{up_to, pending_tx}
 use Rattle.fs_datastore.proofs.saving.save_pending_maps.Given as goal
 
--- what stands up to the last one is saved
+-- what is up to the last one is saved
 abbrev pub invariant-loop-tx : goal.invariant-loop-tx
 invariant-loop-tx g l = record {
-  saved : Moves (g.D.Disk.told l.initial.disk) (g.D.Disk.told l.disk) (SavesTo {E = DiskErr} l.dir (up_to bytes_cmp pending_tx (option_copied l.after) (all_pending l.transactions)) (Ok tt));
+  saved : Moves (g.D.Disk.told l.initial.disk) (g.D.Disk.told l.disk) (SavesTo {E = DiskErr} l.dir
+      (up_to bytes_cmp pending_tx (option_copied l.after) (all_pending l.transactions)) (Ok tt));
   faults : g.D.Disk.faults l.disk ≡ g.D.Disk.faults l.initial.disk;
 }
 

@@ -13,4 +13,5 @@ returns-clause-saves g c =
     let i = value_at_place TheImage (image held.image) in
     let w = value_at_place TheWeak (weak c.weak.result.now) in
     saved_alike dir (put_over w (put_over i o)) (single_values held) c.save_weak.result _ _ (singles held c.weak.result.now c.weak.ensures.weak)
-    (saved_then dir (put_over i o) w tt c.save_weak.result _ _ _ (saved_then dir o i _ _ _ _ _ c.in_ok-save_owed.ensures.saves c.in_ok-save_image.ensures.saves) c.save_weak.ensures.saves)
+    (saved_then dir (put_over i o) w tt c.save_weak.result _ _ _ (saved_then dir o i _ _ _ _ _ c.in_ok-save_owed.ensures.saves c.in_ok-save_image.ensures.saves)
+    c.save_weak.ensures.saves)

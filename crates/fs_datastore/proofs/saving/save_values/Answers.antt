@@ -23,11 +23,15 @@ loop-key-preserved g c =
     let m = c.args.values.now in
     let after = option_copied c.loop-key.after in
     record {
-      saved = walk_more key_total key_cmp-IsAntisymmetric live_key m (live_values m) (live_of m) c.args.dir.now after c.in-Some.key.now (value_at_place (Live c.in-Some.key.now) (live c.in-Some.value.now)) _ _ _ _ (entry_key m after c.in-Some.key.now c.in-Some.value.now c.in-Some.ensures.least) (live_step m c.in-Some.key.now c.in-Some.value.now c.in-Some.ensures.least.stands) c.loop-key.invariant.saved c.in_ok-save_value.ensures.saves;
+      saved = walk_more key_total key_cmp-IsAntisymmetric live_key m (live_values m) (live_of m) c.args.dir.now after c.in-Some.key.now
+          (value_at_place (Live c.in-Some.key.now) (live c.in-Some.value.now)) _ _ _ _
+          (entry_key m after c.in-Some.key.now c.in-Some.value.now c.in-Some.ensures.least)
+          (live_step m c.in-Some.key.now c.in-Some.value.now c.in-Some.ensures.least.stands) c.loop-key.invariant.saved c.in_ok-save_value.ensures.saves;
       faults = c.in_ok-save_value.ensures.cause.kept ∙ c.loop-key.invariant.faults;
     }
 
 pub returns-clause-saves : goal.returns-clause-saves
 returns-clause-saves g c =
     let m = c.args.values.now in
-    walk_all key_total key_cmp-IsAntisymmetric live_key m (live_values m) (live_of m) c.args.dir.now (option_copied c.loop-key.after) _ _ c.in_default.ensures.none c.loop-key.invariant.saved
+    walk_all key_total key_cmp-IsAntisymmetric live_key m (live_values m) (live_of m) c.args.dir.now (option_copied c.loop-key.after) _ _
+    c.in_default.ensures.none c.loop-key.invariant.saved

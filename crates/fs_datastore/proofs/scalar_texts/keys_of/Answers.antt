@@ -14,4 +14,5 @@ returns-in_default c =
 pub loop-item-preserved : goal.loop-item-preserved
 loop-item-preserved c =
     let reads : (k : List (List ℕ)) → IsTrue (is_key k) → c.item-item.result ≡ kind.Text (printed k) → c.in-Some.key ≡ k = search rules in
-    so_far_more c.args.items.now c.loop-item.item-index c.item-item.result c.loop-item.keys.items c.push.new.self.items c.in-Some.key c.loop-item-test.true c.item-item.is reads c.loop-item.invariant c.in_ok-push.ensures.items
+    so_far_more c.args.items.now c.loop-item.item-index c.item-item.result c.loop-item.keys.items c.push.new.self.items c.in-Some.key c.loop-item-test.true
+    c.item-item.is reads c.loop-item.invariant c.in_ok-push.ensures.items

@@ -13,7 +13,9 @@ returns-in_err-list_of-clause-err c =
     at_error _ none
 
 pub returns-clause-ok : goal.returns-clause-ok
-returns-clause-ok c = IfOk-weaker c.two_of.result _ _ (λ v next a b is. two_values _ _ _ _ a b (sym c.into_iter-values.ensures.rest ∙ next) (listed _ _ _ c.in_ok-list_of.ensures.ok is)) c.two_of.ensures.next
+returns-clause-ok c = IfOk-weaker c.two_of.result _ _ (λ v next a b is. two_values _ _ _ _ a b (sym c.into_iter-values.ensures.rest ∙ next)
+    (listed _ _ _ c.in_ok-list_of.ensures.ok is)) c.two_of.ensures.next
 
 pub returns-clause-err : goal.returns-clause-err
-returns-clause-err c = on_err_weaker c.two_of.result (λ few a b is. too_few _ _ (a ∷ b ∷ []) 2 c.into_iter-values.ensures.rest (listed _ _ _ c.in_ok-list_of.ensures.ok is) few refl) c.two_of.ensures.none
+returns-clause-err c = on_err_weaker c.two_of.result (λ few a b is. too_few _ _ (a ∷ b ∷ []) 2 c.into_iter-values.ensures.rest
+    (listed _ _ _ c.in_ok-list_of.ensures.ok is) few refl) c.two_of.ensures.none

@@ -4,7 +4,8 @@ use Rattle.held_text.proofs.reading.held_in.Goals as goal
 
 pub returns-in_err-image : goal.returns-in_err-image
 returns-in_err-image c =
-    err_members _ _ c.from_residual.result c.from_residual.ensures.1 (λ h valid is e gives. absurd (members_missing _ 3 h is c.in_err-image.ensures.none (omega arith)))
+    err_members _ _ c.from_residual.result c.from_residual.ensures.1 (λ h valid is e gives. absurd
+    (members_missing _ 3 h is c.in_err-image.ensures.none (omega arith)))
 
 pub returns-in_err-owed : goal.returns-in_err-owed
 returns-in_err-owed c =
@@ -29,5 +30,6 @@ pub returns : goal.returns
 returns c = record {
   finds = λ h valid is.
       let p = member_parts _ _ _ _ _ _ _ _ _ h is c.in_ok-image.ensures.next c.in_ok-owed.ensures.next in
-      held_is h _ _ (c.in_ok-live.ensures.finds h.live valid.live p.1 p.2 p.5) (c.in_ok-rest.ensures.finds h.owed h.pending h.image valid.owed valid.pending valid.image p.3 p.4 p.0);
+      held_is h _ _ (c.in_ok-live.ensures.finds h.live valid.live p.1 p.2 p.5)
+      (c.in_ok-rest.ensures.finds h.owed h.pending h.image valid.owed valid.pending valid.image p.3 p.4 p.0);
 }

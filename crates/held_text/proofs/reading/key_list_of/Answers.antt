@@ -20,7 +20,8 @@ pub returns-in_err-key_of : goal.returns-in_err-key_of
 returns-in_err-key_of c =
     let l = c.loop-value in
     let next : into_iter_items l.value-iterator ≡ c.in-Some.value ∷ into_iter_items c.next.new.self = search rules in
-    err_reads _ _ _ _ c.from_residual-in_err-key_of.result c.from_residual-in_err-key_of.ensures.1 (λ keys valid is e gives. gives ∙ keys_refused _ _ _ _ _ next l.invariant.2 _ c.in_err-key_of.ensures keys valid is)
+    err_reads _ _ _ _ c.from_residual-in_err-key_of.result c.from_residual-in_err-key_of.ensures.1
+    (λ keys valid is e gives. gives ∙ keys_refused _ _ _ _ _ next l.invariant.2 _ c.in_err-key_of.ensures keys valid is)
 
 pub returns-then-not-rise : goal.returns-then-not-rise
 returns-then-not-rise c =

@@ -10,7 +10,8 @@ use Rattle.held_text.proofs.reading.key_of.Goals as goal
 pub returns : goal.returns
 returns c = record {
   finds = λ key valid is.
-      c.in_ok-read.ensures.exact_key key (subst (λ (t : List ℕ). SpellsKey t key) (sym (c.as_bytes.ensures.value ∙ texted _ _ _ c.in_ok-text.ensures.ok is)) (printed_key key valid));
+      c.in_ok-read.ensures.exact_key key (subst (λ (t : List ℕ). SpellsKey t key) (sym (c.as_bytes.ensures.value ∙ texted _ _ _ c.in_ok-text.ensures.ok is))
+      (printed_key key valid));
 }
 
 pub returns-in_err-read : goal.returns-in_err-read

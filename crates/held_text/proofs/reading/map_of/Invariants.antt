@@ -13,5 +13,6 @@ abbrev pub invariant-loop-pair : goal.invariant-loop-pair
 invariant-loop-pair g l =
     (goal.iterator-loop-pair g).can_next l.pair-iterator ×
     (goal.iterator-loop-pair g).is_finite l.pair-iterator ×
-    Filling (pair_data g.L.Leaf.written) (IsSound g.L.Leaf.leaf g.L.Leaf.written) (IsMap g.L.Leaf.leaf g.L.Leaf.written) (view l.fn.list) l.map (map view (into_iter_items l.pair-iterator)) ×
+    Filling (pair_data g.L.Leaf.written) (IsSound g.L.Leaf.leaf g.L.Leaf.written) (IsMap g.L.Leaf.leaf g.L.Leaf.written) (view l.fn.list) l.map
+    (map view (into_iter_items l.pair-iterator)) ×
     IsPrefixFree l.map

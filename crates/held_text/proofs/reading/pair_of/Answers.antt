@@ -8,7 +8,8 @@ use Rattle.held_text.proofs.reading.pair_of.Goals as goal
 
 pub returns-in_err-key : goal.returns-in_err-key
 returns-in_err-key g c =
-    err_reads _ _ _ _ c.from_residual.result c.from_residual.ensures.1 (λ x valid is e gives. absurd (c.in_err-key.ensures.err (key_data x.0) (g.L.Leaf.written x.1) is))
+    err_reads _ _ _ _ c.from_residual.result c.from_residual.ensures.1
+    (λ x valid is e gives. absurd (c.in_err-key.ensures.err (key_data x.0) (g.L.Leaf.written x.1) is))
 
 pub returns-in_err-key-2 : goal.returns-in_err-key-2
 returns-in_err-key-2 g c =
@@ -19,7 +20,8 @@ pub returns-in_err-leaf : goal.returns-in_err-leaf
 returns-in_err-leaf g c =
     err_reads _ _ _ _ c.from_residual-in_err-leaf.result c.from_residual-in_err-leaf.ensures.1
     (λ x valid is e gives.
-    gives ∙ ap of_tree_error (leaf_memory g.L.Leaf.leaf g.L.Leaf.written _ x.1 _ valid.1 (c.in_ok-key.ensures.ok (key_data x.0) (g.L.Leaf.written x.1) is).1 c.in_err-leaf.ensures.err))
+    gives ∙ ap of_tree_error (leaf_memory g.L.Leaf.leaf g.L.Leaf.written _ x.1 _ valid.1 (c.in_ok-key.ensures.ok (key_data x.0) (g.L.Leaf.written x.1) is).1
+    c.in_err-leaf.ensures.err))
 
 pub returns : goal.returns
 returns g c = record {

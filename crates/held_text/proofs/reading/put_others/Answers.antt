@@ -10,7 +10,8 @@ returns-in_err-put_rows c =
 
 pub returns-in_err-weak : goal.returns-in_err-weak
 returns-in_err-weak c =
-    err_others _ _ _ _ _ c.from_residual-in_err-weak.result c.from_residual-in_err-weak.ensures.1 (λ x live begun m w e gives. gives ∙ c.in_err-weak.ensures.finds x.weak live.weak w)
+    err_others _ _ _ _ _ c.from_residual-in_err-weak.result c.from_residual-in_err-weak.ensures.1
+    (λ x live begun m w e gives. gives ∙ c.in_err-weak.ensures.finds x.weak live.weak w)
 
 pub returns-then-not-may_be_weak : goal.returns-then-not-may_be_weak
 returns-then-not-may_be_weak c = others_strong _ _ _ _ _ c.in_ok-put_rows.ensures c.in_ok-weak.ensures _ (search rules)

@@ -18,7 +18,8 @@ pub returns-in_err-key : goal.returns-in_err-key
 returns-in_err-key c =
     let l = c.loop-row in
     let next : into_iter_items l.row-iterator ≡ c.in-Some.row ∷ into_iter_items c.next.new.self = search rules in
-    err_puts _ _ _ _ c.from_residual-in_err-key.result c.from_residual-in_err-key.ensures.1 (λ m valid bare is e gives. gives ∙ rows_refused _ _ _ _ _ _ next l.invariant.2 _ c.in_err-key.ensures m valid bare is)
+    err_puts _ _ _ _ c.from_residual-in_err-key.result c.from_residual-in_err-key.ensures.1
+    (λ m valid bare is e gives. gives ∙ rows_refused _ _ _ _ _ _ next l.invariant.2 _ c.in_err-key.ensures m valid bare is)
 
 pub returns-then-not-is_meta_name : goal.returns-then-not-is_meta_name
 returns-then-not-is_meta_name c =

@@ -10,7 +10,8 @@ use Rattle.held_text.proofs.reading.row_of.Goals as goal
 
 pub returns-in_err-key : goal.returns-in_err-key
 returns-in_err-key c =
-    err_reads _ _ _ _ c.from_residual.result c.from_residual.ensures.1 (λ x valid is e gives. absurd (c.in_err-key.ensures.err (key_data x.0) (string x.1) (scalar_data x.2) is))
+    err_reads _ _ _ _ c.from_residual.result c.from_residual.ensures.1
+    (λ x valid is e gives. absurd (c.in_err-key.ensures.err (key_data x.0) (string x.1) (scalar_data x.2) is))
 
 pub returns-in_err-key-2 : goal.returns-in_err-key-2
 returns-in_err-key-2 c =
@@ -26,7 +27,8 @@ pub returns-in_err-value : goal.returns-in_err-value
 returns-in_err-value c =
     err_reads _ _ _ _ c.from_residual-in_err-value.result c.from_residual-in_err-value.ensures.1
     (λ x valid is e gives.
-    gives ∙ ap of_tree_error (leaf_memory scalar_leaf scalar_data _ x.2 _ valid.value (c.in_ok-key.ensures.ok (key_data x.0) (string x.1) (scalar_data x.2) is).2 c.in_err-value.ensures.err))
+    gives ∙ ap of_tree_error (leaf_memory scalar_leaf scalar_data _ x.2 _ valid.value
+    (c.in_ok-key.ensures.ok (key_data x.0) (string x.1) (scalar_data x.2) is).2 c.in_err-value.ensures.err))
 
 pub returns : goal.returns
 returns c = record {

@@ -9,11 +9,14 @@ use Rattle.held_text.proofs.reading.triple_of.Goals as goal
 
 pub returns-in_err-list_of-clause-err : goal.returns-in_err-list_of-clause-err
 returns-in_err-list_of-clause-err c =
-    let none : (a b d : Data) → view c.args.list ≢ list_data (a ∷ b ∷ d ∷ []) = λ a b d is. no_list (view c.args.list) (a ∷ b ∷ d ∷ []) c.in_err-list_of.ensures.err is in
+    let none : (a b d : Data) → view c.args.list ≢ list_data (a ∷ b ∷ d ∷ []) =
+    λ a b d is. no_list (view c.args.list) (a ∷ b ∷ d ∷ []) c.in_err-list_of.ensures.err is in
     at_error _ none
 
 pub returns-clause-ok : goal.returns-clause-ok
-returns-clause-ok c = IfOk-weaker c.three_of.result _ _ (λ v next a b d is. three_values _ _ _ _ _ a b d (sym c.into_iter-values.ensures.rest ∙ next) (listed _ _ _ c.in_ok-list_of.ensures.ok is)) c.three_of.ensures.next
+returns-clause-ok c = IfOk-weaker c.three_of.result _ _ (λ v next a b d is. three_values _ _ _ _ _ a b d (sym c.into_iter-values.ensures.rest ∙ next)
+    (listed _ _ _ c.in_ok-list_of.ensures.ok is)) c.three_of.ensures.next
 
 pub returns-clause-err : goal.returns-clause-err
-returns-clause-err c = on_err_weaker c.three_of.result (λ few a b d is. too_few _ _ (a ∷ b ∷ d ∷ []) 3 c.into_iter-values.ensures.rest (listed _ _ _ c.in_ok-list_of.ensures.ok is) few refl) c.three_of.ensures.none
+returns-clause-err c = on_err_weaker c.three_of.result (λ few a b d is. too_few _ _ (a ∷ b ∷ d ∷ []) 3 c.into_iter-values.ensures.rest
+    (listed _ _ _ c.in_ok-list_of.ensures.ok is) few refl) c.three_of.ensures.none

@@ -14,8 +14,10 @@ returns-clause-wrote c =
           let weak = member (codes "weak") (keys_data h.live.weak) ms in
           let pending = member (codes "pending") (pending_maps_data h.pending) weak in
           member_written (codes "owed") (owed_data h.owed) pending _ _ _ _ c.in_ok-key.ensures.ok c.in_ok-key.ensures.room.0 c.in_ok-write_owed.ensures.wrote
-          (member_written (codes "pending") (pending_maps_data h.pending) weak _ _ _ _ c.in_ok-key-2.ensures.ok c.in_ok-key-2.ensures.room.0 c.in_ok-write_pending.ensures.wrote
-          (member_written (codes "weak") (keys_data h.live.weak) ms _ _ _ _ c.in_ok-key-3.ensures.ok c.in_ok-key-3.ensures.room.0 (rw c.weak.ensures.weak at wrote) rest));
+          (member_written (codes "pending") (pending_maps_data h.pending) weak _ _ _ _ c.in_ok-key-2.ensures.ok c.in_ok-key-2.ensures.room.0
+          c.in_ok-write_pending.ensures.wrote
+          (member_written (codes "weak") (keys_data h.live.weak) ms _ _ _ _ c.in_ok-key-3.ensures.ok c.in_ok-key-3.ensures.room.0
+          (rw c.weak.ensures.weak at wrote) rest));
     })
     c.write_keys.ensures.wrote
 

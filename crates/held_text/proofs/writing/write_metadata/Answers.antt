@@ -17,7 +17,8 @@ pub loop-key-smaller : goal.loop-key-smaller
 loop-key-smaller c =
     let m = c.args.metadata.now in
     let after = option_copied c.loop-key.after in
-    walk_falls key_total key_cmp-IsAntisymmetric m after c.in-Some.key.now (inner m c.in-Some.key.now) (least_inner m after c.in-Some.key.now c.in-Some.ensures.least)
+    walk_falls key_total key_cmp-IsAntisymmetric m after c.in-Some.key.now (inner m c.in-Some.key.now)
+    (least_inner m after c.in-Some.key.now c.in-Some.ensures.least)
 
 pub loop-key-preserved : goal.loop-key-preserved
 loop-key-preserved c =
@@ -25,16 +26,19 @@ loop-key-preserved c =
     let key = c.in-Some.key.now in
     let after = option_copied c.loop-key.after in
     writing_next rows_at row_data IsRow _ _ _ (key, inner m key) _ _ _ c.loop-key.invariant
-    (walk_next key_total key_cmp-IsAntisymmetric m after key (inner m key) (least_inner m after key c.in-Some.ensures.least)) c.in_ok-write_rows.ensures.wrote c.in_ok-write_rows.ensures.valid
+    (walk_next key_total key_cmp-IsAntisymmetric m after key (inner m key) (least_inner m after key c.in-Some.ensures.least)) c.in_ok-write_rows.ensures.wrote
+    c.in_ok-write_rows.ensures.valid
 
 pub returns-clause-wrote : goal.returns-clause-wrote
 returns-clause-wrote c =
     let m = c.args.metadata.now in
     list_written row_data c.end_array.result (rows m) _ _ _ _ c.in_ok-begin_array.ensures.ok c.in_ok-begin_array.ensures.room.0
-    (writing_all rows_at row_data IsRow _ _ _ _ _ c.loop-key.invariant (walk_end key_total key_cmp-IsAntisymmetric m (option_copied c.loop-key.after) c.in_default.ensures.none) refl) c.end_array.ensures
+    (writing_all rows_at row_data IsRow _ _ _ _ _ c.loop-key.invariant
+    (walk_end key_total key_cmp-IsAntisymmetric m (option_copied c.loop-key.after) c.in_default.ensures.none) refl) c.end_array.ensures
 
 pub returns-clause-valid : goal.returns-clause-valid
 returns-clause-valid c =
     let m = c.args.metadata.now in
     on_ok_weaker c.end_array.result
-    (λ _. valid_all rows_at row_data IsRow _ _ _ _ _ c.loop-key.invariant (walk_end key_total key_cmp-IsAntisymmetric m (option_copied c.loop-key.after) c.in_default.ensures.none) refl) c.end_array.ensures.ok
+    (λ _. valid_all rows_at row_data IsRow _ _ _ _ _ c.loop-key.invariant
+    (walk_end key_total key_cmp-IsAntisymmetric m (option_copied c.loop-key.after) c.in_default.ensures.none) refl) c.end_array.ensures.ok

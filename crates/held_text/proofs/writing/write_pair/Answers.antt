@@ -9,7 +9,8 @@ returns-clause-wrote g c =
     let key = key_data c.args.key.now in
     let value = g.L.Leaf.written c.args.leaf.now in
     list_written (λ d. d) c.end_array.result (key ∷ value ∷ []) _ _ _ _ c.in_ok-begin_array.ensures.ok c.in_ok-begin_array.ensures.room.0
-    (next_written (λ d. d) (key ∷ []) value _ _ _ (one_written (λ d. d) key _ _ c.in_ok-write_key.ensures.wrote) (record { tokens = c.in_ok-write.ensures.tokens; before = c.in_ok-write.ensures.before }))
+    (next_written (λ d. d) (key ∷ []) value _ _ _ (one_written (λ d. d) key _ _ c.in_ok-write_key.ensures.wrote)
+    (record { tokens = c.in_ok-write.ensures.tokens; before = c.in_ok-write.ensures.before }))
     c.end_array.ensures
 
 pub returns-clause-valid : goal.returns-clause-valid

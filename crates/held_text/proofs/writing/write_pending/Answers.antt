@@ -15,12 +15,14 @@ loop-tx-init c = writing_none _ _ _ _ _ _ (walk_start bytes_total bytes_cmp-IsAn
 
 pub loop-tx-smaller : goal.loop-tx-smaller
 loop-tx-smaller c =
-    walk_falls bytes_total bytes_cmp-IsAntisymmetric c.args.pending.now (option_copied c.loop-tx.after) c.in-Some.tx.now c.in-Some.keys.now (rw c.transactions-transactions.ensures.transactions at c.in-Some.ensures.least)
+    walk_falls bytes_total bytes_cmp-IsAntisymmetric c.args.pending.now (option_copied c.loop-tx.after) c.in-Some.tx.now c.in-Some.keys.now
+    (rw c.transactions-transactions.ensures.transactions at c.in-Some.ensures.least)
 
 pub loop-tx-preserved : goal.loop-tx-preserved
 loop-tx-preserved c =
     writing_next (λ e. e ∷ []) transaction_data IsTransaction _ _ _ (c.in-Some.tx.now, c.in-Some.keys.now) _ _ _ c.loop-tx.invariant
-    (walk_next bytes_total bytes_cmp-IsAntisymmetric c.args.pending.now (option_copied c.loop-tx.after) c.in-Some.tx.now c.in-Some.keys.now (rw c.transactions-transactions.ensures.transactions at c.in-Some.ensures.least))
+    (walk_next bytes_total bytes_cmp-IsAntisymmetric c.args.pending.now (option_copied c.loop-tx.after) c.in-Some.tx.now c.in-Some.keys.now
+    (rw c.transactions-transactions.ensures.transactions at c.in-Some.ensures.least))
     (one_written transaction_data _ _ _ c.in_ok-write_transaction.ensures.wrote) (c.in_ok-write_transaction.ensures.valid, tt)
 
 pub returns-clause-wrote : goal.returns-clause-wrote
@@ -28,7 +30,8 @@ returns-clause-wrote c =
     let m = c.args.pending.now in
     list_written transaction_data c.end_array.result (entries m) _ _ _ _ c.in_ok-begin_array.ensures.ok c.in_ok-begin_array.ensures.room.0
     (writing_all (λ e. e ∷ []) transaction_data IsTransaction _ _ _ _ _ c.loop-tx.invariant
-    (walk_end bytes_total bytes_cmp-IsAntisymmetric m (option_copied c.loop-tx.after) (rw c.transactions-transactions.ensures.transactions at c.in_default.ensures.none)) (flat_map-same (entries m)))
+    (walk_end bytes_total bytes_cmp-IsAntisymmetric m (option_copied c.loop-tx.after)
+    (rw c.transactions-transactions.ensures.transactions at c.in_default.ensures.none)) (flat_map-same (entries m)))
     c.end_array.ensures
 
 pub returns-clause-valid : goal.returns-clause-valid
@@ -37,5 +40,7 @@ returns-clause-valid c =
     on_ok_weaker c.end_array.result
     (λ _. record {
       rules = c.transactions-transactions.ensures.valid;
-      transactions = valid_all (λ e. e ∷ []) transaction_data IsTransaction _ _ _ _ _ c.loop-tx.invariant (walk_end bytes_total bytes_cmp-IsAntisymmetric m (option_copied c.loop-tx.after) (rw c.transactions-transactions.ensures.transactions at c.in_default.ensures.none)) (flat_map-same (entries m));
+      transactions = valid_all (λ e. e ∷ []) transaction_data IsTransaction _ _ _ _ _ c.loop-tx.invariant
+          (walk_end bytes_total bytes_cmp-IsAntisymmetric m (option_copied c.loop-tx.after)
+          (rw c.transactions-transactions.ensures.transactions at c.in_default.ensures.none)) (flat_map-same (entries m));
     }) c.end_array.ensures.ok

@@ -9,7 +9,8 @@ use Rattle.held_text.proofs.writing.write_pending.Given as goal
 
 -- The transactions up to the last one are written.
 abbrev pub invariant-loop-tx : goal.invariant-loop-tx
-invariant-loop-tx l = Writing (λ e. e ∷ []) transaction_data IsTransaction (entries l.pending) (entries_past l.pending (option_copied l.after)) l.initial.writer l.writer
+invariant-loop-tx l = Writing (λ e. e ∷ []) transaction_data IsTransaction (entries l.pending) (entries_past l.pending (option_copied l.after)) l.initial.writer
+    l.writer
 
 abbrev pub decreases-loop-tx : goal.decreases-loop-tx
 decreases-loop-tx l = length (entries_past l.pending (option_copied l.after))

@@ -19,4 +19,5 @@ returns-clause-wrote c =
     c.end_array.ensures
 
 pub returns-clause-valid : goal.returns-clause-valid
-returns-clause-valid c = on_ok_weaker c.end_array.result (λ _. record { key = c.in_ok-write_key.ensures.valid; value = c.in_ok-write.ensures.writable }) c.end_array.ensures.ok
+returns-clause-valid c = on_ok_weaker c.end_array.result (λ _. record { key = c.in_ok-write_key.ensures.valid; value = c.in_ok-write.ensures.writable })
+    c.end_array.ensures.ok

@@ -26,7 +26,8 @@ loop-name-preserved c =
     let names = inner c.args.metadata.now c.args.key.now in
     let key = c.args.key.now in
     let after = option_copied c.loop-name.after in
-    subst (λ (n : List ℕ). Writing (λ e. (key, e.0, e.1) ∷ []) row_data IsRow (entries names) (entries_past names (Some n)) c.args.writer.now c.write_row.new.writer) (sym (c.as_bytes.ensures.value ∙ c.as_str.ensures))
+    subst (λ (n : List ℕ). Writing (λ e. (key, e.0, e.1) ∷ []) row_data IsRow (entries names) (entries_past names (Some n)) c.args.writer.now
+    c.write_row.new.writer) (sym (c.as_bytes.ensures.value ∙ c.as_str.ensures))
     (writing_next (λ e. (key, e.0, e.1) ∷ []) row_data IsRow _ _ _ (c.in-Some.name.now, c.in-Some.value.now) _ _ _ c.loop-name.invariant
     (walk_next bytes_total bytes_cmp-IsAntisymmetric names after c.in-Some.name.now c.in-Some.value.now c.in-Some.ensures.least)
     (one_written row_data _ _ _ c.in_ok-write_row.ensures.wrote) (c.in_ok-write_row.ensures.valid, tt))
@@ -36,11 +37,13 @@ returns-clause-wrote c =
     let names = inner c.args.metadata.now c.args.key.now in
     let key = c.args.key.now in
     writing_all (λ e. (key, e.0, e.1) ∷ []) row_data IsRow _ _ _ _ _ c.loop-name.invariant
-    (walk_end bytes_total bytes_cmp-IsAntisymmetric names (option_copied c.loop-name.after) c.in_default.ensures.none) (flat_map-single (λ e. (key, e.0, e.1)) (entries names))
+    (walk_end bytes_total bytes_cmp-IsAntisymmetric names (option_copied c.loop-name.after) c.in_default.ensures.none)
+    (flat_map-single (λ e. (key, e.0, e.1)) (entries names))
 
 pub returns-clause-valid : goal.returns-clause-valid
 returns-clause-valid c =
     let names = inner c.args.metadata.now c.args.key.now in
     let key = c.args.key.now in
     valid_all (λ e. (key, e.0, e.1) ∷ []) row_data IsRow _ _ _ _ _ c.loop-name.invariant
-    (walk_end bytes_total bytes_cmp-IsAntisymmetric names (option_copied c.loop-name.after) c.in_default.ensures.none) (flat_map-single (λ e. (key, e.0, e.1)) (entries names))
+    (walk_end bytes_total bytes_cmp-IsAntisymmetric names (option_copied c.loop-name.after) c.in_default.ensures.none)
+    (flat_map-single (λ e. (key, e.0, e.1)) (entries names))

@@ -12,8 +12,10 @@ returns-clause-wrote c =
     let pairs = map_data pending_data c.args.keys.now in
     list_written (λ d. d) c.end_array.result (name ∷ pairs ∷ []) _ _ _ _ c.in_ok-begin_array.ensures.ok c.in_ok-begin_array.ensures.room.0
     (next_written (λ d. d) (name ∷ []) pairs _ _ _
-    (one_written (λ d. d) name _ _ (string_written _ _ c.begin_array.new.self c.string.new.self c.as_str.ensures.bytes c.in_ok-string.ensures.ok c.in_ok-string.ensures.room.0)) c.in_ok-write_map.ensures.wrote)
+    (one_written (λ d. d) name _ _ (string_written _ _ c.begin_array.new.self c.string.new.self c.as_str.ensures.bytes c.in_ok-string.ensures.ok
+    c.in_ok-string.ensures.room.0)) c.in_ok-write_map.ensures.wrote)
     c.end_array.ensures
 
 pub returns-clause-valid : goal.returns-clause-valid
-returns-clause-valid c = on_ok_weaker c.end_array.result (λ _. record { name = c.as_str.ensures.valid; pairs = c.in_ok-write_map.ensures.valid }) c.end_array.ensures.ok
+returns-clause-valid c = on_ok_weaker c.end_array.result (λ _. record { name = c.as_str.ensures.valid; pairs = c.in_ok-write_map.ensures.valid })
+    c.end_array.ensures.ok

@@ -24,5 +24,7 @@ returns-in_err-number c =
     let tenfold : tens ≡ n * 10 = search rules in
     let none : c.checked_add.result ≡ None = search rules in
     let big : 2 ^ 64 ≤ tens + unit = not_below c.checked_add.result (tens + unit) (2 ^ 64) (tens + unit) none c.checked_add.ensures in
-    let more : 2 ^ 64 ≤ n * 10 + digit_value (get_or digits i 0) = omega (arith, big, tenfold, c.from.ensures, digit_at digits i c.requires c.loop-digit-test.true) in
-    none_matches c.from_residual-in_err-number.result _ _ c.from_residual-in_err-number.ensures (over (2 ^ 64) digits i n c.loop-digit-test.true c.loop-digit.invariant more)
+    let more : 2 ^ 64 ≤ n * 10 + digit_value (get_or digits i 0) = omega
+    (arith, big, tenfold, c.from.ensures, digit_at digits i c.requires c.loop-digit-test.true) in
+    none_matches c.from_residual-in_err-number.result _ _ c.from_residual-in_err-number.ensures
+    (over (2 ^ 64) digits i n c.loop-digit-test.true c.loop-digit.invariant more)

@@ -8,5 +8,8 @@ use Rattle.json_trees.proofs.child.child_of.Goals as goal
 pub returns-in-Err-clause-err : goal.returns-in-Err-clause-err
 returns-in-Err-clause-err c other =
     let bad = bad_key c.in-Err.e.kind c.refusal_of.result c.refusal_of.ensures other in
-    let path = path_of c.args.under in
-    (bad.0, ap (λ name. is_key (path ++ name ∷ [])) (sym c.as_bytes.ensures.value) ∙ refused_no_key path c.as_bytes.result.now c.in-Err.e.kind c.in-Err.e.place (c.in-Err.ensures.refused bad.1))
+    let path = path_of c.args.under in (
+      bad.0,
+      ap (λ name. is_key (path ++ name ∷ [])) (sym c.as_bytes.ensures.value) ∙ refused_no_key path c.as_bytes.result.now c.in-Err.e.kind c.in-Err.e.place
+          (c.in-Err.ensures.refused bad.1),
+    )

@@ -35,7 +35,8 @@ write_members-loop-rest-preserved g t c =
     let branch = c.in_ok-write_member.ensures.branch in
     record {
       nesting =
-          nesting_cut g.L.Leaf.leaf g.L.Leaf.written c.args.level c.args.pairs.now c.loop-rest.rest.now c.split_at.result.0.now c.split_at.result.1.now c.group_len.result branch.0 _ _ _
+          nesting_cut g.L.Leaf.leaf g.L.Leaf.written c.args.level c.args.pairs.now c.loop-rest.rest.now c.split_at.result.0.now c.split_at.result.1.now
+          c.group_len.result branch.0 _ _ _
           c.loop-rest.invariant.nesting c.split_at.ensures.front c.split_at.ensures.back cut.some cut.within cut.same cut.later branch.1 branch.2;
       before = search rules;
     }
@@ -44,15 +45,18 @@ pub write_members-returns-clause-tree : goal.write_members-returns-clause-tree
 write_members-returns-clause-tree g t c =
     let none : length c.loop-rest.rest.now ≡ 0 = search rules in
     on_ok_weaker c.end_object.result
-    (λ ended. nesting_ended g.L.Leaf.leaf g.L.Leaf.written c.args.level c.args.pairs.now _ _ _ _ _ c.loop-rest.invariant.nesting none c.in_ok-begin_object.ensures.ok ended) c.end_object.ensures.ok
+    (λ ended. nesting_ended g.L.Leaf.leaf g.L.Leaf.written c.args.level c.args.pairs.now _ _ _ _ _ c.loop-rest.invariant.nesting none
+    c.in_ok-begin_object.ensures.ok ended) c.end_object.ensures.ok
 
 pub write_member-write_members-requires : goal.write_member-write_members-requires
 write_member-write_members-requires g t c κs within =
-    let shallow = level_within c.args.level c.args.group.now c.index-group-0.result c.index-group-0.is c.requires.some c.requires.nestable c.len.ensures.valid in (
+    let shallow = level_within c.args.level c.args.group.now c.index-group-0.result c.index-group-0.is c.requires.some c.requires.nestable c.len.ensures.valid
+    in (
       omega (arith, shallow),
       (
         within,
-        nestable_next c.args.level c.args.group.now c.index-group-0.result c.index-group-0.is c.requires.some c.requires.nestable c.requires.same (λ e. c.if-len-level.false (c.len.ensures.count ∙ e)),
+        nestable_next c.args.level c.args.group.now c.index-group-0.result c.index-group-0.is c.requires.some c.requires.nestable c.requires.same
+            (λ e. c.if-len-level.false (c.len.ensures.count ∙ e)),
       ),
     )
 
@@ -63,9 +67,11 @@ write_member-returns-then-len-level-clause-branch g t c =
     on_ok_both c.write.result
     (λ tokens writable. (
       g.L.Leaf.written first.1,
-      leaf_branch g.L.Leaf.leaf g.L.Leaf.written c.args.level c.args.group.now first c.index-group-0.is c.requires.some c.requires.nestable c.requires.same (sym c.len.ensures.count ∙ c.if-len-level.true)
+      leaf_branch g.L.Leaf.leaf g.L.Leaf.written c.args.level c.args.group.now first c.index-group-0.is c.requires.some c.requires.nestable c.requires.same
+          (sym c.len.ensures.count ∙ c.if-len-level.true)
           c.len.ensures.valid writable,
-      member_tokens c.args.writer.now.tokens c.key.new.self.tokens _ _ c.name_at.result.now (first_name c.args.level (keys_of c.args.group.now)) c.in_ok-key.ensures.ok
+      member_tokens c.args.writer.now.tokens c.key.new.self.tokens _ _ c.name_at.result.now (first_name c.args.level (keys_of c.args.group.now))
+          c.in_ok-key.ensures.ok
           (named c.args.level c.args.group.now c.index-group-0.result c.name_at.result.now c.index-group-0.is c.requires.some c.name_at.ensures)
           tokens,
     )) c.write.ensures.tokens c.write.ensures.writable
@@ -79,7 +85,8 @@ write_member-returns-else-len-level-clause-branch g t c =
     (λ tree. (
       object tree.0,
       object_branch g.L.Leaf.leaf g.L.Leaf.written c.args.level c.args.group.now tree.0 c.requires.some shallow tree.1,
-      member_tokens c.args.writer.now.tokens c.key.new.self.tokens _ _ c.name_at.result.now (first_name c.args.level (keys_of c.args.group.now)) c.in_ok-key.ensures.ok
+      member_tokens c.args.writer.now.tokens c.key.new.self.tokens _ _ c.name_at.result.now (first_name c.args.level (keys_of c.args.group.now))
+          c.in_ok-key.ensures.ok
           (named c.args.level c.args.group.now c.index-group-0.result c.name_at.result.now c.index-group-0.is c.requires.some c.name_at.ensures)
           tree.2,
     )) c.write_members.ensures.tree

@@ -6,7 +6,8 @@ use Rattle.json_trees.proofs.Groups.{key_at, key_more, group_of, later_names, fi
 use Rattle.json_trees.proofs.nesting.group_len.Goals as goal
 
 pub segment-requires : goal.segment-requires
-segment-requires g c = rw c.index-pairs-index.is (key_at (λ key. c.args.level < length key) c.args.pairs.now c.loop-index.index c.index-pairs-index.result c.requires.nestable.longer c.loop-index-test.true)
+segment-requires g c = rw c.index-pairs-index.is (key_at (λ key. c.args.level < length key) c.args.pairs.now c.loop-index.index c.index-pairs-index.result
+    c.requires.nestable.longer c.loop-index-test.true)
 
 pub returns-then-ne-clause-same : goal.returns-then-ne-clause-same
 returns-then-ne-clause-same g c = group_of c.args.level c.segment-name.result.now (keys_of (take c.loop-index.index c.args.pairs.now)) c.loop-index.invariant
@@ -21,7 +22,8 @@ returns-clause-same g c =
 pub loop-index-preserved : goal.loop-index-preserved
 loop-index-preserved g c =
     let same : c.segment.result.now ≡ c.segment-name.result.now = search rules in
-    key_more (λ key. name_of c.args.level key ≡ c.segment-name.result.now) c.args.pairs.now c.loop-index.index c.index-pairs-index.result c.loop-index-test.true c.loop-index.invariant
+    key_more (λ key. name_of c.args.level key ≡ c.segment-name.result.now) c.args.pairs.now c.loop-index.index c.index-pairs-index.result c.loop-index-test.true
+    c.loop-index.invariant
     (ap (λ p. name_of c.args.level p.0) (sym c.index-pairs-index.is) ∙ sym c.segment.ensures.bytes ∙ same)
 
 pub returns-then-ne-clause-later : goal.returns-then-ne-clause-later
@@ -30,4 +32,5 @@ returns-then-ne-clause-later g c =
     let other : c.segment.result.now ≢ c.segment-name.result.now = search rules in
     later_names level c.args.pairs.now c.loop-index.index c.index-pairs-index.result c.requires.nestable c.loop-index-test.true
     (λ e. other
-    (c.segment.ensures.bytes ∙ ap (λ p. name_of level p.0) c.index-pairs-index.is ∙ e ∙ first_name-at level c.args.pairs.now c.index-pairs-0.result c.requires.some ∙ sym c.segment-name.ensures.bytes))
+    (c.segment.ensures.bytes ∙ ap (λ p. name_of level p.0) c.index-pairs-index.is ∙ e ∙ first_name-at level c.args.pairs.now c.index-pairs-0.result
+    c.requires.some ∙ sym c.segment-name.ensures.bytes))

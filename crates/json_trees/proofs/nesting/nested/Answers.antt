@@ -20,4 +20,5 @@ pub returns-clause-flattens_back : goal.returns-clause-flattens_back
 returns-clause-flattens_back g c =
     let tree = c.in_ok-write_members.ensures.tree in
     let written = tree.2 ∙ ap (λ ts. ts ++ data_tokens (object tree.0)) c.new-writer.ensures.tokens in
-    FlattensBack-text g.L.Leaf.leaf g.L.Leaf.written c.args.level c.args.pairs.now tree.0 tree.1 c.text_of.result c.text_of.ensures.utf8 (c.text_of.ensures.reads_back ∙ written)
+    FlattensBack-text g.L.Leaf.leaf g.L.Leaf.written c.args.level c.args.pairs.now tree.0 tree.1 c.text_of.result c.text_of.ensures.utf8
+    (c.text_of.ensures.reads_back ∙ written)

@@ -12,5 +12,6 @@ pub returns-in_err-items_of-in-Array-clause-err :
     goal.returns-in_err-items_of-in-Array-clause-err
 returns-in_err-items_of-in-Array-clause-err c =
     let e = c.in_err-items_of-in-Array.field-0.0 in
-    let refused : e ≢ Memory → scalar_of (view c.args.value) ≡ Err e = λ other. scalar_of-Array c.args.value c.in-Array.values (Err e) c.in-Array.is (c.in_err-items_of-in-Array.ensures.err other) in
+    let refused : e ≢ Memory → scalar_of (view c.args.value) ≡ Err e =
+    λ other. scalar_of-Array c.args.value c.in-Array.values (Err e) c.in-Array.is (c.in_err-items_of-in-Array.ensures.err other) in
     search (rules, refused)

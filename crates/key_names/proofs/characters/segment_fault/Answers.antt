@@ -12,4 +12,5 @@ pub returns-then-is_empty : goal.returns-then-is_empty
 returns-then-is_empty c = let none : length c.args.bytes.now ≡ 0 = grind (arith, nat_tests) in no_bytes (empty_list c.args.bytes.now none)
 
 pub returns-else-is_empty : goal.returns-else-is_empty
-returns-else-is_empty c = let some : 0 < length c.args.bytes.now = grind (arith, nat_tests) in segment_at_run c.args.bytes.now c.quotable_len-len.result (IsRun-from c.quotable_len-len.ensures.value) c.if-len-bytes.false some
+returns-else-is_empty c = let some : 0 < length c.args.bytes.now = grind (arith, nat_tests) in
+    segment_at_run c.args.bytes.now c.quotable_len-len.result (IsRun-from c.quotable_len-len.ensures.value) c.if-len-bytes.false some

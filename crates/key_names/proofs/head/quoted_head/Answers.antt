@@ -16,7 +16,8 @@ returns-then-closing-ne34-clause-refused c =
 pub returns-then-len-eq0-clause-refused : goal.returns-then-len-eq0-clause-refused
 returns-then-len-eq0-clause-refused c =
     nothing_inside c.args.inside.now c.quotable_len-len.result (IsRun-from c.quotable_len-len.ensures.value)
-    c.in-Some.behind.now c.if-len-eq0.true (sym c.split_at.ensures.back ∙ c.in-Some.ensures.cases.0 ∙ ap (λ b. b ∷ c.in-Some.behind.now) c.if-closing-ne34.false)
+    c.in-Some.behind.now c.if-len-eq0.true (sym c.split_at.ensures.back ∙ c.in-Some.ensures.cases.0
+    ∙ ap (λ b. b ∷ c.in-Some.behind.now) c.if-closing-ne34.false)
 
 pub returns-then-not-ends-clause-refused : goal.returns-then-not-ends-clause-refused
 returns-then-not-ends-clause-refused c =

@@ -4,7 +4,7 @@ use denote.Text.{Utf8}
 use Rattle.key_names.specs.Packed.{parts, segments_of}
 use Rattle.key_names.proofs.packed_text.segment_at.Given as goal
 
--- the segment is so far behind in what is left
+-- the segment is so far on in what is left
 abbrev pub invariant-loop-front : goal.invariant-loop-front
 invariant-loop-front l = record {
   within : l.left < length (parts l.rest);

@@ -8,7 +8,8 @@ pub loop-head-init : goal.loop-head-init
 loop-head-init c = record {
   within = omega arith;
   leads = Leads-none IsSpelling 46 c.args.text.now c.new-spelled.result.segments c.new-spelled.ensures.segments;
-  marked = AreMarked-none c.args.text.now c.new-spelled.result.segments c.new-spelled.result.surplus c.new-spelled.result.overlong c.new-spelled.ensures.segments c.new-spelled.ensures.surplus c.new-spelled.ensures.overlong;
+  marked = AreMarked-none c.args.text.now c.new-spelled.result.segments c.new-spelled.result.surplus c.new-spelled.result.overlong
+      c.new-spelled.ensures.segments c.new-spelled.ensures.surplus c.new-spelled.ensures.overlong;
 }
 
 pub returns-then-start-text-clause-spelled : goal.returns-then-start-text-clause-spelled

@@ -19,7 +19,8 @@ loop-turn-preserved g c =
     let one = c.in_ok-turn_once.ensures in
     record {
       counted = moves_then
-          (λ old between new so_far turn. counted_then [] [] c.args.core.now c.loop-turn.core c.turn_once.new.core c.args.counts.now c.loop-turn.counts c.turn_once.new.counts
+          (λ old between new so_far turn. counted_then [] [] c.args.core.now c.loop-turn.core c.turn_once.new.core c.args.counts.now c.loop-turn.counts
+          c.turn_once.new.counts
           (ran c.args.spawner.now) (ran c.loop-turn.spawner) (ran c.turn_once.new.spawner) old between new so_far turn)
           was.counted one.counted;
       sound = one.sound;

@@ -20,7 +20,8 @@ pub returns : goal.returns
 returns c =
     let files = c.deref-file-items.result.now in
     let all : map file_of (take c.loop-file.file-index files) ≡ image_files c.args.count =
-    ap (map file_of) (take_all c.loop-file.file-index files c.loop-file-test.false) ∙ ap (map file_of) c.deref-file-items.ensures.value ∙ c.in_ok-image.ensures in
+    ap (map file_of) (take_all c.loop-file.file-index files c.loop-file-test.false) ∙ ap (map file_of) c.deref-file-items.ensures.value
+    ∙ c.in_ok-image.ensures in
     IfOk-weaker c.of_tree.result _ _
     (λ disk stands. record {
       nodes = c.loop-file.nodes.items;

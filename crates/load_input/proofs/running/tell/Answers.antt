@@ -17,7 +17,8 @@ returns g c =
     (λ old new counted. record {
       counts = c.serve.new.counts;
       runs = ran c.serve.new.spawner;
-      counted = counted_from bytes (requests_of c.args.count) c.args.core.now c.serve.new.core c.none-counts.result c.serve.new.counts (ran c.of_statuses-spawner.result)
+      counted = counted_from bytes (requests_of c.args.count) c.args.core.now c.serve.new.core c.none-counts.result c.serve.new.counts
+          (ran c.of_statuses-spawner.result)
           (ran c.serve.new.spawner) old new same c.none-counts.ensures (ap (map run_of) c.of_statuses-spawner.ensures.runs) counted;
       idle = c.in_ok-serve.ensures.still;
       requests = all_counted bytes (requests_of c.args.count) c.none-counts.result c.serve.new.counts same c.none-counts.ensures c.in_ok-serve.ensures.all;

@@ -26,12 +26,14 @@ loop-request-preserved g c =
     take_more c.args.requests.now c.loop-request.request-index bytes c.loop-request-test.true ∙ ap (λ (b : List ℕ). so_far ++ b ∷ []) (sym c.request-item.is) in
     record {
       counted = moves_then
-          (λ old between new first then_it. counted_whole (so_far ++ bytes ∷ []) (take (c.loop-request.request-index + 1) c.args.requests.now) c.args.core.now c.drive.new.core
+          (λ old between new first then_it. counted_whole (so_far ++ bytes ∷ []) (take (c.loop-request.request-index + 1) c.args.requests.now) c.args.core.now
+          c.drive.new.core
           c.args.counts.now c.drive.new.counts (ran c.args.spawner.now) (ran c.drive.new.spawner) old new (sym more)
           (counted_then (so_far ++ bytes ∷ []) [] c.args.core.now c.answer.new.core c.drive.new.core c.args.counts.now c.answer.new.counts c.drive.new.counts
           (ran c.args.spawner.now) (ran c.loop-request.spawner) (ran c.drive.new.spawner) old between new first then_it))
           (moves_then
-          (λ old between new first then_it. counted_then so_far (bytes ∷ []) c.args.core.now c.loop-request.core c.answer.new.core c.args.counts.now c.loop-request.counts
+          (λ old between new first then_it. counted_then so_far (bytes ∷ []) c.args.core.now c.loop-request.core c.answer.new.core c.args.counts.now
+          c.loop-request.counts
           c.answer.new.counts (ran c.args.spawner.now) (ran c.loop-request.spawner) (ran c.loop-request.spawner) old between new first then_it)
           was.counted (a.counted (ran c.loop-request.spawner)))
           d.counted;

@@ -25,26 +25,34 @@ loop-key-smaller c = keys_fall c.args.content.now.metadata (option_copied c.loop
 
 pub loop-key-preserved : goal.loop-key-preserved
 loop-key-preserved c =
-    let next = lists_next c.args.content.now.metadata (option_copied c.loop-key.after) c.in-Some.key.now c.in-Some.ensures.least (option_copied c.meta-value.result) c.meta-value.ensures in
+    let next = lists_next c.args.content.now.metadata (option_copied c.loop-key.after) c.in-Some.key.now c.in-Some.ensures.least
+    (option_copied c.meta-value.result) c.meta-value.ensures in
     record {
-      read = read_more _ (sound c.loop-key.lists.items) _ (lists_at c.in-Some.key.now (option_copied c.meta-value.result)) _ _ next c.in_ok-push_list.ensures.read c.loop-key.invariant.read;
-      left = sound_more (list_faults (is_among (option_copied c.args.services))) (lists_at c.in-Some.key.now (option_copied c.meta-value.result)) _ _ _ next c.in_ok-push_list.ensures.sound c.loop-key.invariant.left;
+      read = read_more _ (sound c.loop-key.lists.items) _ (lists_at c.in-Some.key.now (option_copied c.meta-value.result)) _ _ next
+          c.in_ok-push_list.ensures.read c.loop-key.invariant.read;
+      left = sound_more (list_faults (is_among (option_copied c.args.services))) (lists_at c.in-Some.key.now (option_copied c.meta-value.result)) _ _ _ next
+          c.in_ok-push_list.ensures.sound c.loop-key.invariant.left;
     }
 
 pub of_rising-requires : goal.of_rising-requires
 of_rising-requires c = lists_rise c.args.content.now.metadata c.loop-key.lists.items
-    (taken_all lists_of refl _ _ (sound c.loop-key.lists.items) (walk_end key_total key_cmp-IsAntisymmetric c.args.content.now.metadata (option_copied c.loop-key.after) c.in_default.ensures.none) c.loop-key.invariant.read)
+    (taken_all lists_of refl _ _ (sound c.loop-key.lists.items) (walk_end key_total key_cmp-IsAntisymmetric c.args.content.now.metadata
+    (option_copied c.loop-key.after) c.in_default.ensures.none) c.loop-key.invariant.read)
 
 pub returns-clause-ok : goal.returns-clause-ok
 returns-clause-ok c = ap sound c.of_rising.ensures
-    ∙ taken_all lists_of refl _ _ (sound c.loop-key.lists.items) (walk_end key_total key_cmp-IsAntisymmetric c.args.content.now.metadata (option_copied c.loop-key.after) c.in_default.ensures.none) c.loop-key.invariant.read
+    ∙ taken_all lists_of refl _ _ (sound c.loop-key.lists.items) (walk_end key_total key_cmp-IsAntisymmetric c.args.content.now.metadata
+    (option_copied c.loop-key.after) c.in_default.ensures.none) c.loop-key.invariant.read
 
 pub returns-clause-sound : goal.returns-clause-sound
 returns-clause-sound c = sym c.loop-key.invariant.left
-    ∙ ap (λ l. flat_map (list_faults (is_among (option_copied c.args.services))) (lists_of l)) (walk_end key_total key_cmp-IsAntisymmetric c.args.content.now.metadata (option_copied c.loop-key.after) c.in_default.ensures.none)
+    ∙ ap (λ l. flat_map (list_faults (is_among (option_copied c.args.services))) (lists_of l))
+    (walk_end key_total key_cmp-IsAntisymmetric c.args.content.now.metadata (option_copied c.loop-key.after) c.in_default.ensures.none)
 
 pub returns-in_err-push_list-clause-err : goal.returns-in_err-push_list-clause-err
 returns-in_err-push_list-clause-err c =
-    let next = lists_next c.args.content.now.metadata (option_copied c.loop-key.after) c.in-Some.key.now c.in-Some.ensures.least (option_copied c.meta-value.result) c.meta-value.ensures in
+    let next = lists_next c.args.content.now.metadata (option_copied c.loop-key.after) c.in-Some.key.now c.in-Some.ensures.least
+    (option_copied c.meta-value.result) c.meta-value.ensures in
     handed_on c.from_residual.result c.in_err-push_list.field-0.0 _ c.from_residual.ensures.1
-    (λ other. fault_first (list_faults (is_among (option_copied c.args.services))) (lists_at c.in-Some.key.now (option_copied c.meta-value.result)) _ _ _ c.in_err-push_list.field-0.0 next (c.in_err-push_list.ensures.err other) c.loop-key.invariant.left)
+    (λ other. fault_first (list_faults (is_among (option_copied c.args.services))) (lists_at c.in-Some.key.now (option_copied c.meta-value.result)) _ _ _
+    c.in_err-push_list.field-0.0 next (c.in_err-push_list.ensures.err other) c.loop-key.invariant.left)

@@ -9,7 +9,8 @@ use Rattle.metadata_links.proofs.affected_lists.lists_in.Given as goal
 abbrev pub invariant-loop-key : goal.invariant-loop-key
 invariant-loop-key l = record {
   read : map (λ e. (e.0, Ok e.1)) l.lists.items ++ lists_of (entries_past l.content.metadata (option_copied l.after)) ≡ lists_in l.content.metadata;
-  left : flat_map (list_faults (is_among (option_copied l.services))) (lists_of (entries_past l.content.metadata (option_copied l.after))) ≡ flat_map (list_faults (is_among (option_copied l.services))) (lists_in l.content.metadata);
+  left : flat_map (list_faults (is_among (option_copied l.services))) (lists_of (entries_past l.content.metadata (option_copied l.after))) ≡ flat_map
+      (list_faults (is_among (option_copied l.services))) (lists_in l.content.metadata);
 }
 
 abbrev pub decreases-loop-key : goal.decreases-loop-key

@@ -8,5 +8,7 @@ use Rattle.metadata_links.proofs.Gatherings.{gathered}
 use Rattle.metadata_links.proofs.fields.fields_below.Goals as goal
 
 pub returns : goal.returns
-returns c = IfOk-weaker c.gather.result _ _ (λ found is. gathered c.args.content.now.values c.args.first.now c.args.one.now c.args.other.now c.requires.apart (from_entries {R = bytes_cmp} found.entries)
-    (is ∙ ap (λ (p : List (List ℕ)). fold (with_value c.args.one.now c.args.other.now) empty (entries_below c.args.content.now.values p)) c.in_ok-prefix.ensures)) c.gather.ensures
+returns c = IfOk-weaker c.gather.result _ _ (λ found is. gathered c.args.content.now.values c.args.first.now c.args.one.now c.args.other.now c.requires.apart
+    (from_entries {R = bytes_cmp} found.entries)
+    (is ∙ ap (λ (p : List (List ℕ)). fold (with_value c.args.one.now c.args.other.now) empty (entries_below c.args.content.now.values p))
+    c.in_ok-prefix.ensures)) c.gather.ensures

@@ -13,7 +13,8 @@ returns-then-is_ne c =
     let within : i < length first = omega (arith, length-take-le c.args.len c.args.key.now c.requires) in
     differs_at (drop i own) (drop i first) c.segment.result.now c.segment-in-loop-i.result.now (drop (i + 1) own) (drop (i + 1) first) c.cmp-order.result _
     (drop_more own i [] low ∙ ap (λ (s : List ℕ). s ∷ drop (i + 1) own) (sym c.segment.ensures.bytes))
-    (drop_more first i [] within ∙ ap (λ (s : List ℕ). s ∷ drop (i + 1) first) (get_or-take c.args.len c.args.key.now i [] under ∙ sym c.segment-in-loop-i.ensures.bytes))
+    (drop_more first i [] within ∙ ap (λ (s : List ℕ). s ∷ drop (i + 1) first)
+    (get_or-take c.args.len c.args.key.now i [] under ∙ sym c.segment-in-loop-i.ensures.bytes))
     c.cmp-order.ensures (sym c.is_ne.ensures ∙ c.if-is_ne.true) c.loop-i.invariant
 
 pub loop-i-preserved : goal.loop-i-preserved
@@ -26,10 +27,12 @@ loop-i-preserved c =
     let within : i < length first = omega (arith, length-take-le c.args.len c.args.key.now c.requires) in
     ties_at (drop i own) (drop i first) c.segment.result.now c.segment-in-loop-i.result.now (drop (i + 1) own) (drop (i + 1) first) c.cmp-order.result _
     (drop_more own i [] low ∙ ap (λ (s : List ℕ). s ∷ drop (i + 1) own) (sym c.segment.ensures.bytes))
-    (drop_more first i [] within ∙ ap (λ (s : List ℕ). s ∷ drop (i + 1) first) (get_or-take c.args.len c.args.key.now i [] under ∙ sym c.segment-in-loop-i.ensures.bytes))
+    (drop_more first i [] within ∙ ap (λ (s : List ℕ). s ∷ drop (i + 1) first)
+    (get_or-take c.args.len c.args.key.now i [] under ∙ sym c.segment-in-loop-i.ensures.bytes))
     c.cmp-order.ensures (sym c.is_ne.ensures ∙ c.if-is_ne.false) c.loop-i.invariant
 
 pub returns : goal.returns
 returns c =
     let first : List (List ℕ) = take c.args.len c.args.key.now in
-    c.cmp.ensures ∙ through_at c.args.own.now first c.loop-i.i c.len-most.result c.args.len (sym c.len-most.ensures.count) (length-take-le c.args.len c.args.key.now c.requires) (omega arith) c.loop-i.invariant (omega arith)
+    c.cmp.ensures ∙ through_at c.args.own.now first c.loop-i.i c.len-most.result c.args.len (sym c.len-most.ensures.count)
+    (length-take-le c.args.len c.args.key.now c.requires) (omega arith) c.loop-i.invariant (omega arith)

@@ -7,8 +7,10 @@ use Rattle.metadata_links.proofs.paths.check_nested.Goals as goal
 
 pub returns-in_ok-copy-in-Some-2-clause-err : goal.returns-in_ok-copy-in-Some-2-clause-err
 returns-in_ok-copy-in-Some-2-clause-err c = λ other.
-    found_first (λ (p : FileRow × FileRow). NestedPath p.0.name p.1.name) (λ (p : FileRow × FileRow). is_nested p.0 p.1) (pairs_of (map (λ e. e.1) c.args.files.now)) (c.in-Some.first.now, c.in-Some.second.now) c.in-Some.ensures.some
+    found_first (λ (p : FileRow × FileRow). NestedPath p.0.name p.1.name) (λ (p : FileRow × FileRow). is_nested p.0 p.1)
+    (pairs_of (map (λ e. e.1) c.args.files.now)) (c.in-Some.first.now, c.in-Some.second.now) c.in-Some.ensures.some
     ∙ (λ i. Some (NestedPath (sym c.in_ok-copy-in-Some.ensures i) (sym c.in_ok-copy-in-Some-2.ensures i)))
 
 pub returns-in-None-clause-ok : goal.returns-in-None-clause-ok
-returns-in-None-clause-ok c = found_none (λ (p : FileRow × FileRow). NestedPath p.0.name p.1.name) (λ (p : FileRow × FileRow). is_nested p.0 p.1) (pairs_of (map (λ e. e.1) c.args.files.now)) c.in-None.ensures.none
+returns-in-None-clause-ok c = found_none (λ (p : FileRow × FileRow). NestedPath p.0.name p.1.name) (λ (p : FileRow × FileRow). is_nested p.0 p.1)
+    (pairs_of (map (λ e. e.1) c.args.files.now)) c.in-None.ensures.none

@@ -5,4 +5,5 @@ use Rattle.metadata_links.specs.Faults.{service_faults}
 use Rattle.metadata_links.proofs.service_links.check_services.Given as goal
 
 abbrev pub invariant-loop-name : goal.invariant-loop-name
-invariant-loop-name l = flat_map (service_faults (keys l.files)) (drop l.name-index l.name-items) ≡ flat_map (service_faults (keys l.files)) (entries l.services)
+invariant-loop-name l = flat_map (service_faults (keys l.files)) (drop l.name-index l.name-items) ≡ flat_map (service_faults (keys l.files))
+    (entries l.services)

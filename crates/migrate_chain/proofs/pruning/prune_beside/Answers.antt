@@ -10,12 +10,14 @@ returns-in_err-folder-clause-prunes g c = λ place there led.
 
 pub returns-in_err-sync-clause-prunes : goal.returns-in_err-sync-clause-prunes
 returns-in_err-sync-clause-prunes g c = λ place there led.
-    rw (error_is c.from_residual-in_err-sync.result _ c.from_residual-in_err-sync.ensures.1) (fails_to_sync place c.in_err-sync.field-0.0 _ _ led c.in_err-sync.ensures.synced)
+    rw (error_is c.from_residual-in_err-sync.result _ c.from_residual-in_err-sync.ensures.1)
+    (fails_to_sync place c.in_err-sync.field-0.0 _ _ led c.in_err-sync.ensures.synced)
 
 pub returns-in_err-paths-clause-prunes : goal.returns-in_err-paths-clause-prunes
 returns-in_err-paths-clause-prunes g c = λ place there led.
     rw (error_is c.from_residual-in_err-paths.result _ c.from_residual-in_err-paths.ensures.1)
-    (fails_behind place _ c.in_ok-sync.field-0 _ _ _ (disk_late c.in_err-paths.field-0.0) led c.in_ok-sync.ensures.synced (still_removed place.directory _ _ c.in_err-paths.ensures.same))
+    (fails_behind place _ c.in_ok-sync.field-0 _ _ _ (disk_late c.in_err-paths.field-0.0) led c.in_ok-sync.ensures.synced
+    (still_removed place.directory _ _ c.in_err-paths.ensures.same))
 
 pub returns-in_err-remove_others-clause-prunes : goal.returns-in_err-remove_others-clause-prunes
 returns-in_err-remove_others-clause-prunes g c = λ place there led.
@@ -26,4 +28,5 @@ returns-in_err-remove_others-clause-prunes g c = λ place there led.
 pub returns-clause-prunes : goal.returns-clause-prunes
 returns-clause-prunes g c = λ place there led.
     prune_ends place c.deref.result.now c.in_ok-folder.folder c.in_ok-remove_others.field-0 c.in_ok-sync.field-0 _ _ _ led
-    c.in_ok-sync.ensures.synced c.in_ok-folder.ensures (rw c.deref.ensures.value c.in_ok-paths.ensures.paths) (rw there (moves_after c.in_ok-paths.ensures.same c.in_ok-remove_others.ensures.all)) (rw there c.in_ok-remove_others.ensures.counted)
+    c.in_ok-sync.ensures.synced c.in_ok-folder.ensures (rw c.deref.ensures.value c.in_ok-paths.ensures.paths)
+    (rw there (moves_after c.in_ok-paths.ensures.same c.in_ok-remove_others.ensures.all)) (rw there c.in_ok-remove_others.ensures.counted)

@@ -19,7 +19,8 @@ loop-path-preserved g c =
       | then-is_left_over+in_ok-remove w ↦
           let is = c.is_left_over.ensures.0 w.if-is_left_over.true in
           rw (w.disk-is, w.count-is) (record {
-            removes = one_removed dir paths i path w.in_ok-remove.field-0 _ _ _ within c.path-item.is is c.loop-path.invariant.removes w.in_ok-remove.ensures.removed;
+            removes = one_removed dir paths i path w.in_ok-remove.field-0 _ _ _ within c.path-item.is is c.loop-path.invariant.removes
+                w.in_ok-remove.ensures.removed;
             faults = w.in_ok-remove.ensures.cause.kept ∙ c.loop-path.invariant.faults;
             counted = one_more (IsLeftOver dir) paths i c.loop-path.count path within c.path-item.is is c.loop-path.invariant.counted;
             bound = omega (arith, c.loop-path.invariant.bound);

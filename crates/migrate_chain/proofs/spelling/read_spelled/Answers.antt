@@ -12,9 +12,11 @@ returns-clause-exact c =
 pub returns-clause-ok : goal.returns-clause-ok
 returns-clause-ok c =
     let is : IsCompact c.args.text.now (string_bytes c.in-Some.compact) = search rules in
-    both_ok c.read.result c.read.ensures.ok c.read.ensures.valid (λ h prints valid. print_spelled c.args.text.now _ h is valid (prints ∙ c.as_bytes.ensures.value))
+    both_ok c.read.result c.read.ensures.ok c.read.ensures.valid (λ h prints valid. print_spelled c.args.text.now _ h is valid
+    (prints ∙ c.as_bytes.ensures.value))
 
 pub returns-clause-bad : goal.returns-clause-bad
 returns-clause-bad c =
     let is : IsCompact c.args.text.now (string_bytes c.in-Some.compact) = search rules in
-    none_spelled c.args.text.now c.read.result (λ h spells. c.read.ensures.exact h spells.valid (compact_prints c.args.text.now _ h is spells ∙ sym c.as_bytes.ensures.value))
+    none_spelled c.args.text.now c.read.result (λ h spells. c.read.ensures.exact h spells.valid
+    (compact_prints c.args.text.now _ h is spells ∙ sym c.as_bytes.ensures.value))

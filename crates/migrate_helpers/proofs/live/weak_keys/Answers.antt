@@ -9,13 +9,16 @@ pub loop-key-init : goal.loop-key-init
 loop-key-init c = weak_start c.args.settings.now _ (search rules)
 
 pub loop-key-preserved : goal.loop-key-preserved
-loop-key-preserved c = weak_next c.args.settings.now (option_copied c.loop-key.after) c.in-Some.key.now c.in-Some.setting.now c.loop-key.keys.items _ c.in-Some.ensures.least c.loop-key.invariant c.in_ok-push_if_weak.ensures
+loop-key-preserved c = weak_next c.args.settings.now (option_copied c.loop-key.after) c.in-Some.key.now c.in-Some.setting.now c.loop-key.keys.items _
+    c.in-Some.ensures.least c.loop-key.invariant c.in_ok-push_if_weak.ensures
 
 pub loop-key-smaller : goal.loop-key-smaller
-loop-key-smaller c = walk_falls key_total key_cmp-IsAntisymmetric c.args.settings.now (option_copied c.loop-key.after) c.in-Some.key.now c.in-Some.setting.now c.in-Some.ensures.least
+loop-key-smaller c = walk_falls key_total key_cmp-IsAntisymmetric c.args.settings.now (option_copied c.loop-key.after) c.in-Some.key.now c.in-Some.setting.now
+    c.in-Some.ensures.least
 
 pub of-requires : goal.of-requires
-of-requires c = weak_rises c.args.settings.now c.loop-key.keys.items (weak_end c.args.settings.now (option_copied c.loop-key.after) c.loop-key.keys.items c.in_default.ensures.none c.loop-key.invariant)
+of-requires c = weak_rises c.args.settings.now c.loop-key.keys.items (weak_end c.args.settings.now (option_copied c.loop-key.after) c.loop-key.keys.items
+    c.in_default.ensures.none c.loop-key.invariant)
 
 pub returns : goal.returns
 returns c = c.of.ensures ∙ weak_end c.args.settings.now (option_copied c.loop-key.after) c.loop-key.keys.items c.in_default.ensures.none c.loop-key.invariant

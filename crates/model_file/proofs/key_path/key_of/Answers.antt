@@ -7,7 +7,8 @@ use Rattle.model_file.proofs.key_path.key_of.Goals as goal
 
 pub returns-in-None : goal.returns-in-None
 returns-in-None c =
-    ends (c.args.first.now ∷ []) c.args.names.now c.loop-name.key c.loop-name.name-index c.as_str.result.now c.name-item.result (omega arith) c.loop-name.invariant.0
+    ends (c.args.first.now ∷ []) c.args.names.now c.loop-name.key c.loop-name.name-index c.as_str.result.now c.name-item.result (omega arith)
+    c.loop-name.invariant.0
     (c.as_str.ensures ∙ c.name-item.is) (sym c.in-None.is ∙ c.in_ok-more.ensures)
 
 pub returns-in_default : goal.returns-in_default
@@ -18,6 +19,7 @@ loop-name-preserved c =
     let more = c.loop-name.key ++ c.as_str.result.now ∷ [] in
     let kept = some_if (is_key more) c.in-Some-2.more more (sym c.in-Some-2.is ∙ c.in_ok-more.ensures) in
     let is =
-    one_more (c.args.first.now ∷ []) c.args.names.now c.loop-name.key c.loop-name.name-index c.as_str.result.now c.name-item.result (omega arith) c.loop-name.invariant.0
+    one_more (c.args.first.now ∷ []) c.args.names.now c.loop-name.key c.loop-name.name-index c.as_str.result.now c.name-item.result (omega arith)
+    c.loop-name.invariant.0
     (c.as_str.ensures ∙ c.name-item.is) in
     (kept.1 ∙ is, ap is_key kept.1 ∙ kept.0)

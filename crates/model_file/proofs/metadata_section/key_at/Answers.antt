@@ -19,18 +19,21 @@ pub returns-in-None-clause-refused : goal.returns-in-None-clause-refused
 returns-in-None-clause-refused c =
     let names : c.key_names.result.now ≡ codes "settings" ∷ c.in-Some.names.now = search rules in
     let path : c.deref-in-None.result.now ≡ c.args.entry.now.0 = search rules in
-    λ rows. key_refuses rows c.args.entry.now c.refused-in-None.result c.in-Some.names.now (sym c.key_names.ensures ∙ names) (none_if _ _ (sym c.in-None.is ∙ c.in_ok-key.ensures))
+    λ rows. key_refuses rows c.args.entry.now c.refused-in-None.result c.in-Some.names.now (sym c.key_names.ensures ∙ names)
+    (none_if _ _ (sym c.in-None.is ∙ c.in_ok-key.ensures))
     (subst (λ (p : Path). IsAt BadKey (codes "metadata" ∷ p) c.refused-in-None.result) path c.refused-in-None.ensures)
 
 pub returns-in-Some-2-clause-key : goal.returns-in-Some-2-clause-key
 returns-in-Some-2-clause-key c =
     let names : c.key_names.result.now ≡ codes "settings" ∷ c.in-Some.names.now = search rules in
-    let kept = some_if (is_key (codes "settings" ∷ c.in-Some.names.now)) c.in-Some-2.key (codes "settings" ∷ c.in-Some.names.now) (sym c.in-Some-2.is ∙ c.in_ok-key.ensures) in
+    let kept = some_if (is_key (codes "settings" ∷ c.in-Some.names.now)) c.in-Some-2.key (codes "settings" ∷ c.in-Some.names.now)
+    (sym c.in-Some-2.is ∙ c.in_ok-key.ensures) in
     kept.1 ∙ sym names ∙ c.key_names.ensures
 
 pub returns-in-Some-2-clause-passes : goal.returns-in-Some-2-clause-passes
 returns-in-Some-2-clause-passes c =
     let names : c.key_names.result.now ≡ codes "settings" ∷ c.in-Some.names.now = search rules in
-    let kept = some_if (is_key (codes "settings" ∷ c.in-Some.names.now)) c.in-Some-2.key (codes "settings" ∷ c.in-Some.names.now) (sym c.in-Some-2.is ∙ c.in_ok-key.ensures) in
+    let kept = some_if (is_key (codes "settings" ∷ c.in-Some.names.now)) c.in-Some-2.key (codes "settings" ∷ c.in-Some.names.now)
+    (sym c.in-Some-2.is ∙ c.in_ok-key.ensures) in
     let is = sym c.key_names.ensures ∙ names in
     λ rows. (ap (is_prefix settings_key) is, (ap is_key is ∙ kept.0, tt))

@@ -9,15 +9,18 @@ pub returns-in_err-put_entry-clause-refused : goal.returns-in_err-put_entry-clau
 returns-in_err-put_entry-clause-refused c =
     let within : c.loop-entry.entry-index < length c.args.entries.now = omega arith in
     let p = err_from_is_err_and c.from_residual.result c.from_residual.ensures.1 in
-    λ rows. rw (p.1, p.2) (refuses_at meta_checks rows c.args.entries.now c.loop-entry.entry-index c.entry-item.result _ within c.entry-item.is (c.loop-entry.invariant.passes rows) (c.in_err-put_entry.ensures.refused rows))
+    λ rows. rw (p.1, p.2) (refuses_at meta_checks rows c.args.entries.now c.loop-entry.entry-index c.entry-item.result _ within c.entry-item.is
+    (c.loop-entry.invariant.passes rows) (c.in_err-put_entry.ensures.refused rows))
 
 pub loop-entry-preserved : goal.loop-entry-preserved
 loop-entry-preserved c =
     let within : c.loop-entry.entry-index < length c.args.entries.now = omega arith in
     let put : c.put_entry.new.content ≡ noted (c.entry-item.result ∷ []) c.loop-entry.content = search rules in
     record {
-      passes = λ rows. passes_more meta_checks rows c.args.entries.now c.loop-entry.entry-index c.entry-item.result within c.entry-item.is (c.loop-entry.invariant.passes rows) (c.in_ok-put_entry.ensures.passes rows);
-      put = noted_more c.args.entries.now c.loop-entry.entry-index c.entry-item.result c.args.content.now c.loop-entry.content c.put_entry.new.content within c.entry-item.is c.loop-entry.invariant.put put;
+      passes = λ rows. passes_more meta_checks rows c.args.entries.now c.loop-entry.entry-index c.entry-item.result within c.entry-item.is
+          (c.loop-entry.invariant.passes rows) (c.in_ok-put_entry.ensures.passes rows);
+      put = noted_more c.args.entries.now c.loop-entry.entry-index c.entry-item.result c.args.content.now c.loop-entry.content c.put_entry.new.content within
+          c.entry-item.is c.loop-entry.invariant.put put;
     }
 
 pub returns-clause-passes : goal.returns-clause-passes

@@ -28,19 +28,24 @@ returns-in-Value-clause-passes c =
     let is : c.args.entry.now.1 ≡ found.Value c.in-Value.value = search rules in
     let path : c.deref.result.now ≡ c.args.entry.now.0 = search rules in
     λ rows. on_ok_weaker c.put_value.result
-    (λ (named : IsTrue (is_meta_name (last_name c.deref.result.now))). value_passes rows c.args.entry.now c.in-Value.value is (c.in_ok-key.ensures.passes rows) (subst (λ (p : Path). IsTrue (is_meta_name (last_name p))) path named))
+    (λ (named : IsTrue (is_meta_name (last_name c.deref.result.now))). value_passes rows c.args.entry.now c.in-Value.value is (c.in_ok-key.ensures.passes rows)
+    (subst (λ (p : Path). IsTrue (is_meta_name (last_name p))) path named))
     c.put_value.ensures.named
 
 pub returns-in-Value-clause-refused : goal.returns-in-Value-clause-refused
 returns-in-Value-clause-refused c =
     let is : c.args.entry.now.1 ≡ found.Value c.in-Value.value = search rules in
     let path : c.deref.result.now ≡ c.args.entry.now.0 = search rules in
-    λ rows. both_err c.put_value.result (λ (e : Refusal). e ≢ Memory → is_meta_name (last_name c.deref.result.now) ≡ false) (IsAt BadMetadata (codes "metadata" ∷ c.deref.result.now)) (Refuses rows (meta_checks c.args.entry.now))
-    (λ e other at. name_refuses rows c.args.entry.now c.in-Value.value e is (c.in_ok-key.ensures.passes rows) (λ some. ap (λ (p : Path). is_meta_name (last_name p)) (sym path) ∙ other some) (subst (λ (p : Path). IsAt BadMetadata (codes "metadata" ∷ p) e) path at))
+    λ rows. both_err c.put_value.result (λ (e : Refusal). e ≢ Memory → is_meta_name (last_name c.deref.result.now) ≡ false)
+    (IsAt BadMetadata (codes "metadata" ∷ c.deref.result.now)) (Refuses rows (meta_checks c.args.entry.now))
+    (λ e other at. name_refuses rows c.args.entry.now c.in-Value.value e is (c.in_ok-key.ensures.passes rows)
+    (λ some. ap (λ (p : Path). is_meta_name (last_name p)) (sym path) ∙ other some)
+    (subst (λ (p : Path). IsAt BadMetadata (codes "metadata" ∷ p) e) path at))
     c.put_value.ensures.cause c.put_value.ensures.refused
 
 pub returns-in-Other-clause-refused : goal.returns-in-Other-clause-refused
 returns-in-Other-clause-refused c =
     let is : c.args.entry.now.1 ≡ found.Other = search rules in
     let path : c.deref-in-Other.result.now ≡ c.args.entry.now.0 = search rules in
-    λ rows. other_value_refuses rows c.args.entry.now c.refused.result is (c.in_ok-key.ensures.passes rows) (subst (λ (p : Path). IsAt BadValue (codes "metadata" ∷ p) c.refused.result) path c.refused.ensures)
+    λ rows. other_value_refuses rows c.args.entry.now c.refused.result is (c.in_ok-key.ensures.passes rows)
+    (subst (λ (p : Path). IsAt BadValue (codes "metadata" ∷ p) c.refused.result) path c.refused.ensures)

@@ -22,14 +22,16 @@ returns-in-Some-clause-passes c =
     let document = table_view c.args.document.now in
     let below = table_view c.in-Some.table.now in
     let are : section_members (codes "metadata") document ≡ below = search rules in
-    λ rows. on_ok_weaker c.put_table.result (section_passes meta_checks rows (codes "metadata") document below are (c.in_ok-table.ensures.passes rows)) (c.put_table.ensures.passes rows)
+    λ rows. on_ok_weaker c.put_table.result (section_passes meta_checks rows (codes "metadata") document below are (c.in_ok-table.ensures.passes rows))
+    (c.put_table.ensures.passes rows)
 
 pub returns-in-Some-clause-refused : goal.returns-in-Some-clause-refused
 returns-in-Some-clause-refused c =
     let document = table_view c.args.document.now in
     let below = table_view c.in-Some.table.now in
     let are : section_members (codes "metadata") document ≡ below = search rules in
-    λ rows. IfErr-weaker c.put_table.result (Refuses rows (flat_map meta_checks (members_entries [] below))) (Refuses rows (metadata_checks document)) (λ e. section_refuses meta_checks rows (codes "metadata") document below are e (c.in_ok-table.ensures.passes rows)) (c.put_table.ensures.refused rows)
+    λ rows. IfErr-weaker c.put_table.result (Refuses rows (flat_map meta_checks (members_entries [] below))) (Refuses rows (metadata_checks document))
+    (λ e. section_refuses meta_checks rows (codes "metadata") document below are e (c.in_ok-table.ensures.passes rows)) (c.put_table.ensures.refused rows)
 
 pub returns-in-None-clause-passes : goal.returns-in-None-clause-passes
 returns-in-None-clause-passes c =

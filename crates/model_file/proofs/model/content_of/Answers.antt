@@ -39,7 +39,8 @@ returns-in_err-put_section-2-clause-refused c =
     let files = section_checks (codes "configuration-files") document in
     let metadata = metadata_checks document in
     let p = err_from_is_err_and c.from_residual-in_err-put_section-2.result c.from_residual-in_err-put_section-2.ensures.1 in
-    rw (p.1, p.2) (second_refuses rows settings services files metadata _ (c.in_ok-put_section.ensures.passes rows c.requires) (c.in_err-put_section-2.ensures.refused rows c.requires))
+    rw (p.1, p.2) (second_refuses rows settings services files metadata _ (c.in_ok-put_section.ensures.passes rows c.requires)
+    (c.in_err-put_section-2.ensures.refused rows c.requires))
 
 pub put_section-requires-3-clause-free : goal.put_section-requires-3-clause-free
 put_section-requires-3-clause-free c = table_free (row_texts (table_view c.args.document.now)) c.args.types.now c.requires
@@ -53,7 +54,8 @@ returns-in_err-put_section-3-clause-refused c =
     let files = section_checks (codes "configuration-files") document in
     let metadata = metadata_checks document in
     let p = err_from_is_err_and c.from_residual-in_err-put_section-3.result c.from_residual-in_err-put_section-3.ensures.1 in
-    rw (p.1, p.2) (third_refuses rows settings services files metadata _ (c.in_ok-put_section.ensures.passes rows c.requires) (c.in_ok-put_section-2.ensures.passes rows c.requires) (c.in_err-put_section-3.ensures.refused rows c.requires))
+    rw (p.1, p.2) (third_refuses rows settings services files metadata _ (c.in_ok-put_section.ensures.passes rows c.requires)
+    (c.in_ok-put_section-2.ensures.passes rows c.requires) (c.in_err-put_section-3.ensures.refused rows c.requires))
 
 pub returns-in_err-put_metadata-clause-refused : goal.returns-in_err-put_metadata-clause-refused
 returns-in_err-put_metadata-clause-refused c =
@@ -64,7 +66,9 @@ returns-in_err-put_metadata-clause-refused c =
     let files = section_checks (codes "configuration-files") document in
     let metadata = metadata_checks document in
     let p = err_from_is_err_and c.from_residual-in_err-put_metadata.result c.from_residual-in_err-put_metadata.ensures.1 in
-    rw (p.1, p.2) (fourth_refuses rows settings services files metadata _ (c.in_ok-put_section.ensures.passes rows c.requires) (c.in_ok-put_section-2.ensures.passes rows c.requires) (c.in_ok-put_section-3.ensures.passes rows c.requires) (c.in_err-put_metadata.ensures.refused rows))
+    rw (p.1, p.2) (fourth_refuses rows settings services files metadata _ (c.in_ok-put_section.ensures.passes rows c.requires)
+    (c.in_ok-put_section-2.ensures.passes rows c.requires) (c.in_ok-put_section-3.ensures.passes rows c.requires)
+    (c.in_err-put_metadata.ensures.refused rows))
 
 pub returns-clause-passes : goal.returns-clause-passes
 returns-clause-passes c =
@@ -74,7 +78,8 @@ returns-clause-passes c =
     let services = section_checks (codes "services") document in
     let files = section_checks (codes "configuration-files") document in
     let metadata = metadata_checks document in
-    all_pass rows settings services files metadata (c.in_ok-put_section.ensures.passes rows c.requires) (c.in_ok-put_section-2.ensures.passes rows c.requires) (c.in_ok-put_section-3.ensures.passes rows c.requires) (c.in_ok-put_metadata.ensures.passes rows)
+    all_pass rows settings services files metadata (c.in_ok-put_section.ensures.passes rows c.requires) (c.in_ok-put_section-2.ensures.passes rows c.requires)
+    (c.in_ok-put_section-3.ensures.passes rows c.requires) (c.in_ok-put_metadata.ensures.passes rows)
 
 pub returns-clause-free : goal.returns-clause-free
 returns-clause-free c = table_free (row_texts (table_view c.args.document.now)) c.args.types.now c.requires

@@ -9,7 +9,8 @@ use Rattle.model_file.proofs.os_section.names_of.Goals as goal
 
 pub loop-name-init : goal.loop-name-init
 loop-name-init c =
-    let all : c.into_iter-name-iterator.result ≡ c.args.table.now.entries = c.into_iter-name-iterator.ensures.into_iter_gives ∙ c.iter-name-items.ensures.rest in
+    let all : c.into_iter-name-iterator.result ≡ c.args.table.now.entries = c.into_iter-name-iterator.ensures.into_iter_gives
+    ∙ c.iter-name-items.ensures.rest in
     rw (all, c.new-names.ensures.items) (all_left _, refl, rising_names c.args.table.now.entries c.iter-name-items.ensures.ordered)
 
 pub returns-in_err-name_of-clause-refused : goal.returns-in_err-name_of-clause-refused
@@ -17,7 +18,8 @@ returns-in_err-name_of-clause-refused c = λ rows.
     let e = c.in_err-name_of.field-0.0 in
     let left = ap (λ l. map os_check (named (members_view l))) c.in-Some.ensures.steps in
     let refused : Refuses rows (map os_check (named (table_view c.args.table.now))) e =
-    one_refused _ _ _ _ e c.loop-name.invariant.0 left (refuses_at (string_bytes c.in-Some.name.now) c.deref.result.now (view c.in-Some.value.now) e c.deref.ensures c.in_err-name_of.ensures.refused) rows in
+    one_refused _ _ _ _ e c.loop-name.invariant.0 left (refuses_at (string_bytes c.in-Some.name.now) c.deref.result.now (view c.in-Some.value.now) e
+    c.deref.ensures c.in_err-name_of.ensures.refused) rows in
     search (rules, refused)
 
 pub loop-name-preserved : goal.loop-name-preserved

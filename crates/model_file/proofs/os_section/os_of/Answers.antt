@@ -16,7 +16,8 @@ pub returns-in_err-table-clause-refused : goal.returns-in_err-table-clause-refus
 returns-in_err-table-clause-refused c = λ rows.
     let document = table_view c.args.document.now in
     let refused : Refuses rows (os_checks document) c.in_err-table.field-0.0 =
-    refuses_before rows (table_check (codes "os") document ∷ []) (map os_check (named (section_members (codes "os") document))) _ (c.in_err-table.ensures.refused rows) in
+    refuses_before rows (table_check (codes "os") document ∷ []) (map os_check (named (section_members (codes "os") document))) _
+    (c.in_err-table.ensures.refused rows) in
     search (rules, refused)
 
 pub of-requires : goal.of-requires
@@ -33,7 +34,8 @@ pub returns-in-Some-clause-refused : goal.returns-in-Some-clause-refused
 returns-in-Some-clause-refused c = λ rows.
     let document = table_view c.args.document.now in
     let members = c.in_ok-table.ensures.members ∙ ap (λ found. members_in (option_copied found)) c.in-Some.is in
-    IfErr-weaker c.names_of.result _ _ (λ e refused. section_refuses rows document _ e members (c.in_ok-table.ensures.passes rows) refused) (c.names_of.ensures.refused rows)
+    IfErr-weaker c.names_of.result _ _ (λ e refused. section_refuses rows document _ e members (c.in_ok-table.ensures.passes rows) refused)
+    (c.names_of.ensures.refused rows)
 
 pub returns-in-None-clause-passes : goal.returns-in-None-clause-passes
 returns-in-None-clause-passes c = λ rows.

@@ -23,7 +23,8 @@ returns-in-Some-clause-passes c =
     let document = table_view c.args.document.now in
     let below = table_view c.in-Some.table.now in
     let are : section_members name document ≡ below = search rules in
-    λ rows of_rows. on_ok_weaker c.put_table.result (section_passes (value_checks name) rows name document below are (c.in_ok-table.ensures.passes rows)) (c.put_table.ensures.passes rows of_rows)
+    λ rows of_rows. on_ok_weaker c.put_table.result (section_passes (value_checks name) rows name document below are (c.in_ok-table.ensures.passes rows))
+    (c.put_table.ensures.passes rows of_rows)
 
 pub returns-in-Some-clause-refused : goal.returns-in-Some-clause-refused
 returns-in-Some-clause-refused c =
@@ -31,7 +32,9 @@ returns-in-Some-clause-refused c =
     let document = table_view c.args.document.now in
     let below = table_view c.in-Some.table.now in
     let are : section_members name document ≡ below = search rules in
-    λ rows of_rows. IfErr-weaker c.put_table.result (Refuses rows (flat_map (value_checks name) (members_entries [] below))) (Refuses rows (section_checks name document)) (λ e. section_refuses (value_checks name) rows name document below are e (c.in_ok-table.ensures.passes rows)) (c.put_table.ensures.refused rows of_rows)
+    λ rows of_rows. IfErr-weaker c.put_table.result (Refuses rows (flat_map (value_checks name) (members_entries [] below)))
+    (Refuses rows (section_checks name document)) (λ e. section_refuses (value_checks name) rows name document below are e
+    (c.in_ok-table.ensures.passes rows)) (c.put_table.ensures.refused rows of_rows)
 
 pub returns-in-None-clause-passes : goal.returns-in-None-clause-passes
 returns-in-None-clause-passes c =

@@ -12,4 +12,5 @@ use Rattle.model_file.proofs.value_sections.put_table.Goals as goal
 pub returns-clause-passes : goal.returns-clause-passes
 returns-clause-passes c =
     let are : c.deref.result.now ≡ members_entries [] (table_view c.args.table.now) = search rules in
-    subst (λ (es : List (Path × Found)). (rows : List (List ℕ × List ℕ)) → IsTableOf rows c.args.types.now → OnOk c.put_entries.result (Passes rows (flat_map (value_checks c.args.name.now) es))) are c.put_entries.ensures.passes
+    subst (λ (es : List (Path × Found)). (rows : List (List ℕ × List ℕ)) → IsTableOf rows c.args.types.now
+    → OnOk c.put_entries.result (Passes rows (flat_map (value_checks c.args.name.now) es))) are c.put_entries.ensures.passes

@@ -11,12 +11,15 @@ loop-key-init c = making_none key_total key_cmp-IsAntisymmetric (key_entries c.a
 
 pub loop-key-smaller : goal.loop-key-smaller
 loop-key-smaller c = walk_falls key_total key_cmp-IsAntisymmetric c.args.image.now.metadata (option_copied c.loop-key.after) c.in-Some.key.now
-    (inner c.args.image.now.metadata c.in-Some.key.now) (least_inner c.args.image.now.metadata (option_copied c.loop-key.after) c.in-Some.key.now c.in-Some.ensures.least)
+    (inner c.args.image.now.metadata c.in-Some.key.now) (least_inner c.args.image.now.metadata (option_copied c.loop-key.after) c.in-Some.key.now
+    c.in-Some.ensures.least)
 
 pub loop-key-preserved : goal.loop-key-preserved
 loop-key-preserved c = making_next key_total key_cmp-IsAntisymmetric (key_entries c.args.live.now.metadata) c.args.image.now.metadata _
-    (option_copied c.loop-key.after) c.in-Some.key.now (inner c.args.image.now.metadata c.in-Some.key.now) c.loop-key.entries.items c.set_names.new.entries.items
-    (least_inner c.args.image.now.metadata (option_copied c.loop-key.after) c.in-Some.key.now c.in-Some.ensures.least) c.loop-key.invariant c.in_ok-set_names.ensures
+    (option_copied c.loop-key.after) c.in-Some.key.now (inner c.args.image.now.metadata c.in-Some.key.now) c.loop-key.entries.items
+    c.set_names.new.entries.items
+    (least_inner c.args.image.now.metadata (option_copied c.loop-key.after) c.in-Some.key.now c.in-Some.ensures.least) c.loop-key.invariant
+    c.in_ok-set_names.ensures
 
 pub returns : goal.returns
 returns c = making_all key_total key_cmp-IsAntisymmetric (key_entries c.args.live.now.metadata) c.args.image.now.metadata _

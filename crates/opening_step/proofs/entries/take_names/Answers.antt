@@ -21,7 +21,8 @@ loop-name-smaller c =
 pub loop-name-preserved : goal.loop-name-preserved
 loop-name-preserved c =
     let m = inner c.args.live.now.metadata c.args.key.now in
-    subst (λ (n : List ℕ). Making (λ n. gone_name_entries c.args.image.now.metadata c.args.key.now n.0) m c.args.entries.now.items (Some n) c.take_name.new.entries.items)
+    subst (λ (n : List ℕ). Making (λ n. gone_name_entries c.args.image.now.metadata c.args.key.now n.0) m c.args.entries.now.items (Some n)
+    c.take_name.new.entries.items)
     (sym (c.as_bytes.ensures.value ∙ c.as_str.ensures))
     (making_next bytes_total bytes_cmp-IsAntisymmetric (λ n. gone_name_entries c.args.image.now.metadata c.args.key.now n.0) m c.args.entries.now.items
     (option_copied c.loop-name.after) c.in-Some.name.now (c.in-Some.field-0-1.now)

@@ -7,7 +7,8 @@ use Rattle.settings_tree.proofs.Rising.{some_rise}
 use Rattle.pending_tx.proofs.committing.commit_pending.Goals as goal
 
 pub changed_keys-requires : goal.changed_keys-requires
-changed_keys-requires c = some_rise (inner c.args.held.now.pending c.args.tx.now) (λ e. differs e.1 (get c.args.held.now.live.values e.0)) _ (ap (map (λ e. e.0)) (c.deref.ensures.value ∙ c.in_ok-changes.ensures))
+changed_keys-requires c = some_rise (inner c.args.held.now.pending c.args.tx.now) (λ e. differs e.1 (get c.args.held.now.live.values e.0)) _
+    (ap (map (λ e. e.0)) (c.deref.ensures.value ∙ c.in_ok-changes.ensures))
 
 pub push_commit-requires-clause-changed : goal.push_commit-requires-clause-changed
 push_commit-requires-clause-changed c = c.in_ok-changed.ensures ∙ ap (map (λ e. e.0)) (c.deref.ensures.value ∙ c.in_ok-changes.ensures)
@@ -19,7 +20,8 @@ pub push_commit-requires-clause-changes : goal.push_commit-requires-clause-chang
 push_commit-requires-clause-changes c = c.in_ok-changes.ensures
 
 made : (c : goal.In_ok-push_commit) → CommitsTo c.args.held.now c.args.tx.now c.in_ok-push_commit.ensures.added.weak_part c.push_commit.new.entries.items
-made c = commit_made c.args.held.now c.args.tx.now c.new-entries.result.items c.push_commit.new.entries.items c.in_ok-keys.ensures.valid c.in_ok-push_commit.ensures.valid c.new-entries.ensures.items c.in_ok-push_commit.ensures.added
+made c = commit_made c.args.held.now c.args.tx.now c.new-entries.result.items c.push_commit.new.entries.items c.in_ok-keys.ensures.valid
+    c.in_ok-push_commit.ensures.valid c.new-entries.ensures.items c.in_ok-push_commit.ensures.added
 
 pub of-change-requires-clause-once : goal.of-change-requires-clause-once
 of-change-requires-clause-once c = (made c).once
@@ -29,7 +31,8 @@ of-change-requires-clause-names c = (made c).bare
 
 kept : (c : goal.After-of-change) → CommitsTo c.args.held.now c.args.tx.now c.in_ok-push_commit.ensures.added.weak_part c.of-change.result
 kept c = subst (CommitsTo c.args.held.now c.args.tx.now c.in_ok-push_commit.ensures.added.weak_part) (sym c.of-change.ensures)
-    (commit_made c.args.held.now c.args.tx.now c.new-entries.result.items c.push_commit.new.entries.items c.in_ok-keys.ensures.valid c.in_ok-push_commit.ensures.valid c.new-entries.ensures.items c.in_ok-push_commit.ensures.added)
+    (commit_made c.args.held.now c.args.tx.now c.new-entries.result.items c.push_commit.new.entries.items c.in_ok-keys.ensures.valid
+    c.in_ok-push_commit.ensures.valid c.new-entries.ensures.items c.in_ok-push_commit.ensures.added)
 
 pub returns-clause-keys : goal.returns-clause-keys
 returns-clause-keys c = c.in_ok-keys.ensures.keys

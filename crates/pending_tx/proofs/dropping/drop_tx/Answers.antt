@@ -6,10 +6,12 @@ use Rattle.pending_tx.proofs.Drops.{drop_once, drop_bare, drop_laid, drop_rule, 
 use Rattle.pending_tx.proofs.dropping.drop_tx.Goals as goal
 
 made : (c : goal.In_ok-end) → c.end.new.entries.items ≡ map (λ k. PendGone c.args.tx.now k) (keys_of c.args.held.now c.args.tx.now)
-made c = c.in_ok-end.ensures ∙ ap (λ (l : List Entry). l ++ map (λ k. PendGone c.args.tx.now k) c.in_ok-keys.keys) c.new-entries.ensures.items ∙ ap (map (λ k. PendGone c.args.tx.now k)) c.in_ok-keys.ensures.keys
+made c = c.in_ok-end.ensures ∙ ap (λ (l : List Entry). l ++ map (λ k. PendGone c.args.tx.now k) c.in_ok-keys.keys) c.new-entries.ensures.items
+    ∙ ap (map (λ k. PendGone c.args.tx.now k)) c.in_ok-keys.ensures.keys
 
 told : (c : goal.After-of-change) → c.of-change.result ≡ map (λ k. PendGone c.args.tx.now k) (keys_of c.args.held.now c.args.tx.now)
-told c = c.of-change.ensures ∙ c.in_ok-end.ensures ∙ ap (λ (l : List Entry). l ++ map (λ k. PendGone c.args.tx.now k) c.in_ok-keys.keys) c.new-entries.ensures.items ∙ ap (map (λ k. PendGone c.args.tx.now k)) c.in_ok-keys.ensures.keys
+told c = c.of-change.ensures ∙ c.in_ok-end.ensures ∙ ap (λ (l : List Entry). l ++ map (λ k. PendGone c.args.tx.now k) c.in_ok-keys.keys)
+    c.new-entries.ensures.items ∙ ap (map (λ k. PendGone c.args.tx.now k)) c.in_ok-keys.ensures.keys
 
 pub returns-clause-laid : goal.returns-clause-laid
 returns-clause-laid c = drop_laid c.args.held.now c.args.tx.now c.of-change.result (told c) c.in_ok-keys.ensures.valid

@@ -7,7 +7,8 @@ use Rattle.pending_tx.specs.Transactions.{changes_of, differs}
 use Rattle.pending_tx.proofs.live_changes.changes_of.Given as goal
 
 abbrev pub invariant-loop-key : goal.invariant-loop-key
-invariant-loop-key l = l.changes.items ++ filter (λ e. differs e.1 (get l.held.live.values e.0)) (entries_past (inner l.held.pending l.tx) (option_copied l.after)) ≡ changes_of l.held l.tx
+invariant-loop-key l = l.changes.items ++ filter (λ e. differs e.1 (get l.held.live.values e.0))
+    (entries_past (inner l.held.pending l.tx) (option_copied l.after)) ≡ changes_of l.held l.tx
 
 abbrev pub decreases-loop-key : goal.decreases-loop-key
 decreases-loop-key l = length (entries_past (inner l.held.pending l.tx) (option_copied l.after))

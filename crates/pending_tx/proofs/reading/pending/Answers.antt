@@ -9,16 +9,21 @@ use Rattle.pending_tx.proofs.Walked.{begun}
 use Rattle.pending_tx.proofs.reading.pending.Goals as goal
 
 pub loop-key-init : goal.loop-key-init
-loop-key-init c = begun _ c.new-pairs.result.items _ c.new-pairs.ensures.items (walk_start key_total key_cmp-IsAntisymmetric (inner c.args.held.now.pending c.args.tx.now))
+loop-key-init c = begun _ c.new-pairs.result.items _ c.new-pairs.ensures.items
+    (walk_start key_total key_cmp-IsAntisymmetric (inner c.args.held.now.pending c.args.tx.now))
 
 pub loop-key-smaller : goal.loop-key-smaller
-loop-key-smaller c = walk_falls key_total key_cmp-IsAntisymmetric (inner c.args.held.now.pending c.args.tx.now) (option_copied c.loop-key.after) c.in-Some.key.now c.in-Some.value.now c.in-Some.ensures.least
+loop-key-smaller c = walk_falls key_total key_cmp-IsAntisymmetric (inner c.args.held.now.pending c.args.tx.now) (option_copied c.loop-key.after)
+    c.in-Some.key.now c.in-Some.value.now c.in-Some.ensures.least
 
 pub loop-key-preserved : goal.loop-key-preserved
-loop-key-preserved c = listed_more _ c.loop-key.pairs.items _ _ _ _ c.loop-key.invariant (walk_next key_total key_cmp-IsAntisymmetric (inner c.args.held.now.pending c.args.tx.now) (option_copied c.loop-key.after) c.in-Some.key.now c.in-Some.value.now c.in-Some.ensures.least) (search rules)
+loop-key-preserved c = listed_more _ c.loop-key.pairs.items _ _ _ _ c.loop-key.invariant
+    (walk_next key_total key_cmp-IsAntisymmetric (inner c.args.held.now.pending c.args.tx.now) (option_copied c.loop-key.after) c.in-Some.key.now
+    c.in-Some.value.now c.in-Some.ensures.least) (search rules)
 
 all : (c : goal.In_default) → c.loop-key.pairs.items ≡ entries (inner c.args.held.now.pending c.args.tx.now)
-all c = listed_all _ c.loop-key.pairs.items _ c.loop-key.invariant (walk_end key_total key_cmp-IsAntisymmetric (inner c.args.held.now.pending c.args.tx.now) (option_copied c.loop-key.after) c.in_default.ensures.none)
+all c = listed_all _ c.loop-key.pairs.items _ c.loop-key.invariant (walk_end key_total key_cmp-IsAntisymmetric (inner c.args.held.now.pending c.args.tx.now)
+    (option_copied c.loop-key.after) c.in_default.ensures.none)
 
 pub returns-clause-pairs : goal.returns-clause-pairs
 returns-clause-pairs c = all c

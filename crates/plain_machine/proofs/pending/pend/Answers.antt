@@ -16,9 +16,11 @@ lay-requires-clause-rule c = c.in_ok-change.ensures.rule c.keep_rule.ensures
     (nothing_wanted (first_wanted c.args.types.now c.args.pairs.now) (sym c.in_default.is ∙ c.in_ok-refusal.ensures)))
 
 pub returns-clause-answered : goal.returns-clause-answered
-returns-clause-answered c = pended_is c.args.types.now c.args.held.now c.args.tx.now c.args.pairs.now _ (nothing_wanted (first_wanted c.args.types.now c.args.pairs.now) (sym c.in_default.is ∙ c.in_ok-refusal.ensures))
+returns-clause-answered c = pended_is c.args.types.now c.args.held.now c.args.tx.now c.args.pairs.now _
+    (nothing_wanted (first_wanted c.args.types.now c.args.pairs.now) (sym c.in_default.is ∙ c.in_ok-refusal.ensures))
     (c.in_ok-lay.ensures.ok ∙ c.in_ok-change.ensures.laid)
 
 pub returns-clause-typed : goal.returns-clause-typed
 returns-clause-typed c = subst (IsTypedHeld c.args.types.now) (sym (c.in_ok-lay.ensures.ok ∙ c.in_ok-change.ensures.laid))
-    (patched_typed c.args.types.now c.args.held.now c.requires.typed c.args.tx.now c.args.pairs.now (nothing_wanted (first_wanted c.args.types.now c.args.pairs.now) (sym c.in_default.is ∙ c.in_ok-refusal.ensures)))
+    (patched_typed c.args.types.now c.args.held.now c.requires.typed c.args.tx.now c.args.pairs.now
+    (nothing_wanted (first_wanted c.args.types.now c.args.pairs.now) (sym c.in_default.is ∙ c.in_ok-refusal.ensures)))

@@ -16,15 +16,18 @@ returns-in_default-clause-members c =
 
 pub returns-in-Some-as_table-clause-passes : goal.returns-in-Some-as_table-clause-passes
 returns-in-Some-as_table-clause-passes c =
-    let there : get_member c.args.name.now (table_view c.args.document.now) ≡ Some (view c.in-Some.value.now) = sym c.field.ensures ∙ ap (option_map (λ x. view x.now)) c.in-Some.is in
+    let there : get_member c.args.name.now (table_view c.args.document.now) ≡ Some (view c.in-Some.value.now) = sym c.field.ensures
+    ∙ ap (option_map (λ x. view x.now)) c.in-Some.is in
     table_passes c.args.kind c.args.name.now _ _ (table_view c.in-Some-as_table.table.now) there (sym c.in-Some-as_table.ensures)
 
 pub returns-in-Some-as_table-clause-members : goal.returns-in-Some-as_table-clause-members
 returns-in-Some-as_table-clause-members c =
-    let there : get_member c.args.name.now (table_view c.args.document.now) ≡ Some (view c.in-Some.value.now) = sym c.field.ensures ∙ ap (option_map (λ x. view x.now)) c.in-Some.is in
+    let there : get_member c.args.name.now (table_view c.args.document.now) ≡ Some (view c.in-Some.value.now) = sym c.field.ensures
+    ∙ ap (option_map (λ x. view x.now)) c.in-Some.is in
     table_members c.args.kind c.args.name.now _ _ (table_view c.in-Some-as_table.table.now) there (sym c.in-Some-as_table.ensures)
 
 pub returns-in-None-clause-refused : goal.returns-in-None-clause-refused
 returns-in-None-clause-refused c =
-    let there : get_member c.args.name.now (table_view c.args.document.now) ≡ Some (view c.in-Some.value.now) = sym c.field.ensures ∙ ap (option_map (λ x. view x.now)) c.in-Some.is in
+    let there : get_member c.args.name.now (table_view c.args.document.now) ≡ Some (view c.in-Some.value.now) = sym c.field.ensures
+    ∙ ap (option_map (λ x. view x.now)) c.in-Some.is in
     other_refuses c.args.kind c.args.name.now _ _ c.refused.result there (sym c.in-None.ensures) c.refused.ensures

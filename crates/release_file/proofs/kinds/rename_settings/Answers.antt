@@ -15,4 +15,5 @@ returns-in_default-3 c =
     let news = rw c.in-Some-2.is at c.in_ok-new.ensures in
     let none = rw c.in_default-3.is at c.in_ok-pairs.ensures in
     let differ = rw (c.deref.ensures.value, c.deref-2.ensures.value) at none in
-    no_renamed_settings _ (λ old new has also same. differ (same_size _ _ _ c.in-Some.old.items old olds has ∙ same ∙ same_size _ _ _ new c.in-Some-2.new.items also news))
+    no_renamed_settings _ (λ old new has also same. differ (same_size _ _ _ c.in-Some.old.items old olds has ∙ same
+    ∙ same_size _ _ _ new c.in-Some-2.new.items also news))

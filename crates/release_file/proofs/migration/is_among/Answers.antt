@@ -8,5 +8,6 @@ use Rattle.release_file.proofs.migration.is_among.Goals as goal
 
 pub returns : goal.returns
 returns c =
-    any_from_yields_List (λ n. eq_by_cmp bytes_cmp c.args.name.now n.now) _ _ _ c.any.ensures.ran (YieldsList-from_slice c.args.names.now cc) (λ x b q k. search (rules, tests))
+    any_from_yields_List (λ n. eq_by_cmp bytes_cmp c.args.name.now n.now) _ _ _ c.any.ensures.ran (YieldsList-from_slice c.args.names.now cc)
+    (λ x b q k. search (rules, tests))
     ∙ any_mapped (eq_by_cmp bytes_cmp c.args.name.now) c.args.names.now

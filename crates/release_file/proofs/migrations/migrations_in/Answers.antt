@@ -12,7 +12,8 @@ use Rattle.release_file.proofs.migrations.migrations_in.Goals as goal
 
 pub loop-name-init : goal.loop-name-init
 loop-name-init c =
-    let all : c.into_iter-name-iterator.result ≡ c.args.table.now.entries = c.into_iter-name-iterator.ensures.into_iter_gives ∙ c.iter-name-items.ensures.rest in
+    let all : c.into_iter-name-iterator.result ≡ c.args.table.now.entries = c.into_iter-name-iterator.ensures.into_iter_gives
+    ∙ c.iter-name-items.ensures.rest in
     rw (all, c.new-migrations.ensures.items) (all_left _, λ after spelled. spelled)
 
 pub returns-in_err-named_at-clause-refused : goal.returns-in_err-named_at-clause-refused
@@ -20,7 +21,8 @@ returns-in_err-named_at-clause-refused c =
     let e = c.in_err-named_at.field-0.0 in
     let left = ap (λ l. map migration (named (members_view l))) c.in-Some.ensures.steps in
     let refused : Refuses (map migration (named (table_view c.args.table.now))) e =
-    one_refused _ _ _ _ e c.loop-name.invariant.0 left (refuses_at migration (string_bytes c.in-Some.name.now) c.deref.result.now (view c.in-Some.value.now) c.deref.ensures e c.in_err-named_at.ensures.refused) in
+    one_refused _ _ _ _ e c.loop-name.invariant.0 left (refuses_at migration (string_bytes c.in-Some.name.now) c.deref.result.now (view c.in-Some.value.now)
+    c.deref.ensures e c.in_err-named_at.ensures.refused) in
     search (rules, refused)
 
 pub loop-name-preserved : goal.loop-name-preserved
@@ -31,7 +33,8 @@ loop-name-preserved c =
     let next = ap members_view c.in-Some.ensures.steps in
     let own = c.in_ok-named_at.ensures.named in (
       one_holds _ _ _ _ c.loop-name.invariant.0 left (passes_at migration name c.deref.result.now value c.deref.ensures c.in_ok-named_at.ensures.passes),
-      migration_spelled _ _ _ _ _ c.in_ok-named_at.field-0 name value c.in_ok-push.ensures.items next (own.name_is ∙ c.deref.ensures) own.work c.loop-name.invariant.1,
+      migration_spelled _ _ _ _ _ c.in_ok-named_at.field-0 name value c.in_ok-push.ensures.items next (own.name_is ∙ c.deref.ensures) own.work
+          c.loop-name.invariant.1,
     )
 
 pub returns-clause-passes : goal.returns-clause-passes

@@ -14,18 +14,22 @@ use Rattle.release_file.proofs.migrations.migrations_of.Goals as goal
 pub returns-in_err-table-clause-refused : goal.returns-in_err-table-clause-refused
 returns-in_err-table-clause-refused c =
     let document = table_view c.args.document.now in
-    let refused : Refuses (migration_checks document) c.in_err-table.field-0.0 = refuses_before (section_check BadMigration (codes "migration") document ∷ []) (map migration (migrations_in document)) _ c.in_err-table.ensures.refused in
+    let refused : Refuses (migration_checks document) c.in_err-table.field-0.0 =
+    refuses_before (section_check BadMigration (codes "migration") document ∷ []) (map migration (migrations_in document)) _ c.in_err-table.ensures.refused
+    in
     search (rules, refused)
 
 pub returns-in-Some-clause-passes : goal.returns-in-Some-clause-passes
 returns-in-Some-clause-passes c =
     let members = c.in_ok-table.ensures.members ∙ ap (λ found. members_in (option_copied found)) c.in-Some.is in
-    on_ok_weaker c.migrations_in.result (entries_pass migration BadMigration (codes "migration") (table_view c.args.document.now) _ members c.in_ok-table.ensures.passes) c.migrations_in.ensures.passes
+    on_ok_weaker c.migrations_in.result (entries_pass migration BadMigration (codes "migration") (table_view c.args.document.now) _ members
+    c.in_ok-table.ensures.passes) c.migrations_in.ensures.passes
 
 pub returns-in-Some-clause-refused : goal.returns-in-Some-clause-refused
 returns-in-Some-clause-refused c =
     let members = c.in_ok-table.ensures.members ∙ ap (λ found. members_in (option_copied found)) c.in-Some.is in
-    IfErr-weaker c.migrations_in.result _ _ (λ e refused. entries_refuse migration BadMigration (codes "migration") (table_view c.args.document.now) _ members c.in_ok-table.ensures.passes e refused) c.migrations_in.ensures.refused
+    IfErr-weaker c.migrations_in.result _ _ (λ e refused. entries_refuse migration BadMigration (codes "migration") (table_view c.args.document.now) _ members
+    c.in_ok-table.ensures.passes e refused) c.migrations_in.ensures.refused
 
 pub returns-in-None-clause-rising : goal.returns-in-None-clause-rising
 unfolding IsStrictlySortedBy

@@ -16,14 +16,18 @@ returns-in_err-check_names-clause-refused c =
 pub returns-in_err-check_version-clause-refused : goal.returns-in_err-check_version-clause-refused
 returns-in_err-check_version-clause-refused c =
     let d = table_view c.args.document.now in
-    let refused : Refuses (checks d) c.in_err-check_version.field-0.0 = refuses_after (name_checks d) _ _ c.in_ok-check_names.ensures.passes (refuses_before (version_check d ∷ []) _ _ c.in_err-check_version.ensures.refused) in
+    let refused : Refuses (checks d) c.in_err-check_version.field-0.0 =
+    refuses_after (name_checks d) _ _ c.in_ok-check_names.ensures.passes (refuses_before (version_check d ∷ []) _ _ c.in_err-check_version.ensures.refused)
+    in
     search (rules, refused)
 
 pub returns-in_err-migrations-clause-refused : goal.returns-in_err-migrations-clause-refused
 returns-in_err-migrations-clause-refused c =
     let d = table_view c.args.document.now in
     let refused : Refuses (checks d) c.in_err-migrations.field-0.0 =
-    refuses_after (name_checks d) _ _ c.in_ok-check_names.ensures.passes (refuses_after (version_check d ∷ []) _ _ c.in_ok-check_version.ensures.passes (refuses_before (migration_checks d) _ _ c.in_err-migrations.ensures.refused)) in
+    refuses_after (name_checks d) _ _ c.in_ok-check_names.ensures.passes
+    (refuses_after (version_check d ∷ []) _ _ c.in_ok-check_version.ensures.passes
+    (refuses_before (migration_checks d) _ _ c.in_err-migrations.ensures.refused)) in
     search (rules, refused)
 
 pub returns-in_err-transitions-clause-refused : goal.returns-in_err-transitions-clause-refused
@@ -37,7 +41,11 @@ returns-in_err-transitions-clause-refused c =
 pub returns-clause-passes : goal.returns-clause-passes
 returns-clause-passes c =
     let d = table_view c.args.document.now in
-    passes_both (name_checks d) _ c.in_ok-check_names.ensures.passes (c.in_ok-check_version.ensures.passes.0, passes_both (migration_checks d) _ c.in_ok-migrations.ensures.passes c.in_ok-transitions.ensures.passes)
+    passes_both (name_checks d) _ c.in_ok-check_names.ensures.passes (
+      c.in_ok-check_version.ensures.passes.0,
+      passes_both (migration_checks d) _
+          c.in_ok-migrations.ensures.passes c.in_ok-transitions.ensures.passes,
+    )
 
 pub invariant_of-result : goal.invariant_of-result
 invariant_of-result c =
@@ -49,5 +57,6 @@ invariant_of-result c =
       transitions_rise = c.in_ok-transitions.ensures.rising;
       migrations_rise = named_rise c.in_ok-migrations.migrations.items c.in_ok-migrations.ensures.rising;
       lead_on = all_moved leads_on ts.0 c.in_ok-transitions.transitions.items ts.2 (all_lead_on (transitions_in d) ts.0 ts.1);
-      names_are_known = all_moved (names_known c.in_ok-migrations.migrations.items) ts.0 c.in_ok-transitions.transitions.items ts.2 (names_are_known (section_members (codes "migration") d) c.in_ok-migrations.migrations.items (transitions_in d) ts.0 named ts.1 known);
+      names_are_known = all_moved (names_known c.in_ok-migrations.migrations.items) ts.0 c.in_ok-transitions.transitions.items ts.2
+          (names_are_known (section_members (codes "migration") d) c.in_ok-migrations.migrations.items (transitions_in d) ts.0 named ts.1 known);
     }

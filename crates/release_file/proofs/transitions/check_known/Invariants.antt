@@ -7,4 +7,5 @@ use Rattle.release_file.proofs.transitions.check_known.Given as goal
 
 abbrev pub invariant-loop-name : goal.invariant-loop-name
 invariant-loop-name l =
-    Decides (map (known_check (table_view l.migrations)) (named (members_view l.name-iterator))) (map (known_check (table_view l.migrations)) (named (table_view l.table)))
+    Decides (map (known_check (table_view l.migrations)) (named (members_view l.name-iterator)))
+    (map (known_check (table_view l.migrations)) (named (table_view l.table)))

@@ -6,4 +6,5 @@ use Rattle.release_file.proofs.Rising.{transitions_ranked}
 use Rattle.release_file.proofs.transitions.sorted.Goals as goal
 
 pub returns-clause-sorted : goal.returns-clause-sorted
-returns-clause-sorted c = c.in_ok-sort_by.ensures.sorted (λ t u. is_lt (transition_cmp t u)) transitions_ranked (always_returns_same _ _ _ (λ a r q k. search rules))
+returns-clause-sorted c = c.in_ok-sort_by.ensures.sorted (λ t u. is_lt (transition_cmp t u)) transitions_ranked
+    (always_returns_same _ _ _ (λ a r q k. search rules))

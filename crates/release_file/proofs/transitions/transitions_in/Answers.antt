@@ -10,7 +10,8 @@ use Rattle.release_file.proofs.transitions.transitions_in.Goals as goal
 
 pub loop-name-init : goal.loop-name-init
 loop-name-init c =
-    let all : c.into_iter-name-iterator.result ≡ c.args.table.now.entries = c.into_iter-name-iterator.ensures.into_iter_gives ∙ c.iter-name-items.ensures.rest in
+    let all : c.into_iter-name-iterator.result ≡ c.args.table.now.entries = c.into_iter-name-iterator.ensures.into_iter_gives
+    ∙ c.iter-name-items.ensures.rest in
     rw (all, c.new-transitions.ensures.items) (all_left _, λ after spelled. spelled)
 
 pub returns-in_err-transition_at-clause-refused : goal.returns-in_err-transition_at-clause-refused
@@ -18,7 +19,8 @@ returns-in_err-transition_at-clause-refused c =
     let e = c.in_err-transition_at.field-0.0 in
     let left = ap (λ l. map transition (named (members_view l))) c.in-Some.ensures.steps in
     let refused : Refuses (map transition (named (table_view c.args.table.now))) e =
-    one_refused _ _ _ _ e c.loop-name.invariant.0 left (refuses_at transition (string_bytes c.in-Some.name.now) c.deref.result.now (view c.in-Some.value.now) c.deref.ensures e c.in_err-transition_at.ensures.refused) in
+    one_refused _ _ _ _ e c.loop-name.invariant.0 left (refuses_at transition (string_bytes c.in-Some.name.now) c.deref.result.now (view c.in-Some.value.now)
+    c.deref.ensures e c.in_err-transition_at.ensures.refused) in
     search (rules, refused)
 
 pub loop-name-preserved : goal.loop-name-preserved
@@ -28,7 +30,8 @@ loop-name-preserved c =
     let value = view c.in-Some.value.now in
     let next = ap members_view c.in-Some.ensures.steps in
     let t = c.in_ok-transition_at.field-0 in
-    let own : IsTransition (name, value) t.from t.to t.names.items = subst (λ n. IsTransition (n, value) t.from t.to t.names.items) c.deref.ensures c.in_ok-transition_at.ensures.ok in (
+    let own : IsTransition (name, value) t.from t.to t.names.items = subst (λ n. IsTransition (n, value) t.from t.to t.names.items) c.deref.ensures
+    c.in_ok-transition_at.ensures.ok in (
       one_holds _ _ _ _ c.loop-name.invariant.0 left (passes_at transition name c.deref.result.now value c.deref.ensures c.in_ok-transition_at.ensures.passes),
       transition_spelled _ _ _ _ _ t name value c.in_ok-push.ensures.items next own c.loop-name.invariant.1,
     )

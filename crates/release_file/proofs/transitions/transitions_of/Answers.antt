@@ -15,7 +15,8 @@ pub returns-in_err-table-clause-refused : goal.returns-in_err-table-clause-refus
 returns-in_err-table-clause-refused c =
     let document = table_view c.args.document.now in
     let refused : Refuses (transition_checks document ++ known_checks document) c.in_err-table.field-0.0 =
-    refuses_before (section_check BadPair (codes "migrations") document ∷ []) (map transition (transitions_in document) ++ known_checks document) _ c.in_err-table.ensures.refused in
+    refuses_before (section_check BadPair (codes "migrations") document ∷ []) (map transition (transitions_in document) ++ known_checks document) _
+    c.in_err-table.ensures.refused in
     search (rules, refused)
 
 pub returns-in_err-transitions-clause-refused : goal.returns-in_err-transitions-clause-refused
@@ -23,7 +24,8 @@ returns-in_err-transitions-clause-refused c =
     let document = table_view c.args.document.now in
     let members = c.in_ok-table.ensures.members ∙ ap (λ found. members_in (option_copied found)) c.in-Some.is in
     let refused : Refuses (transition_checks document ++ known_checks document) c.in_err-transitions.field-0.0 =
-    refuses_before (transition_checks document) (known_checks document) _ (entries_refuse transition BadPair (codes "migrations") document _ members c.in_ok-table.ensures.passes _ c.in_err-transitions.ensures.refused) in
+    refuses_before (transition_checks document) (known_checks document) _
+    (entries_refuse transition BadPair (codes "migrations") document _ members c.in_ok-table.ensures.passes _ c.in_err-transitions.ensures.refused) in
     search (rules, refused)
 
 pub returns-in_err-check_all_known-clause-refused : goal.returns-in_err-check_all_known-clause-refused
@@ -34,7 +36,8 @@ returns-in_err-check_all_known-clause-refused c =
     let front = entries_pass transition BadPair (codes "migrations") document _ members c.in_ok-table.ensures.passes c.in_ok-transitions.ensures.passes in
     let refused : Refuses (transition_checks document ++ known_checks document) e =
     refuses_after (transition_checks document) (known_checks document) e front
-    (subst (λ ms. Refuses (map (known_check (section_members (codes "migration") document)) (named ms)) e) (sym members) c.in_err-check_all_known.ensures.refused) in
+    (subst (λ ms. Refuses (map (known_check (section_members (codes "migration") document)) (named ms)) e) (sym members)
+    c.in_err-check_all_known.ensures.refused) in
     search (rules, refused)
 
 pub returns-clause-passes : goal.returns-clause-passes
@@ -47,4 +50,5 @@ returns-clause-passes c =
 
 pub returns-clause-rising : goal.returns-clause-rising
 returns-clause-rising c =
-    sorted_rise _ c.in_ok-transitions.transitions.items c.in_ok-sorted.field-0.items c.in_ok-transitions.ensures.names c.in_ok-transitions.ensures.transitions c.in_ok-sorted.ensures.moved c.in_ok-sorted.ensures.sorted
+    sorted_rise _ c.in_ok-transitions.transitions.items c.in_ok-sorted.field-0.items c.in_ok-transitions.ensures.names c.in_ok-transitions.ensures.transitions
+    c.in_ok-sorted.ensures.moved c.in_ok-sorted.ensures.sorted

@@ -15,11 +15,13 @@ pub returns-in-Ok-clause-asked : goal.returns-in-Ok-clause-asked
 returns-in-Ok-clause-asked g c =
     let key : c.in_ok-key.key ≡ c.args.generator.now.key = search rules in
     answered c.args.generator.now _ _ c.answer_value.result c.deref.result.now c.in-Ok.answer c.deref.ensures.value c.in-Ok.ensures.asked
-    (subst (λ k. (c.answer_value.result ≡ answer_value k c.in-Ok.answer.status c.in-Ok.answer.output.items) ⊎ (c.answer_value.result ≡ Err Memory)) key (value_or_memory c.answer_value.result _ c.answer_value.ensures.ok c.answer_value.ensures.refused))
+    (subst (λ k. (c.answer_value.result ≡ answer_value k c.in-Ok.answer.status c.in-Ok.answer.output.items) ⊎ (c.answer_value.result ≡ Err Memory)) key
+    (value_or_memory c.answer_value.result _ c.answer_value.ensures.ok c.answer_value.ensures.refused))
 
 pub returns-in-Ok-clause-cause : goal.returns-in-Ok-clause-cause
 returns-in-Ok-clause-cause g c =
-    answer_kept _ _ c.in_ok-key.key c.in-Ok.answer.status c.in-Ok.answer.output.items c.answer_value.result c.in-Ok.ensures.cause.kept (value_or_memory c.answer_value.result _ c.answer_value.ensures.ok c.answer_value.ensures.refused)
+    answer_kept _ _ c.in_ok-key.key c.in-Ok.answer.status c.in-Ok.answer.output.items c.answer_value.result c.in-Ok.ensures.cause.kept
+    (value_or_memory c.answer_value.result _ c.answer_value.ensures.ok c.answer_value.ensures.refused)
 
 pub returns-in-Err-Failed-clause-asked : goal.returns-in-Err-Failed-clause-asked
 returns-in-Err-Failed-clause-asked g c =
@@ -27,7 +29,8 @@ returns-in-Err-Failed-clause-asked g c =
     unanswered c.args.generator.now _ _ (Err (Failed c.in_ok-key.key)) c.in-Err-Failed.ensures.asked (inl (ap (λ k. Err (Failed k)) key))
 
 pub returns-in-Err-Failed-clause-cause : goal.returns-in-Err-Failed-clause-cause
-returns-in-Err-Failed-clause-cause g c = failure_rose _ _ c.in_ok-key.key c.in-Err-Failed.ensures.cause.later (c.in-Err-Failed.ensures.cause.failed (ap Err c.in-Err-Failed.field-0-is))
+returns-in-Err-Failed-clause-cause g c = failure_rose _ _ c.in_ok-key.key c.in-Err-Failed.ensures.cause.later
+    (c.in-Err-Failed.ensures.cause.failed (ap Err c.in-Err-Failed.field-0-is))
 
 pub returns-in-Err-Memory-clause-asked : goal.returns-in-Err-Memory-clause-asked
 returns-in-Err-Memory-clause-asked g c = unanswered c.args.generator.now _ _ (Err Memory) c.in-Err-Memory.ensures.asked (inr refl)

@@ -14,11 +14,13 @@ pub returns-then-not-matches-clause-refused : goal.returns-then-not-matches-clau
 returns-then-not-matches-clause-refused c =
     let key = rw c.in-Some.is at c.in_ok-key.ensures in
     let none : IsKnown c.args.types.now c.in-Some.key → ⊥ = search rules in
-    entry_refused c.args.types.now c.args.before.now.keys (c.args.name.now, view c.args.value.now) _ c.refused-then-not-matches.result (unknown c.in-Some.key key none) c.refused-then-not-matches.ensures
+    entry_refused c.args.types.now c.args.before.now.keys (c.args.name.now, view c.args.value.now) _ c.refused-then-not-matches.result
+    (unknown c.in-Some.key key none) c.refused-then-not-matches.ensures
 
 pub returns-then-is_empty-clause-refused : goal.returns-then-is_empty-clause-refused
 returns-then-is_empty-clause-refused c =
     let key = rw c.in-Some.is at c.in_ok-key.ensures in
     let known : IsKnown c.args.types.now c.in-Some.key = search rules in
     let none : command_of (view c.args.value.now) ≡ [] = sym c.in_ok-words.ensures ∙ no_texts c.in_ok-words.words c.if-is_empty.ensures in
-    entry_refused c.args.types.now c.args.before.now.keys (c.args.name.now, view c.args.value.now) _ c.refused-then-is_empty.result (no_word c.in-Some.key key known none) c.refused-then-is_empty.ensures
+    entry_refused c.args.types.now c.args.before.now.keys (c.args.name.now, view c.args.value.now) _ c.refused-then-is_empty.result
+    (no_word c.in-Some.key key known none) c.refused-then-is_empty.ensures

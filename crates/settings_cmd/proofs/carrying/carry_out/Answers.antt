@@ -32,13 +32,15 @@ returns-in-Ok-Serve-clause-does g c = λ order spelled.
 pub returns-in-Ok-Set-clause-does : goal.returns-in-Ok-Set-clause-does
 returns-in-Ok-Set-clause-does g c = λ order spelled.
     does_read c.set.result _ _ c.in-Ok-Set.field-0 _ order c.in-Ok-Set.field-0-is (c.in-Ok-Set.ensures.exact order spelled)
-    (subst (λ (l : List (List (List ℕ) × Scalar)). Commanded (set_requests l) IsSettingsLine c.set.result (g.S.Spawner.runs c.args.spawner.now) (g.S.Spawner.runs c.set.new.spawner)
+    (subst (λ (l : List (List (List ℕ) × Scalar)). Commanded (set_requests l) IsSettingsLine c.set.result (g.S.Spawner.runs c.args.spawner.now)
+    (g.S.Spawner.runs c.set.new.spawner)
     (g.D.Disk.told c.args.disk.now) (g.D.Disk.told c.set.new.disk)) c.deref.ensures.value c.set.ensures.carried)
 
 pub returns-in-Ok-Get-clause-does : goal.returns-in-Ok-Get-clause-does
 returns-in-Ok-Get-clause-does g c = λ order spelled.
     does_read c.get.result _ _ c.in-Ok-Get.field-0 _ order c.in-Ok-Get.field-0-is (c.in-Ok-Get.ensures.exact order spelled)
-    (inl (subst (λ (l : List (List (List ℕ))). IsGot l c.get.result (g.D.Disk.told c.args.disk.now) (g.D.Disk.told c.get.new.disk)) c.deref-in-Ok-Get.ensures.value c.get.ensures.got))
+    (inl (subst (λ (l : List (List (List ℕ))). IsGot l c.get.result (g.D.Disk.told c.args.disk.now) (g.D.Disk.told c.get.new.disk))
+    c.deref-in-Ok-Get.ensures.value c.get.ensures.got))
 
 pub returns-in-Ok-Apply-clause-does : goal.returns-in-Ok-Apply-clause-does
 returns-in-Ok-Apply-clause-does g c = λ order spelled.
@@ -114,10 +116,12 @@ pub returns-in-Ok-UserData-clause-door_fault : goal.returns-in-Ok-UserData-claus
 returns-in-Ok-UserData-clause-door_fault g c = λ is. absurd (c.provision.ensures.no_door is)
 
 pub load-requires-clause-some : goal.load-requires-clause-some
-load-requires-clause-some g c = (load_in_range (texts c.args.words.now) c.in-Ok-Load.field-0 c.in-Ok-Load.count c.in-Ok-Load.field-0-is c.in-Ok-Load.ensures.ok).0
+load-requires-clause-some g c = (load_in_range (texts c.args.words.now) c.in-Ok-Load.field-0 c.in-Ok-Load.count c.in-Ok-Load.field-0-is
+    c.in-Ok-Load.ensures.ok).0
 
 pub load-requires-clause-most : goal.load-requires-clause-most
-load-requires-clause-most g c = (load_in_range (texts c.args.words.now) c.in-Ok-Load.field-0 c.in-Ok-Load.count c.in-Ok-Load.field-0-is c.in-Ok-Load.ensures.ok).1
+load-requires-clause-most g c = (load_in_range (texts c.args.words.now) c.in-Ok-Load.field-0 c.in-Ok-Load.count c.in-Ok-Load.field-0-is
+    c.in-Ok-Load.ensures.ok).1
 
 pub returns-in-Ok-Load-clause-cause : goal.returns-in-Ok-Load-clause-cause
 returns-in-Ok-Load-clause-cause g c = λ serves_not. quiet_cause c.load.result _ _ refl c.load.ensures.memory

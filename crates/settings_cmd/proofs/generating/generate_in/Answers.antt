@@ -10,7 +10,8 @@ use Rattle.settings_cmd.proofs.generating.generate_in.Goals as goal
 
 pub commit_pairs-requires-clause-settings : goal.commit_pairs-requires-clause-settings
 commit_pairs-requires-clause-settings g c =
-    subst (λ (l : List (List (List ℕ) × Scalar)). All (λ pair. IsTrue (is_prefix settings_key pair.0)) l) (sym c.deref.ensures.value) c.in_ok-pairs.ensures.settings
+    subst (λ (l : List (List (List ℕ) × Scalar)). All (λ pair. IsTrue (is_prefix settings_key pair.0)) l) (sym c.deref.ensures.value)
+    c.in_ok-pairs.ensures.settings
 
 pub returns-in_err-pairs-clause-generates : goal.returns-in_err-pairs-clause-generates
 returns-in_err-pairs-clause-generates g c =
@@ -26,7 +27,8 @@ returns-in_err-pairs-clause-spawn g c =
 
 pub returns-clause-generates : goal.returns-clause-generates
 returns-clause-generates g c =
-    generates_pairs _ _ c.args.store c.args.tx c.in_ok-pairs.pairs.items c.deref.result.now c.commit_pairs.result _ _ _ c.in_ok-pairs.ensures.gives c.requires.tx
+    generates_pairs _ _ c.args.store c.args.tx c.in_ok-pairs.pairs.items c.deref.result.now c.commit_pairs.result _ _ _ c.in_ok-pairs.ensures.gives
+    c.requires.tx
     c.generated.ensures.same c.deref.ensures.value c.commit_pairs.ensures.commits
 
 pub returns-clause-spawn : goal.returns-clause-spawn

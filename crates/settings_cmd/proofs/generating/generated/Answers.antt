@@ -27,7 +27,8 @@ returns-in-Some-clause-gives g c =
     let types = c.args.store.now.image.model.types in
     let d = g.D.Disk.told c.args.disk.now in
     generators_asked c.args.store.now d _ _ c.in-Some.generators _
-    (subst (λ (o : Option (List Given)). WhereTold d (λ h. AreGeneratorsIn types (sources_in (tree_of h) generators_path) (given_of o))) c.in-Some.is c.in_ok-generators.ensures.ok)
+    (subst (λ (o : Option (List Given)). WhereTold d (λ h. AreGeneratorsIn types (sources_in (tree_of h) generators_path) (given_of o))) c.in-Some.is
+    c.in_ok-generators.ensures.ok)
     c.answers.ensures.answers
 
 pub returns-in-None-clause-gives : goal.returns-in-None-clause-gives
@@ -35,5 +36,6 @@ returns-in-None-clause-gives g c =
     let types = c.args.store.now.image.model.types in
     let d = g.D.Disk.told c.args.disk.now in
     generators_missing c.args.store.now d _ c.new.result.items
-    (subst (λ (o : Option (List Given)). WhereTold d (λ h. AreGeneratorsIn types (sources_in (tree_of h) generators_path) (given_of o))) c.in-None.is c.in_ok-generators.ensures.ok)
+    (subst (λ (o : Option (List Given)). WhereTold d (λ h. AreGeneratorsIn types (sources_in (tree_of h) generators_path) (given_of o))) c.in-None.is
+    c.in_ok-generators.ensures.ok)
     (search rules)

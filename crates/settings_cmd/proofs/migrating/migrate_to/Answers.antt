@@ -13,7 +13,8 @@ returns-in-Ok-clause-migrated g c =
       read = c.in_ok-release.ensures.ok;
       result = c.migrate_by.result;
       moves = record { mapped = moves.mapped; refused = moves.refused; migrates = moves_after c.read_release.ensures.same moves.migrates; asked = moves.asked };
-      answers = subst (λ (r : Result Moved MoveError). AnswersMoving c.args.to.now r (Ok c.in_ok-line.line)) (sym c.in-Ok.is) (ap (λ (l : List ℕ). Ok l) c.in_ok-line.ensures);
+      answers = subst (λ (r : Result Moved MoveError). AnswersMoving c.args.to.now r (Ok c.in_ok-line.line)) (sym c.in-Ok.is)
+          (ap (λ (l : List ℕ). Ok l) c.in_ok-line.ensures);
     })
 
 pub returns-in-Err-clause-migrated : goal.returns-in-Err-clause-migrated

@@ -10,7 +10,8 @@ pub returns-in-Ok-clause-settings : goal.returns-in-Ok-clause-settings
 returns-in-Ok-clause-settings c = data_begin c.args.text.now c.in-Ok.pairs.items c.in-Ok.ensures.ok
 
 pub returns-in_ok-refused-in-Err-clause-tells : goal.returns-in_ok-refused-in-Err-clause-tells
-returns-in_ok-refused-in-Err-clause-tells c = data_fault_told c.args.text.now c.in-Err.error c.in_ok-refused-in-Err.field-0 c.in_ok-refused-in-Err.ensures c.in-Err.ensures.fault
+returns-in_ok-refused-in-Err-clause-tells c = data_fault_told c.args.text.now c.in-Err.error c.in_ok-refused-in-Err.field-0 c.in_ok-refused-in-Err.ensures
+    c.in-Err.ensures.fault
 
 pub returns-in_ok-refused-in-Err-clause-of_data : goal.returns-in_ok-refused-in-Err-clause-of_data
 returns-in_ok-refused-in-Err-clause-of_data c = data_fault_of c.in-Err.error c.in_ok-refused-in-Err.field-0 c.in_ok-refused-in-Err.ensures

@@ -10,7 +10,8 @@ use Rattle.settings_cmd.proofs.provisioning.provide.Goals as goal
 
 pub commit_pairs-requires-clause-settings : goal.commit_pairs-requires-clause-settings
 commit_pairs-requires-clause-settings g c =
-    subst (λ (l : List (List (List ℕ) × Scalar)). All (λ pair. IsTrue (is_prefix settings_key pair.0)) l) (sym c.deref.ensures.value) c.in_ok-pairs.ensures.settings
+    subst (λ (l : List (List (List ℕ) × Scalar)). All (λ pair. IsTrue (is_prefix settings_key pair.0)) l) (sym c.deref.ensures.value)
+    c.in_ok-pairs.ensures.settings
 
 pub returns-in_err-pairs-clause-provides : goal.returns-in_err-pairs-clause-provides
 returns-in_err-pairs-clause-provides g c =
@@ -26,11 +27,13 @@ returns-in_err-pairs-clause-unspawned g c =
 pub returns-in_err-pairs-clause-no_door : goal.returns-in_err-pairs-clause-no_door
 returns-in_err-pairs-clause-no_door g c =
     let told : c.from_residual.result ≡ Err c.in_err-pairs.field-0.0 = search rules in
-    is_none_of IsOfData c.from_residual.result refused.Door (λ none. none) (refused_of IsOfData c.from_residual.result c.in_err-pairs.field-0.0 told c.in_err-pairs.ensures.of_data)
+    is_none_of IsOfData c.from_residual.result refused.Door (λ none. none)
+    (refused_of IsOfData c.from_residual.result c.in_err-pairs.field-0.0 told c.in_err-pairs.ensures.of_data)
 
 pub returns-clause-provides : goal.returns-clause-provides
 returns-clause-provides g c =
-    provides_pairs c.args.path.now c.args.store c.args.tx c.in_ok-pairs.pairs.items c.deref.result.now c.commit_pairs.result _ _ _ c.in_ok-pairs.ensures.tells c.requires.tx
+    provides_pairs c.args.path.now c.args.store c.args.tx c.in_ok-pairs.pairs.items c.deref.result.now c.commit_pairs.result _ _ _ c.in_ok-pairs.ensures.tells
+    c.requires.tx
     c.data_at.ensures.same c.deref.ensures.value c.commit_pairs.ensures.commits
 
 pub returns-clause-unspawned : goal.returns-clause-unspawned

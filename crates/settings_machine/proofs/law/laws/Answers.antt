@@ -1,9 +1,16 @@
-use Rattle.settings_machine.proofs.PaidLaws.{files_stay_paid, nothing_owed_is_current, openings_pay, beginnings_pay, new_stores_are_kept, migrations_pay, crashes_pay}
+use Rattle.settings_machine.proofs.PaidLaws.{fit_stays, files_stay_paid, nothing_owed_is_current, openings_fit}
+use Rattle.settings_machine.proofs.PaidLaws.{openings_pay, beginnings_pay, new_stores_are_kept, migrations_pay, crashes_pay}
 use Rattle.settings_machine.proofs.Programs.{jobs_run_in_order}
 use Rattle.settings_machine.proofs.law.laws.Goals as goal
 
+pub returns-clause-fit : goal.returns-clause-fit
+returns-clause-fit c = fit_stays
+
 pub returns-clause-files : goal.returns-clause-files
 returns-clause-files c = files_stay_paid
+
+pub returns-clause-opened : goal.returns-clause-opened
+returns-clause-opened c = openings_fit
 
 pub returns-clause-openings : goal.returns-clause-openings
 returns-clause-openings c = openings_pay

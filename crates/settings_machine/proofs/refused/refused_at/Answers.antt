@@ -6,7 +6,8 @@ use Rattle.settings_machine.proofs.Matching.{wanted_unknown, wanted_gone}
 use Rattle.settings_machine.proofs.refused.refused_at.Goals as goal
 
 pub returns-then-not-matches : goal.returns-then-not-matches
-returns-then-not-matches c = wanted_unknown c.args.types.now c.args.key.now c.requires c.args.pending.now c.in_ok-copy.field-0 c.in_ok-from_str.field-0 c.in_ok-copy.ensures
+returns-then-not-matches c = wanted_unknown c.args.types.now c.args.key.now c.requires c.args.pending.now c.in_ok-copy.field-0 c.in_ok-from_str.field-0
+    c.in_ok-copy.ensures
     c.in_ok-from_str.ensures
     (λ known. cc (c.if-not-matches.true, c.matches.ensures.known.1 known))
 

@@ -7,7 +7,8 @@ use Rattle.settings_run.proofs.command.run.Goals as goal
 
 pub returns-clause-headline : goal.returns-clause-headline
 returns-clause-headline g c =
-    headline _ c.carry_out-outcome.result _ _ c.carry_out-outcome.ensures.unrun c.carry_out-outcome.ensures.does c.tell.result _ _ _ _ c.tell.ensures.ends (record {
+    headline _ c.carry_out-outcome.result _ _ c.carry_out-outcome.ensures.unrun c.carry_out-outcome.ensures.does c.tell.result _ _ _ _ c.tell.ensures.ends
+    (record {
       memory = c.tell.ensures.memory;
       disk = c.carry_out-outcome.ensures.disk_fault;
       door = c.carry_out-outcome.ensures.door_fault;
@@ -18,7 +19,8 @@ returns-clause-headline g c =
 
 pub returns-clause-served : goal.returns-clause-served
 returns-clause-served g c boot slice connections spells is =
-    (c.carry_out-outcome.ensures.does (serve boot slice connections) spells).1.all (ended_well c.carry_out-outcome.result c.tell.result _ _ c.tell.ensures.ends is)
+    (c.carry_out-outcome.ensures.does (serve boot slice connections) spells).1.all
+    (ended_well c.carry_out-outcome.result c.tell.result _ _ c.tell.ensures.ends is)
 
 pub returns-clause-disk_fault : goal.returns-clause-disk_fault
 returns-clause-disk_fault g c is = faulted c.carry_out-outcome.result c.tell.result _ _ _ _ c.carry_out-outcome.ensures.disk_fault c.tell.ensures.ends is

@@ -4,4 +4,14 @@ use Rattle.settings_run.proofs.Pairs.{generates_run, provisions_run}
 use Rattle.settings_run.proofs.law.laws.Goals as goal
 
 pub returns : goal.returns
-returns c = record { init = inits_run; serve = serves_run; set = sets_run; get = gets_run; apply = applies_run; migrate = migrates_run; generate = generates_run; user_data = provisions_run }
+returns c = record {
+  init = inits_run;
+  serve = serves_run;
+  set = sets_run;
+  get = gets_run;
+  apply = applies_run;
+  migrate = migrates_run;
+  generate =
+      generates_run;
+  user_data = provisions_run;
+}

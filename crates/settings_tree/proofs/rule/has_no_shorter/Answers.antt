@@ -4,10 +4,12 @@ use Rattle.settings_tree.proofs.PrefixRule.{shorter_some, shorter_none, shorter_
 use Rattle.settings_tree.proofs.rule.has_no_shorter.Goals as goal
 
 pub returns-in-Some-clause-fits : goal.returns-in-Some-clause-fits
-returns-in-Some-clause-fits g c yes_not = shorter_some c.args.map.now c.args.key.now c.in-Some.last.now c.in-Some.field-0-1.now c.requires c.in-Some.ensures.greatest (sym c.is_prefix.ensures ∙ not-true _ yes_not)
+returns-in-Some-clause-fits g c yes_not = shorter_some c.args.map.now c.args.key.now c.in-Some.last.now c.in-Some.field-0-1.now c.requires
+    c.in-Some.ensures.greatest (sym c.is_prefix.ensures ∙ not-true _ yes_not)
 
 pub returns-in-Some-clause-clashes : goal.returns-in-Some-clause-clashes
-returns-in-Some-clause-clashes g c no_not = shorter_clash c.args.map.now c.args.key.now c.in-Some.last.now c.in-Some.field-0-1.now c.in-Some.ensures.greatest (sym c.is_prefix.ensures ∙ not-false _ no_not)
+returns-in-Some-clause-clashes g c no_not = shorter_clash c.args.map.now c.args.key.now c.in-Some.last.now c.in-Some.field-0-1.now c.in-Some.ensures.greatest
+    (sym c.is_prefix.ensures ∙ not-false _ no_not)
 
 pub returns-in-None-clause-fits : goal.returns-in-None-clause-fits
 returns-in-None-clause-fits g c _ = shorter_none c.args.map.now c.args.key.now c.in-None.ensures.none

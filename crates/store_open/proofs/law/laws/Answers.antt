@@ -1,6 +1,10 @@
 use Rattle.store_open.proofs.EarlierMoments.{since_settled}
+use Rattle.store_open.proofs.GoodImages.{images_are_good}
 use Rattle.store_open.proofs.MachineRuns.{machine_step, openings_run, refusals_keep}
 use Rattle.store_open.proofs.law.laws.Goals as goal
+
+pub returns-clause-good : goal.returns-clause-good
+returns-clause-good c = images_are_good
 
 pub returns-clause-step : goal.returns-clause-step
 returns-clause-step c = machine_step

@@ -29,7 +29,8 @@ returns-in_err-image-clause-opens g c =
 
 pub returns-clause-opens : goal.returns-clause-opens
 returns-clause-opens g c =
-    moves_then (λ old mid new both ends. ends (record { place = c.args.place; held = c.step_to_image.new.held; image = c.in_ok-image.image; fits = _ }) refl refl refl old both.0 both.1)
+    moves_then (λ old mid new both ends. ends (record { place = c.args.place; held = c.step_to_image.new.held; image = c.in_ok-image.image; fits = _ }) refl
+    refl refl old both.0 both.1)
     (moves_where c.requires.led c.in_ok-held.ensures.recovers) c.in_ok-image.ensures.opens
 
 pub returns-clause-sound : goal.returns-clause-sound

@@ -23,16 +23,19 @@ returns-in_err-image-clause-refused g c =
     let a = g.D.Disk.told c.args.disk.now in
     let fault = at_image place.directory a c.args.held.now c.in_err-image.field-0.0 p.0 p.2 c.requires.holds c.in_err-image.ensures.bad in
     subst (λ (r : Result Image OpenError). IfErr r (λ e. Moves a (g.D.Disk.told c.read_image.new.disk) (Ends c.args.boot place (Err e)))) (sym p.1)
-    (moves_map (λ mid new both. ends_read c.args.boot place p.0 mid new both.0 both.1) (moves_where fault (moves_same {R = λ mid new. new ≡ mid} c.read_image.ensures.same (λ h. refl))))
+    (moves_map (λ mid new both. ends_read c.args.boot place p.0 mid new both.0 both.1)
+    (moves_where fault (moves_same {R = λ mid new. new ≡ mid} c.read_image.ensures.same (λ h. refl))))
 
 pub take_step-requires-clause-holds : goal.take_step-requires-clause-holds
 take_step-requires-clause-holds g c =
-    subst (λ (a : Option History). WhereTold a (λ h. Stands (files_below c.args.place.now.directory (tree_of h)) c.args.held.now 2)) (sym c.read_image.ensures.same) c.requires.holds
+    subst (λ (a : Option History). WhereTold a (λ h. Stands (files_below c.args.place.now.directory (tree_of h)) c.args.held.now 2))
+    (sym c.read_image.ensures.same) c.requires.holds
 
 pub take_step-requires-clause-read : goal.take_step-requires-clause-read
 take_step-requires-clause-read g c =
     let image = c.in_ok-image.image in
-    subst (λ (a : Option History). WhereTold a (λ h. IsImageOf (sources_in (tree_of h)) image.model image.manifest image.templates image.text)) (sym c.read_image.ensures.same)
+    subst (λ (a : Option History). WhereTold a (λ h. IsImageOf (sources_in (tree_of h)) image.model image.manifest image.templates image.text))
+    (sym c.read_image.ensures.same)
     c.in_ok-image.ensures.ok
 
 pub returns-in_err-take_step-clause-refused : goal.returns-in_err-take_step-clause-refused

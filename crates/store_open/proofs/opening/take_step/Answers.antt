@@ -16,7 +16,8 @@ returns-in_err-check_types-clause-refused g c =
     let image = c.args.image.now in
     let a = g.D.Disk.told c.args.disk.now in
     let e = c.in_err-check_types.field-0.0 in
-    let fault = at_types place.directory a c.args.held.now image e c.in_err-check_types.ensures.refused c.requires.holds (told_image a image c.len.ensures.table c.requires.read) in
+    let fault = at_types place.directory a c.args.held.now image e c.in_err-check_types.ensures.refused c.requires.holds
+    (told_image a image c.len.ensures.table c.requires.read) in
     handed_on c.from_residual.result e (λ e. Moves a a (Ends c.args.boot place (Err e))) c.from_residual.ensures.1
     (moves_map (λ mid new both. ends_read c.args.boot place e mid new both.0 both.1) (moves_where fault (moves_stay {R = λ mid new. new ≡ mid} (λ h. refl))))
 
@@ -28,7 +29,8 @@ returns-in_err-make_step-clause-refused g c =
     let image = c.args.image.now in
     let a = g.D.Disk.told c.args.disk.now in
     subst (λ (r : Result Unit OpenError). IfErr r (λ e. Moves a (g.D.Disk.told c.make_step.new.disk) (Ends c.args.boot place (Err e)))) (sym p.1)
-    (moves_map (λ mid new all. ends_failed c.args.boot place held image mid new all.0.0 all.0.1 c.in_ok-check_types.ensures.typed c.in_err-make_step.field-0.0 p.0 p.2 all.1)
+    (moves_map (λ mid new all. ends_failed c.args.boot place held image mid new all.0.0 all.0.1 c.in_ok-check_types.ensures.typed c.in_err-make_step.field-0.0
+    p.0 p.2 all.1)
     (moves_where (where_both c.requires.holds (told_image a image c.len.ensures.table c.requires.read)) c.in_err-make_step.ensures.lays))
 
 pub returns-clause-opens : goal.returns-clause-opens

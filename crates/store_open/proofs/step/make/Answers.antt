@@ -23,11 +23,13 @@ returns-in-Ok-clause-lays g c =
     let held = c.args.held.now in
     let batch = c.in_ok-batch.batch in
     moves_map (λ old new commits. subst (λ (d : Names). Lays d held (laid held c.args.change) (Ok tt) old new) c.in_ok-batch.ensures.dir
-    (lays_made batch c.args.change c.in_ok-batch.ensures.follows held c.requires.rule c.requires.weak c.requires.told old new _ commits)) c.in-Ok.ensures.commits
+    (lays_made batch c.args.change c.in_ok-batch.ensures.follows held c.requires.rule c.requires.weak c.requires.told old new _ commits))
+    c.in-Ok.ensures.commits
 
 pub returns-clause-lays : goal.returns-clause-lays
 returns-clause-lays g c =
     let held = c.args.held.now in
     let batch = c.in_ok-batch.batch in
     moves_map (λ old new commits. subst (λ (d : Names). Lays d held (laid held c.args.change) (Err device.Failed) old new) c.in_ok-batch.ensures.dir
-    (lays_failed batch c.args.change c.in_ok-batch.ensures.follows held c.requires.rule c.requires.weak c.requires.told old new _ commits)) c.in-Err.ensures.commits
+    (lays_failed batch c.args.change c.in_ok-batch.ensures.follows held c.requires.rule c.requires.weak c.requires.told old new _ commits))
+    c.in-Err.ensures.commits

@@ -22,7 +22,8 @@ returns-in_err-change-clause-lays g c =
 pub returns-then-is_empty-clause-made : goal.returns-then-is_empty-clause-made
 returns-then-is_empty-clause-made g c =
     let none : length c.as_slice.result.now ≡ 0 = grind (arith, common_steps) in
-    empty_opens c.args.boot c.args.image.now c.args.held.now c.in_ok-change.change (ap length (sym c.as_slice.ensures.entries) ∙ none) c.in_ok-change.ensures.made
+    empty_opens c.args.boot c.args.image.now c.args.held.now c.in_ok-change.change (ap length (sym c.as_slice.ensures.entries) ∙ none)
+    c.in_ok-change.ensures.made
 
 pub returns-then-is_empty-clause-lays : goal.returns-then-is_empty-clause-lays
 returns-then-is_empty-clause-lays g c =
@@ -41,9 +42,11 @@ returns-clause-lays g c =
 
 pub returns-clause-made : goal.returns-clause-made
 returns-clause-made g c =
-    on_ok_weaker c.make.result (λ made. made ∙ change_opens c.args.boot c.args.image.now c.args.held.now c.in_ok-change.change c.in_ok-change.ensures.made) c.make.ensures.made
+    on_ok_weaker c.make.result (λ made. made ∙ change_opens c.args.boot c.args.image.now c.args.held.now c.in_ok-change.change c.in_ok-change.ensures.made)
+    c.make.ensures.made
 
 pub returns-clause-fits : goal.returns-clause-fits
 returns-clause-fits g c =
     let i = c.args.image.now in
-    on_ok_weaker c.make.result (λ made. opened_fits i c.args.held.now c.args.boot c.make.new.held c.requires.typed c.requires.types made) (returns-clause-made g c)
+    on_ok_weaker c.make.result (λ made. opened_fits i c.args.held.now c.args.boot c.make.new.held c.requires.typed c.requires.types made)
+    (returns-clause-made g c)

@@ -21,7 +21,8 @@ pub returns-then-not-branch-clause-found : goal.returns-then-not-branch-clause-f
 returns-then-not-branch-clause-found c =
     let n = may_not (is_of_image c.in-Some.key.now) (IsTyped c.args.types.now c.in-Some.key.now c.in-Some.value.now)
     (λ typed. cc (c.in_ok-may_live.ensures.1 typed, c.if-not-branch.true)) in
-    live_bad c.args.types.now c.args.held.now (option_copied c.loop-key.after) c.in-Some.key.now c.in-Some.value.now c.in-Some.ensures.least c.loop-key.invariant n.0 n.1
+    live_bad c.args.types.now c.args.held.now (option_copied c.loop-key.after) c.in-Some.key.now c.in-Some.value.now c.in-Some.ensures.least
+    c.loop-key.invariant n.0 n.1
 
 pub returns-clause-none : goal.returns-clause-none
 returns-clause-none c = live_all c.args.types.now c.args.held.now (option_copied c.loop-key.after) c.in_default.ensures.none c.loop-key.invariant

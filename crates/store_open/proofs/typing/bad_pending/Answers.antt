@@ -11,7 +11,8 @@ pub loop-tx-init : goal.loop-tx-init
 loop-tx-init c = tx_none c.args.types.now c.args.held.now
 
 pub loop-tx-smaller : goal.loop-tx-smaller
-loop-tx-smaller c = key_falls bytes_total bytes_cmp-IsAntisymmetric c.args.held.now.pending (option_copied c.loop-tx.after) c.in-Some.tx.now c.in-Some.ensures.least
+loop-tx-smaller c = key_falls bytes_total bytes_cmp-IsAntisymmetric c.args.held.now.pending (option_copied c.loop-tx.after) c.in-Some.tx.now
+    c.in-Some.ensures.least
 
 pub loop-tx-preserved : goal.loop-tx-preserved
 loop-tx-preserved c = tx_next c.args.types.now c.args.held.now (option_copied c.loop-tx.after) c.in-Some.tx.now c.in-Some.ensures.least c.loop-tx.invariant

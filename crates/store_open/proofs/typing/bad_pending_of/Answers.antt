@@ -14,7 +14,8 @@ loop-key-smaller c = walk_falls key_total key_cmp-IsAntisymmetric (inner c.args.
 
 pub loop-key-preserved : goal.loop-key-preserved
 loop-key-preserved c = pending_next c.args.types.now c.args.held.now c.args.tx.now
-    (option_copied c.loop-key.after) c.in-Some.key.now c.in-Some.value.now c.in-Some.ensures.least c.loop-key.invariant (c.in_ok-may_pend.ensures.0 c.if-not-branch.false)
+    (option_copied c.loop-key.after) c.in-Some.key.now c.in-Some.value.now c.in-Some.ensures.least c.loop-key.invariant
+    (c.in_ok-may_pend.ensures.0 c.if-not-branch.false)
 
 pub returns-then-not-branch-clause-found : goal.returns-then-not-branch-clause-found
 returns-then-not-branch-clause-found c =
@@ -22,4 +23,5 @@ returns-then-not-branch-clause-found c =
     c.in-Some.key.now c.in-Some.value.now c.in-Some.ensures.least c.loop-key.invariant (λ may. cc (c.in_ok-may_pend.ensures.1 may, c.if-not-branch.true))
 
 pub returns-clause-none : goal.returns-clause-none
-returns-clause-none c = pending_all c.args.types.now c.args.held.now c.args.tx.now (option_copied c.loop-key.after) c.in_default.ensures.none c.loop-key.invariant
+returns-clause-none c = pending_all c.args.types.now c.args.held.now c.args.tx.now (option_copied c.loop-key.after) c.in_default.ensures.none
+    c.loop-key.invariant

@@ -12,20 +12,25 @@ loop-split-init c =
 pub loop-split-preserved-in_ok-push_behind : goal.loop-split-preserved-in_ok-push_behind
 loop-split-preserved-in_ok-push_behind c =
     let pair = pair_of c.args.inputs.now c.args.joiner.now c.args.path.now in
-    behind_next c.args.inputs.now.content.now _ _ c.args.separator.now pair (places_of c.args.inputs.now.content.now c.loop-split.rest) c.in_ok-split.field-0 c.in-Some.split
-    c.args.out.now.items c.loop-split.out.items c.push_behind.new.out.items c.in_ok-split.ensures.parts c.in-Some.is c.loop-split.invariant c.in_ok-push_behind.ensures.ok
+    behind_next c.args.inputs.now.content.now _ _ c.args.separator.now pair (places_of c.args.inputs.now.content.now c.loop-split.rest) c.in_ok-split.field-0
+    c.in-Some.split
+    c.args.out.now.items c.loop-split.out.items c.push_behind.new.out.items c.in_ok-split.ensures.parts c.in-Some.is c.loop-split.invariant
+    c.in_ok-push_behind.ensures.ok
 
 pub loop-split-preserved : goal.loop-split-preserved
 loop-split-preserved c =
     let pair = pair_of c.args.inputs.now c.args.joiner.now c.args.path.now in
-    behind_next c.args.inputs.now.content.now _ _ c.args.separator.now pair (places_of c.args.inputs.now.content.now c.loop-split.rest) c.in_ok-split.field-0 c.in-Some.split
-    c.args.out.now.items c.loop-split.out.items c.push_behind.new.out.items c.in_ok-split.ensures.parts c.in-Some.is c.loop-split.invariant c.in_ok-push_behind.ensures.ok
+    behind_next c.args.inputs.now.content.now _ _ c.args.separator.now pair (places_of c.args.inputs.now.content.now c.loop-split.rest) c.in_ok-split.field-0
+    c.in-Some.split
+    c.args.out.now.items c.loop-split.out.items c.push_behind.new.out.items c.in_ok-split.ensures.parts c.in-Some.is c.loop-split.invariant
+    c.in_ok-push_behind.ensures.ok
 
 pub returns-in_err-push_behind-clause-err : goal.returns-in_err-push_behind-clause-err
 returns-in_err-push_behind-clause-err c =
     let x = err_from_is_err_and c.from_residual-in_err-push_behind.result c.from_residual-in_err-push_behind.ensures.1 in
     let pair = pair_of c.args.inputs.now c.args.joiner.now c.args.path.now in
-    rw (x.1, x.2) (λ k. behind_fails c.args.inputs.now.content.now _ _ c.args.separator.now pair (places_of c.args.inputs.now.content.now c.loop-split.rest) c.in_ok-split.field-0 c.in-Some.split
+    rw (x.1, x.2) (λ k. behind_fails c.args.inputs.now.content.now _ _ c.args.separator.now pair (places_of c.args.inputs.now.content.now c.loop-split.rest)
+    c.in_ok-split.field-0 c.in-Some.split
     c.args.out.now.items c.loop-split.out.items _ c.in_ok-split.ensures.parts c.in-Some.is c.loop-split.invariant (c.in_err-push_behind.ensures.err k))
 
 pub returns-clause-ok : goal.returns-clause-ok

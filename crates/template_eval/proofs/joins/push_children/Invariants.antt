@@ -9,7 +9,8 @@ use Rattle.template_eval.proofs.joins.push_children.Given as goal
 abbrev pub invariant-loop-split : goal.invariant-loop-split
 invariant-loop-split l =
     let pair = child_pair l.inputs.content.now l.inputs.os.now l.joiner l.path in
-    Going (joined l.separator (map pair (places_of l.inputs.content.now l.places))) (behind l.lead l.separator (map pair (places_of l.inputs.content.now l.rest))) l.initial.out.items l.out.items
+    Going (joined l.separator (map pair (places_of l.inputs.content.now l.places)))
+    (behind l.lead l.separator (map pair (places_of l.inputs.content.now l.rest))) l.initial.out.items l.out.items
 
 abbrev pub decreases-loop-split : goal.decreases-loop-split
 decreases-loop-split l = length (places_of l.inputs.content.now l.rest)

@@ -19,15 +19,19 @@ pub returns-then-len : goal.returns-then-len
 returns-then-len c =
     let values = c.args.content.now.values in
     let least = c.in-Some.ensures.least in
-    let same = same_key values c.args.key.now c.in-Some.found.now least.begins (omega (arith, c.if-len.true, c.len.ensures.count, c.len-in-Some.ensures.count)) in
-    c.scalar_node.ensures c.args.content.now ∙ sym (ap (λ (o : Option Scalar). value_node o (children_below values c.args.key.now)) (ap (get values) (sym same) ∙ least.stands))
+    let same = same_key values c.args.key.now c.in-Some.found.now least.begins (omega (arith, c.if-len.true, c.len.ensures.count, c.len-in-Some.ensures.count))
+    in
+    c.scalar_node.ensures c.args.content.now ∙ sym (ap (λ (o : Option Scalar). value_node o (children_below values c.args.key.now))
+    (ap (get values) (sym same) ∙ least.stands))
 
 pub returns-else-len : goal.returns-else-len
 returns-else-len c =
     let values = c.args.content.now.values in
     let key = c.args.key.now in
     let least = c.in-Some.ensures.least in
-    let longer = longer_key values key c.in-Some.found.now least.begins (λ same. c.if-len.false (c.len.ensures.count ∙ same ∙ sym c.len-in-Some.ensures.count)) in
+    let longer = longer_key values key c.in-Some.found.now least.begins (λ same. c.if-len.false (c.len.ensures.count ∙ same ∙ sym c.len-in-Some.ensures.count))
+    in
     let none = no_value values key c.in-Some.found.now c.in-Some.scalar.now least longer in
     let some = some_child values key c.in-Some.found.now c.in-Some.scalar.now least longer in
-    sym (ap (λ (o : Option Scalar). value_node o (children_below values key)) none ∙ ap (value_node None) some.2 ∙ ap children (sym some.2 ∙ children_start values key))
+    sym (ap (λ (o : Option Scalar). value_node o (children_below values key)) none ∙ ap (value_node None) some.2
+    ∙ ap children (sym some.2 ∙ children_start values key))

@@ -17,5 +17,6 @@ returns-then-len-clause-kept c content stands = record {
 
 pub child_key-requires : goal.child_key-requires
 child_key-requires c =
-    ap (λ (name : List ℕ). is_key (c.args.parent.now ++ name ∷ [])) (c.segment.ensures.bytes ∙ ap (λ n. slice_index_or c.args.key.now n []) c.len-3.ensures.count)
+    ap (λ (name : List ℕ). is_key (c.args.parent.now ++ name ∷ [])) (c.segment.ensures.bytes
+    ∙ ap (λ n. slice_index_or c.args.key.now n []) c.len-3.ensures.count)
     ∙ child_is_key c.args.parent.now c.args.key.now c.requires.begins c.requires.longer c.len.ensures.valid

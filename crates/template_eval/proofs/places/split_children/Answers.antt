@@ -11,7 +11,8 @@ returns-clause-parts c =
     let values = c.args.content.now.values in
     let parent = c.args.children.parent.now in
     let key = c.in-Some.key.now in
-    next_child_is values parent c.args.children.after.now key c.in-Some.scalar.now c.in-Some.ensures.next ∙ ap (λ (p : Place). p ∷ children_past values parent key) (sym c.in_ok-first.ensures.leads)
+    next_child_is values parent c.args.children.after.now key c.in-Some.scalar.now c.in-Some.ensures.next
+    ∙ ap (λ (p : Place). p ∷ children_past values parent key) (sym c.in_ok-first.ensures.leads)
 
 pub returns-clause-kept : goal.returns-clause-kept
 returns-clause-kept c = c.in_ok-first.ensures.kept c.args.content.now c.in-Some.ensures.next.stands

@@ -29,15 +29,18 @@ pub push_firsts-loop-split-preserved : goal.push_firsts-loop-split-preserved
 push_firsts-loop-split-preserved t c =
     let inputs = c.args.inputs.now in
     let once : Here → Rendered = λ h. rendering inputs (tree_in c.args.first.now) (Some h) in
-    firsts_next inputs.content.now (firsts_rendering inputs (places_of inputs.content.now c.args.places) (tree_in c.args.first.now)) once (once (record { this = place_of c.in-Some.split.first; index = c.loop-split.index }))
-    (places_of inputs.content.now c.loop-split.rest) c.in_ok-split.field-0 c.in-Some.split c.loop-split.index c.in_ok-index.index c.args.out.now.items c.loop-split.out.items c.push_first.new.out.items
+    firsts_next inputs.content.now (firsts_rendering inputs (places_of inputs.content.now c.args.places) (tree_in c.args.first.now)) once
+    (once (record { this = place_of c.in-Some.split.first; index = c.loop-split.index }))
+    (places_of inputs.content.now c.loop-split.rest) c.in_ok-split.field-0 c.in-Some.split c.loop-split.index c.in_ok-index.index c.args.out.now.items
+    c.loop-split.out.items c.push_first.new.out.items
     c.in_ok-split.ensures.parts c.in-Some.is (search rules) refl c.loop-split.invariant c.in_ok-push_first.ensures.ok
 
 pub push_node-returns-in-Each-clause-ok : goal.push_node-returns-in-Each-clause-ok
 push_node-returns-in-Each-clause-ok t c =
     let inputs = c.args.inputs.now in
     let here = seen c.args.here in
-    let whole = ap (λ (n : Node). rendering_one inputs (branch_of n) here) c.in-Each.is ∙ ap (λ (b : Branch). rendering_one inputs b here) (branch-each c.in-Each.path c.in-Each.first c.in-Each.other) in
+    let whole = ap (λ (n : Node). rendering_one inputs (branch_of n) here) c.in-Each.is ∙ ap (λ (b : Branch). rendering_one inputs b here)
+    (branch-each c.in-Each.path c.in-Each.first c.in-Each.other) in
     let P : Rendered → Type 0 = λ r. OnOk c.push_each.result (Adds r c.args.out.now.items c.push_each.new.out.items) in
     subst P (sym whole) c.push_each.ensures.ok
 
@@ -51,7 +54,8 @@ push_each-returns-in_err-places-clause-err t c =
     let here = seen c.args.here in
     let first = tree_in c.args.first.now in
     let other = tree_in c.args.other.now in
-    rw (x.1, x.2) (λ k. each_is inputs c.args.path.now first other here _ _ _ c.node.ensures c.in_ok-place.ensures.leads (c.in_err-places.ensures.err inputs.content.now (λ h. rendering inputs first (Some h)) (rendering inputs other here) k))
+    rw (x.1, x.2) (λ k. each_is inputs c.args.path.now first other here _ _ _ c.node.ensures c.in_ok-place.ensures.leads
+    (c.in_err-places.ensures.err inputs.content.now (λ h. rendering inputs first (Some h)) (rendering inputs other here) k))
 
 pub push_each-returns-clause-ok : goal.push_each-returns-clause-ok
 push_each-returns-clause-ok t c =
@@ -60,7 +64,8 @@ push_each-returns-clause-ok t c =
     let first = tree_in c.args.first.now in
     let other = tree_in c.args.other.now in
     let P : Rendered → Type 0 = λ r. OnOk c.push_places.result (Adds r c.args.out.now.items c.push_places.new.out.items) in
-    subst P (sym (each_is inputs c.args.path.now first other here _ _ _ c.node.ensures c.in_ok-place.ensures.leads (c.in_ok-places.ensures.ok inputs.content.now (λ h. rendering inputs first (Some h)) (rendering inputs other here)))) c.push_places.ensures.ok
+    subst P (sym (each_is inputs c.args.path.now first other here _ _ _ c.node.ensures c.in_ok-place.ensures.leads
+    (c.in_ok-places.ensures.ok inputs.content.now (λ h. rendering inputs first (Some h)) (rendering inputs other here)))) c.push_places.ensures.ok
 
 pub push_each-returns-clause-err : goal.push_each-returns-clause-err
 push_each-returns-clause-err t c =
@@ -68,7 +73,8 @@ push_each-returns-clause-err t c =
     let here = seen c.args.here in
     let first = tree_in c.args.first.now in
     let other = tree_in c.args.other.now in
-    IfErr-weaker c.push_places.result _ _ (λ e h k. each_is inputs c.args.path.now first other here _ _ _ c.node.ensures c.in_ok-place.ensures.leads (c.in_ok-places.ensures.ok inputs.content.now (λ h. rendering inputs first (Some h)) (rendering inputs other here)) ∙ h k) c.push_places.ensures.err
+    IfErr-weaker c.push_places.result _ _ (λ e h k. each_is inputs c.args.path.now first other here _ _ _ c.node.ensures c.in_ok-place.ensures.leads
+    (c.in_ok-places.ensures.ok inputs.content.now (λ h. rendering inputs first (Some h)) (rendering inputs other here)) ∙ h k) c.push_places.ensures.err
 
 pub push_nodes-loop-node-preserved : goal.push_nodes-loop-node-preserved
 push_nodes-loop-node-preserved t c =
@@ -78,7 +84,8 @@ push_nodes-loop-node-preserved t c =
     let n = c.node-item.result in
     let P : Tree → Type 0 = λ u. Going (rendering inputs (tree_of nodes) here) (rendering inputs u here) c.args.out.now.items c.loop-node.out.items in
     record {
-      so_far = going_more _ (rendering_one inputs (branch_of n) here) _ _ _ _ (subst P (next_node nodes c.loop-node.node-index n c.loop-node-test.true c.node-item.is) c.loop-node.invariant.so_far) c.in_ok-push_node.ensures.ok;
+      so_far = going_more _ (rendering_one inputs (branch_of n) here) _ _ _ _
+          (subst P (next_node nodes c.loop-node.node-index n c.loop-node-test.true c.node-item.is) c.loop-node.invariant.so_far) c.in_ok-push_node.ensures.ok;
       left = (next_lies inputs.source.now nodes c.loop-node.node-index n c.loop-node.invariant.left c.loop-node-test.true c.node-item.is).2;
     }
 
@@ -90,7 +97,9 @@ push_nodes-returns-in_err-push_node-clause-err t c =
     let nodes = c.args.nodes.now in
     let n = c.node-item.result in
     let P : Tree → Type 0 = λ u. Going (rendering inputs (tree_of nodes) here) (rendering inputs u here) c.args.out.now.items c.loop-node.out.items in
-    rw (x.1, x.2) (λ k. going_fails _ (rendering_one inputs (branch_of n) here) (rendering inputs (tree_of (drop (c.loop-node.node-index + 1) nodes)) here) _ _ _ (subst P (next_node nodes c.loop-node.node-index n c.loop-node-test.true c.node-item.is) c.loop-node.invariant.so_far) (c.in_err-push_node.ensures.err k))
+    rw (x.1, x.2) (λ k. going_fails _ (rendering_one inputs (branch_of n) here) (rendering inputs (tree_of (drop (c.loop-node.node-index + 1) nodes)) here) _ _
+    _ (subst P (next_node nodes c.loop-node.node-index n c.loop-node-test.true c.node-item.is) c.loop-node.invariant.so_far)
+    (c.in_err-push_node.ensures.err k))
 
 pub push_nodes-returns-clause-ok : goal.push_nodes-returns-clause-ok
 push_nodes-returns-clause-ok t c =
@@ -105,11 +114,13 @@ push_firsts-returns-in_err-push_first-clause-err t c =
     let x = err_from_is_err_and c.from_residual-in_err-push_first.result c.from_residual-in_err-push_first.ensures.1 in
     let inputs = c.args.inputs.now in
     let once : Here → Rendered = λ h. rendering inputs (tree_in c.args.first.now) (Some h) in
-    rw (x.1, x.2) (λ k. firsts_fails inputs.content.now _ once _ (places_of inputs.content.now c.loop-split.rest) c.in_ok-split.field-0 c.in-Some.split c.loop-split.index c.args.out.now.items c.loop-split.out.items _
+    rw (x.1, x.2) (λ k. firsts_fails inputs.content.now _ once _ (places_of inputs.content.now c.loop-split.rest) c.in_ok-split.field-0 c.in-Some.split
+    c.loop-split.index c.args.out.now.items c.loop-split.out.items _
     c.in_ok-split.ensures.parts c.in-Some.is refl c.loop-split.invariant (c.in_err-push_first.ensures.err k))
 
 pub push_firsts-returns-clause-ok : goal.push_firsts-returns-clause-ok
 push_firsts-returns-clause-ok t c =
     let inputs = c.args.inputs.now in
     let once : Here → Rendered = λ h. rendering inputs (tree_in c.args.first.now) (Some h) in
-    firsts_done inputs.content.now _ once (places_of inputs.content.now c.loop-split.rest) c.in_ok-split.field-0 c.loop-split.index c.args.out.now.items c.loop-split.out.items c.in_ok-split.ensures.parts c.in_default.is c.loop-split.invariant
+    firsts_done inputs.content.now _ once (places_of inputs.content.now c.loop-split.rest) c.in_ok-split.field-0 c.loop-split.index c.args.out.now.items
+    c.loop-split.out.items c.in_ok-split.ensures.parts c.in_default.is c.loop-split.invariant

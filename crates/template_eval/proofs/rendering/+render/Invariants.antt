@@ -28,14 +28,16 @@ decreases-push_first l = size (tree_in l.first.now) + 1
 
 abbrev pub invariant-push_nodes-loop-node : goal.invariant-push_nodes-loop-node
 invariant-push_nodes-loop-node l = record {
-  so_far : Going (rendering l.inputs (tree_of l.nodes) (seen l.here)) (rendering l.inputs (tree_of (drop l.node-index l.nodes)) (seen l.here)) l.initial.out.items l.out.items;
+  so_far : Going (rendering l.inputs (tree_of l.nodes) (seen l.here)) (rendering l.inputs (tree_of (drop l.node-index l.nodes)) (seen l.here))
+      l.initial.out.items l.out.items;
   left : Left l.inputs.source.now l.nodes l.node-index;
 }
 
 abbrev pub invariant-push_firsts-loop-split : goal.invariant-push_firsts-loop-split
 invariant-push_firsts-loop-split l =
     let once : Here → _ = λ h. rendering l.inputs (tree_in l.first) (Some h) in
-    Going (for_each once 0 (places_of l.inputs.content.now l.places)) (for_each once l.index (places_of l.inputs.content.now l.rest)) l.initial.out.items l.out.items
+    Going (for_each once 0 (places_of l.inputs.content.now l.places)) (for_each once l.index (places_of l.inputs.content.now l.rest)) l.initial.out.items
+    l.out.items
 
 abbrev pub decreases-push_firsts-loop-split : goal.decreases-push_firsts-loop-split
 decreases-push_firsts-loop-split l = length (places_of l.inputs.content.now l.rest)

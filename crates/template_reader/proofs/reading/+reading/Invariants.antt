@@ -17,7 +17,8 @@ abbrev pub decreases-read_other : goal.decreases-read_other
 decreases-read_other l = 4 * (length l.body.now - l.rest.from) + 3
 
 abbrev pub invariant-read_part-loop-nodes : goal.invariant-read_part-loop-nodes
-invariant-read_part-loop-nodes l = Moves l.base l.body l.fn.rest.from l.fn.rest.taken l.level.depth l.level.in_each done (tree_of l.nodes.items) l.left.from l.left.taken
+invariant-read_part-loop-nodes l = Moves l.base l.body l.fn.rest.from l.fn.rest.taken l.level.depth l.level.in_each done (tree_of l.nodes.items) l.left.from
+    l.left.taken
 
 abbrev pub decreases-read_part-loop-nodes : goal.decreases-read_part-loop-nodes
 decreases-read_part-loop-nodes l = length l.body - l.left.from

@@ -21,4 +21,5 @@ returns-in-Otherwise-clause-err c =
 pub returns-in-Finish-clause-err : goal.returns-in-Finish-clause-err
 returns-in-Finish-clause-err c =
     let f = c.in_ok-part.part in
-    rw c.fault_at-in-Finish.ensures (λ k. whole_finish c.args.base _ (tree_in f.nodes) f.stop f.place f.rest.from f.rest.taken _ c.in_ok-part.ensures.ok c.in-Finish.is)
+    rw c.fault_at-in-Finish.ensures (λ k. whole_finish c.args.base _ (tree_in f.nodes) f.stop f.place f.rest.from f.rest.taken _ c.in_ok-part.ensures.ok
+    c.in-Finish.is)

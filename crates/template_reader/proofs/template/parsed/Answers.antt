@@ -7,7 +7,8 @@ use Rattle.template_reader.proofs.Sources.{parses_from, fault_front, fault_body}
 use Rattle.template_reader.proofs.template.parsed.Goals as goal
 
 pub returns-in-Ok-clause-ok : goal.returns-in-Ok-clause-ok
-returns-in-Ok-clause-ok c = parses_from c.args.source.now c.tail.result.now c.in_ok-base.base (tree_in c.in-Ok.nodes) c.in_ok-base.ensures.ok c.tail.ensures c.in-Ok.ensures.ok
+returns-in-Ok-clause-ok c = parses_from c.args.source.now c.tail.result.now c.in_ok-base.base (tree_in c.in-Ok.nodes) c.in_ok-base.ensures.ok c.tail.ensures
+    c.in-Ok.ensures.ok
 
 pub moved-requires : goal.moved-requires
 moved-requires c =
@@ -16,7 +17,8 @@ moved-requires c =
 
 pub returns-in_default-clause-refused : goal.returns-in_default-clause-refused
 returns-in_default-clause-refused c =
-    λ k. fault_body c.args.source.now c.tail.result.now c.in_ok-base.base c.in-Err.error c.moved.result c.in_ok-base.ensures.ok c.tail.ensures (c.in-Err.ensures.err c.in_default.not-Memory) c.moved.ensures
+    λ k. fault_body c.args.source.now c.tail.result.now c.in_ok-base.base c.in-Err.error c.moved.result c.in_ok-base.ensures.ok c.tail.ensures
+    (c.in-Err.ensures.err c.in_default.not-Memory) c.moved.ensures
 
 pub returns-in_err-base-clause-refused : goal.returns-in_err-base-clause-refused
 returns-in_err-base-clause-refused c =

@@ -14,8 +14,11 @@ use Rattle.typed_settings.proofs.types.table_of.Goals as goal
 pub invariant_of-result : goal.invariant_of-result
 invariant_of-result c =
     let whole : c.append.new.self.items ≡ built_in ++ c.args.given.items = search rules in
-    let sorted : IsSortedBy (λ (a b : Row). is_lt (pattern_cmp a.pattern b.pattern)) c.sort_by.new.self.items = c.in_ok-sort_by.ensures.sorted (λ (a b : Row). is_lt (pattern_cmp a.pattern b.pattern)) (ranks_by key_total (λ (row : Row). signature row.pattern)) (always_returns_same _ _ _ (λ a r q k. search rules)) in
+    let sorted : IsSortedBy (λ (a b : Row). is_lt (pattern_cmp a.pattern b.pattern)) c.sort_by.new.self.items =
+    c.in_ok-sort_by.ensures.sorted (λ (a b : Row). is_lt (pattern_cmp a.pattern b.pattern)) (ranks_by key_total (λ (row : Row). signature row.pattern))
+    (always_returns_same _ _ _ (λ a r q k. search rules)) in
     record {
-      apart = permuted_apart c.append.new.self.items c.sort_by.new.self.items c.sort_by.ensures.permutation (subst AreApart (sym whole) (whole_apart c.args.given.items c.requires.of_settings c.requires.apart));
+      apart = permuted_apart c.append.new.self.items c.sort_by.new.self.items c.sort_by.ensures.permutation
+          (subst AreApart (sym whole) (whole_apart c.args.given.items c.requires.of_settings c.requires.apart));
       ordered = sorted_ordered c.sort_by.new.self.items sorted;
     }

@@ -5,4 +5,5 @@ use Rattle.user_data.proofs.place.child_of.Goals as goal
 
 pub returns-in_default : goal.returns-in_default
 returns-in_default c =
-    ap (λ n. is_key (c.args.under.now ++ n ∷ [])) (sym c.as_bytes.ensures.value) ∙ refused_no_key c.args.under.now c.as_bytes.result.now _ _ (c.in-Err.ensures.refused c.in_default.not-Memory)
+    ap (λ n. is_key (c.args.under.now ++ n ∷ [])) (sym c.as_bytes.ensures.value) ∙ refused_no_key c.args.under.now c.as_bytes.result.now _ _
+    (c.in-Err.ensures.refused c.in_default.not-Memory)

@@ -15,8 +15,10 @@ returns-in_err-relink-2-clause-flips g c =
 pub returns-in_err-relink-3-clause-flips : goal.returns-in_err-relink-3-clause-flips
 returns-in_err-relink-3-clause-flips g c =
     let p = err_from_is_err_and c.from_residual-in_err-relink-3.result c.from_residual-in_err-relink-3.ensures.1 in
-    rw p.1 (third_fails _ _ c.names.view_is _ _ _ _ _ c.names.invariant _ _ _ _ _ _ _ _ c.in_ok-relink.ensures.moves c.in_ok-relink-2.ensures.moves c.in_err-relink-3.ensures.moves)
+    rw p.1 (third_fails _ _ c.names.view_is _ _ _ _ _ c.names.invariant _ _ _ _ _ _ _ _ c.in_ok-relink.ensures.moves c.in_ok-relink-2.ensures.moves
+    c.in_err-relink-3.ensures.moves)
 
 pub returns-clause-flips : goal.returns-clause-flips
 returns-clause-flips g c =
-    last_ends _ _ c.names.view_is _ _ _ _ _ c.names.invariant _ _ _ _ _ _ _ _ _ _ c.in_ok-relink.ensures.moves c.in_ok-relink-2.ensures.moves c.in_ok-relink-3.ensures.moves c.relink-4.ensures.moves
+    last_ends _ _ c.names.view_is _ _ _ _ _ c.names.invariant _ _ _ _ _ _ _ _ _ _ c.in_ok-relink.ensures.moves c.in_ok-relink-2.ensures.moves
+    c.in_ok-relink-3.ensures.moves c.relink-4.ensures.moves

@@ -33,5 +33,6 @@ returns-then-not-is_empty-2-clause-work g c =
     } in
     let left = map seen (reverse c.command_turn.new.commands.items) in
     subst (λ (j : JobAt). Advances j.work c.command_turn.result (record w { commands = left })) c.self.view_is
-    (commands_advance w w.commands (ap reverse (none_left c.self.inside.files (sym c.is_empty.ensures ∙ c.if-not-is_empty.false))) refl c.command_turn.result left
+    (commands_advance w w.commands (ap reverse (none_left c.self.inside.files (sym c.is_empty.ensures ∙ c.if-not-is_empty.false))) refl c.command_turn.result
+    left
     c.command_turn.ensures.commands)

@@ -12,4 +12,5 @@ returns-clause-machine g c = moves_map
     c.step.ensures.disk
 
 pub returns-clause-known : goal.returns-clause-known
-returns-clause-known g c = known_left (HasRow c.args.view.now.manifest.now) c.args.self.now.work c.step.result c.step.new.self.work c.step.ensures.work c.requires
+returns-clause-known g c = known_left (HasRow c.args.view.now.manifest.now) c.args.self.now.work c.step.result c.step.new.self.work c.step.ensures.work
+    c.requires

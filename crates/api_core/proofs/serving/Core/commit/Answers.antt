@@ -15,7 +15,8 @@ returns-in_err-reserve-clause-commits g c = λ q answer planned.
     let now : Core = record c.args.self.now { job = c.reserve.new.job } in
     let is : c.from_residual.result ≡ Err disk.Memory = search rules in
     subst (λ (r : Result (Unit {0}) DiskErr). Moves (g.D.Disk.told c.args.disk.now) (g.D.Disk.told c.args.disk.now) (Commits c.args.self.now q r now)) (sym is)
-    (moves_stay (λ h. commits_undone c.args.self.now q c.requires.calm now h h (record { core = with_job c.args.self.now c.reserve.new.job c.reserve.ensures.job; disk = refl })))
+    (moves_stay (λ h. commits_undone c.args.self.now q c.requires.calm now h h
+    (record { core = with_job c.args.self.now c.reserve.new.job c.reserve.ensures.job; disk = refl })))
 
 pub returns-clause-commits : goal.returns-clause-commits
 returns-clause-commits g c = λ q answer planned.

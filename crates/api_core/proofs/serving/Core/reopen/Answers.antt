@@ -8,7 +8,8 @@ use Rattle.api_core.proofs.serving.Core.reopen.Goals as goal
 pub returns-in_err-store-clause-reopens : goal.returns-in_err-store-clause-reopens
 returns-in_err-store-clause-reopens g c =
     let is : c.from_residual.result ≡ Err c.in_err-store.field-0.0 = search rules in
-    subst (λ (r : Result (Unit {0}) OpenError). Moves (g.D.Disk.told c.args.disk.now) (g.D.Disk.told c.open_store.new.disk) (Reopens c.args.self.now r c.args.self.now)) (sym is)
+    subst (λ (r : Result (Unit {0}) OpenError). Moves (g.D.Disk.told c.args.disk.now) (g.D.Disk.told c.open_store.new.disk)
+    (Reopens c.args.self.now r c.args.self.now)) (sym is)
     (moves_map (λ old new opens. record { opens = opens; same = refl }) (c.in_err-store.ensures {u = tt}).opens)
 
 pub returns-clause-reopens : goal.returns-clause-reopens

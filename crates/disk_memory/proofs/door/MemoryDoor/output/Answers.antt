@@ -10,7 +10,8 @@ returns-then-connection-len c =
 pub returns-in_ok-as_ref : goal.returns-in_ok-as_ref
 returns-in_ok-as_ref c =
     let door = c.args.self.now in
-    output_last door.before.items door.last c.args.connection c.in_ok-as_ref.field-0.now c.written-then-connection-len-2.result.now (omega arith) (search rules) c.written-then-connection-len-2.ensures
+    output_last door.before.items door.last c.args.connection c.in_ok-as_ref.field-0.now c.written-then-connection-len-2.result.now (omega arith) (search rules)
+    c.written-then-connection-len-2.ensures
 
 pub returns-else-connection-len-2 : goal.returns-else-connection-len-2
 returns-else-connection-len-2 c =

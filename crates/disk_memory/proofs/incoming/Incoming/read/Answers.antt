@@ -14,7 +14,8 @@ pub returns-clause-left : goal.returns-clause-left
 returns-clause-left c =
     let at = c.pass_over.new.self in
     let count = c.min-count.result in
-    let fits : at.offset + count ≤ length (piece_at at.pieces.items at.piece) = omega (arith, length-drop at.offset (piece_at at.pieces.items at.piece), ap length c.rest-rest.ensures.rest) in
+    let fits : at.offset + count ≤ length (piece_at at.pieces.items at.piece) =
+    omega (arith, length-drop at.offset (piece_at at.pieces.items at.piece), ap length c.rest-rest.ensures.rest) in
     let front = front_of_room c.rest-rest.result.now c.args.room.now c.copy_from_slice.new.self count c.min-count.ensures c.copy_from_slice.ensures.after in
     sym c.pass_over.ensures.left ∙ on_left at.pieces.items at.piece at.offset count fits
     ∙ ap (λ (l : List ℕ). l ++ from_place at.pieces.items at.piece (at.offset + count)) (ap (take count) (sym c.rest-rest.ensures.rest) ∙ sym front)
@@ -23,7 +24,8 @@ pub returns-clause-heard : goal.returns-clause-heard
 returns-clause-heard c =
     let at = c.pass_over.new.self in
     let count = c.min-count.result in
-    let fits : at.offset + count ≤ length (piece_at at.pieces.items at.piece) = omega (arith, length-drop at.offset (piece_at at.pieces.items at.piece), ap length c.rest-rest.ensures.rest) in
+    let fits : at.offset + count ≤ length (piece_at at.pieces.items at.piece) =
+    omega (arith, length-drop at.offset (piece_at at.pieces.items at.piece), ap length c.rest-rest.ensures.rest) in
     let front = front_of_room c.rest-rest.result.now c.args.room.now c.copy_from_slice.new.self count c.min-count.ensures c.copy_from_slice.ensures.after in
     on_before at.pieces.items at.piece at.offset count fits
     ∙ (λ i. c.pass_over.ensures.heard i ++ (ap (take count) (sym c.rest-rest.ensures.rest) ∙ sym front) i)

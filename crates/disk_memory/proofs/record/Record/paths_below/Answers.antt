@@ -10,4 +10,5 @@ use Rattle.disk_memory.proofs.record.Record.paths_below.Goals as goal
 pub returns : goal.returns
 returns c =
     let kept = c.args.self.now in
-    IfOk-weaker c.paths_below.result _ _ (λ found is. is ∙ ap (λ (ks : List Names). filter (is_below c.args.path.now) ks) (sym (keys_same node_of (tree_of (told_by kept)) kept.nodes kept.agrees c.paths_below.ensures.ordered))) c.paths_below.ensures.paths
+    IfOk-weaker c.paths_below.result _ _ (λ found is. is ∙ ap (λ (ks : List Names). filter (is_below c.args.path.now) ks)
+    (sym (keys_same node_of (tree_of (told_by kept)) kept.nodes kept.agrees c.paths_below.ensures.ordered))) c.paths_below.ensures.paths

@@ -30,6 +30,7 @@ returns-clause-ok c =
     let t : f.image ≡ Some c.in-Some-image.image = search rules in
     let h : Held = record { live = c.content.result; pending = c.of.result; owed = c.in-Some.owed; image = c.in-Some-image.image } in
     λ files says.
-    held_found f files h says (sym (ap (λ (x : Contents). x.values) c.content.ensures)) (sym (ap (λ (x : Contents). x.metadata) c.content.ensures)) (ap (λ (x : Contents). x.weak) c.content.ensures) (sym c.of.ensures) o t
+    held_found f files h says (sym (ap (λ (x : Contents). x.values) c.content.ensures)) (sym (ap (λ (x : Contents). x.metadata) c.content.ensures))
+    (ap (λ (x : Contents). x.weak) c.content.ensures) (sym c.of.ensures) o t
     (λ told none. false≢true (sym c.if-lacks_weak.false ∙ c.lacks_weak.ensures.1 (told, none)))
     c.format_of.result c.format_of.ensures

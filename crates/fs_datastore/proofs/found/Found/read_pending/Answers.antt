@@ -14,5 +14,8 @@ returns-then-not-fits_transaction c =
 pub returns : goal.returns
 returns c =
     let reads : Spells c.args.bytes.now (pending c.in-Some.value) = search rules in
-    let fits : Fits (inner c.args.self.now.pending c.args.tx) c.args.key = search rules in
-    (pending_rules c.args.self.now c.args.tx c.args.key c.in-Some.value c.put.new.self fits c.in_ok-put.ensures.ok, λ others says. pending_read c.args.self.now others c.args.bytes.now says c.args.tx c.args.key c.in-Some.value c.put.new.self c.requires.valid reads fits c.in_ok-put.ensures.ok)
+    let fits : Fits (inner c.args.self.now.pending c.args.tx) c.args.key = search rules in (
+      pending_rules c.args.self.now c.args.tx c.args.key c.in-Some.value c.put.new.self fits c.in_ok-put.ensures.ok,
+      λ others says. pending_read c.args.self.now
+          others c.args.bytes.now says c.args.tx c.args.key c.in-Some.value c.put.new.self c.requires.valid reads fits c.in_ok-put.ensures.ok,
+    )

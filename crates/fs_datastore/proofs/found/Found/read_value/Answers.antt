@@ -13,5 +13,8 @@ returns-then-not-fits c =
 pub returns : goal.returns
 returns c =
     let reads : scalar_read c.args.bytes.now ≡ Ok c.in-Some.value = search rules in
-    let fits : Fits c.args.self.now.values c.args.key = search rules in
-    (value_rules c.args.self.now c.args.key c.in-Some.value c.put.new.self fits c.in_ok-put.ensures.ok, λ others says. value_read c.args.self.now others c.args.bytes.now says c.args.key c.in-Some.value c.put.new.self c.requires.valid reads fits c.in_ok-put.ensures.ok)
+    let fits : Fits c.args.self.now.values c.args.key = search rules in (
+      value_rules c.args.self.now c.args.key c.in-Some.value c.put.new.self fits c.in_ok-put.ensures.ok,
+      λ others says. value_read c.args.self.now others
+          c.args.bytes.now says c.args.key c.in-Some.value c.put.new.self c.requires.valid reads fits c.in_ok-put.ensures.ok,
+    )

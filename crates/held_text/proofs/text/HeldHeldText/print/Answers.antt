@@ -15,4 +15,5 @@ pub returns-clause-valid : goal.returns-clause-valid
 returns-clause-valid c =
     let d = held_data c.args.self.now in
     c.in_ok-write_held.ensures.valid
-    (subst IsUtf8 (c.text_of.ensures.text ∙ ap print (c.in_ok-write_held.ensures.wrote.tokens ∙ ap (λ ts. ts ++ data_tokens d) c.new-writer.ensures.tokens) ∙ print-outline d) c.text_of.ensures.utf8)
+    (subst IsUtf8 (c.text_of.ensures.text ∙ ap print (c.in_ok-write_held.ensures.wrote.tokens ∙ ap (λ ts. ts ++ data_tokens d) c.new-writer.ensures.tokens)
+    ∙ print-outline d) c.text_of.ensures.utf8)

@@ -10,7 +10,8 @@ pub returns-in_err-more-clause-exact : goal.returns-in_err-more-clause-exact
 returns-in_err-more-clause-exact c kind place f = absurd (no_child_fault (segments_of c.args.text.now) c.args.segment.now c.in_default.ensures kind place f)
 
 pub returns-in_err-of_packed-clause-exact : goal.returns-in_err-of_packed-clause-exact
-returns-in_err-of_packed-clause-exact c kind place f = absurd (no_child_fault (segments_of c.args.text.now) c.args.segment.now c.in_default.ensures kind place f)
+returns-in_err-of_packed-clause-exact c kind place f = absurd (no_child_fault (segments_of c.args.text.now) c.args.segment.now c.in_default.ensures kind place
+    f)
 
 pub returns-clause-exact : goal.returns-clause-exact
 returns-clause-exact c kind place f = absurd (no_child_fault (segments_of c.args.text.now) c.args.segment.now c.in_default.ensures kind place f)

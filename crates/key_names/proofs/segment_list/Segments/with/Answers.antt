@@ -10,7 +10,8 @@ use Rattle.key_names.proofs.segment_list.Segments.with.Goals as goal
 pub overflow_add-result : goal.overflow_add-result
 overflow_add-result c =
     let text = (string_bytes c.self.inside.text) in
-    let counted = eqb-true c.self.inside.count (length (segments_of text)) (and_parts (c.self.inside.count == length (segments_of text)) (list_all is_segment (segments_of text)) c.self.invariant).0 in
+    let counted = eqb-true c.self.inside.count (length (segments_of text))
+    (and_parts (c.self.inside.count == length (segments_of text)) (list_all is_segment (segments_of text)) c.self.invariant).0 in
     omega (arith, counted, length-segments_of text)
 
 pub invariant_of-result : goal.invariant_of-result

@@ -3,7 +3,8 @@ use Rattle.key_names.proofs.Broken.{LimitAt-within, surplus_refused, overlong_re
 use Rattle.key_names.proofs.spelled.Spelled.limit_fault.Goals as goal
 
 pub returns-in-Some-clause-limit : goal.returns-in-Some-clause-limit
-returns-in-Some-clause-limit c = surplus_refused c.args.text.now c.args.self.now.segments c.requires.spelled c.in-Some.place (rw c.in-Some.is at c.requires.marked.many)
+returns-in-Some-clause-limit c = surplus_refused c.args.text.now c.args.self.now.segments c.requires.spelled c.in-Some.place
+    (rw c.in-Some.is at c.requires.marked.many)
 
 pub returns-in-Some-overlong-clause-limit : goal.returns-in-Some-overlong-clause-limit
 returns-in-Some-overlong-clause-limit c =

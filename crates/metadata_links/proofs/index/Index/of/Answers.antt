@@ -6,4 +6,5 @@ use Rattle.metadata_links.proofs.Filtered.{faults_alone}
 use Rattle.metadata_links.proofs.index.Index.of.Goals as goal
 
 pub returns-clause-fault : goal.returns-clause-fault
-returns-clause-fault c = IfErr-weaker c.lists_in.result _ _ (λ e told other. ap first_of (sym (faults_alone (lists_in c.args.content.now.metadata))) ∙ told other) c.lists_in.ensures.err
+returns-clause-fault c = IfErr-weaker c.lists_in.result _ _ (λ e told other. ap first_of (sym (faults_alone (lists_in c.args.content.now.metadata)))
+    ∙ told other) c.lists_in.ensures.err

@@ -6,5 +6,7 @@ use Rattle.metadata_links.proofs.Linking.{words_there}
 use Rattle.metadata_links.proofs.manifest.Manifest.commands_of.Goals as goal
 
 pub returns-clause-worded : goal.returns-clause-worded
-returns-clause-worded c = IfOk-weaker c.commands_named.result _ _ (λ commands is. words_there c.args.self.now c.args.owed.now commands.items c.args.self.now.worded
-    (is ∙ ap (λ (names : List (List ℕ)). flat_map (λ name. commands_in name (service_named c.args.self.now name)) names) (c.deref.ensures.value ∙ c.in_ok-names.ensures))) c.commands_named.ensures
+returns-clause-worded c = IfOk-weaker c.commands_named.result _ _ (λ commands is. words_there c.args.self.now c.args.owed.now commands.items
+    c.args.self.now.worded
+    (is ∙ ap (λ (names : List (List ℕ)). flat_map (λ name. commands_in name (service_named c.args.self.now name)) names)
+    (c.deref.ensures.value ∙ c.in_ok-names.ensures))) c.commands_named.ensures

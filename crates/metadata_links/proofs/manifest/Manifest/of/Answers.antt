@@ -11,7 +11,8 @@ pub returns-in_err-check_paths-clause-fault : goal.returns-in_err-check_paths-cl
 returns-in_err-check_paths-clause-fault c =
     handed_on c.from_residual-in_err-check_paths.result c.in_err-check_paths.field-0.0 _ c.from_residual-in_err-check_paths.ensures.1
     (λ other. fault_of_paths c.args.content.now c.in_ok-files.files c.in_ok-files.ensures.ok c.in_err-check_paths.field-0.0
-    (subst (λ (l : List (List ℕ × FileRow)). first_of (same_paths (map (λ e. e.1) l) ++ nested_paths (map (λ e. e.1) l)) ≡ Some c.in_err-check_paths.field-0.0) c.as_slice.ensures (c.in_err-check_paths.ensures.err other)))
+    (subst (λ (l : List (List ℕ × FileRow)). first_of (same_paths (map (λ e. e.1) l) ++ nested_paths (map (λ e. e.1) l)) ≡ Some c.in_err-check_paths.field-0.0)
+    c.as_slice.ensures (c.in_err-check_paths.ensures.err other)))
 
 pub returns-in_err-check_services-clause-fault : goal.returns-in_err-check_services-clause-fault
 returns-in_err-check_services-clause-fault c =

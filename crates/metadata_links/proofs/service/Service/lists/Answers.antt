@@ -6,4 +6,5 @@ use Rattle.key_names.specs.Order.{bytes_cmp}
 use Rattle.metadata_links.proofs.service.Service.lists.Goals as goal
 
 pub returns : goal.returns
-returns c = any_from_yields_List (eq_by_cmp bytes_cmp c.args.file.now) _ _ _ c.any.ensures.ran (YieldsList-from_slice c.args.self.now.files cc) (λ x b q k. search (rules, tests))
+returns c = any_from_yields_List (eq_by_cmp bytes_cmp c.args.file.now) _ _ _ c.any.ensures.ran (YieldsList-from_slice c.args.self.now.files cc)
+    (λ x b q k. search (rules, tests))

@@ -11,4 +11,5 @@ pub returns-clause-asked : goal.returns-clause-asked
 returns-clause-asked c = on_ok_weaker c.apply.result (λ a. asked_apply c.args.image.now c.args.self.now _ a refl) c.apply.ensures.applied
 
 pub returns-clause-unchanged : goal.returns-clause-unchanged
-returns-clause-unchanged c = on_err_weaker c.apply.result (λ same. ap (λ (j : Job). with_job (world_of c.args.self.now) (job_seen j)) same) c.apply.ensures.unchanged
+returns-clause-unchanged c = on_err_weaker c.apply.result (λ same. ap (λ (j : Job). with_job (world_of c.args.self.now) (job_seen j)) same)
+    c.apply.ensures.unchanged

@@ -42,7 +42,8 @@ returns-clause-asked c =
     let j = job_seen c.args.self.now.job in
     asked_commit c.args.image.now c.args.self.now c.args.tx.now (λ none. cc (c.in_ok-commit.ensures.missing none)) _ _ c.in_ok-commit.ensures.keys
     (c.in_ok-lay.ensures.ok ∙ c.in_ok-commit.ensures.laid)
-    (c.note.ensures ∙ ap (with_since j) c.in_ok-since.ensures ∙ ap (λ (keys : List Key). with_since j (noted j keys)) c.in_ok-commit.ensures.changed ∙ noting_is j _) refl
+    (c.note.ensures ∙ ap (with_since j) c.in_ok-since.ensures ∙ ap (λ (keys : List Key). with_since j (noted j keys)) c.in_ok-commit.ensures.changed
+    ∙ noting_is j _) refl
 
 pub returns-clause-typed : goal.returns-clause-typed
 returns-clause-typed c = subst (IsTypedHeld c.args.image.now.types) (sym (c.in_ok-lay.ensures.ok ∙ c.in_ok-commit.ensures.laid))

@@ -46,11 +46,13 @@ pub returns-clause-asked : goal.returns-clause-asked
 returns-clause-asked c =
     let j = job_seen c.args.self.now.job in
     let keys = changed_keys c.args.self.now.held c.args.tx.now in
-    let note = c.note.ensures ∙ ap (with_since j) c.in_ok-since.ensures ∙ ap (λ (keys : List Key). with_since j (noted j keys)) c.in_ok-commit.ensures.changed ∙ noting_is j _ in
+    let note = c.note.ensures ∙ ap (with_since j) c.in_ok-since.ensures ∙ ap (λ (keys : List Key). with_since j (noted j keys)) c.in_ok-commit.ensures.changed
+    ∙ noting_is j _ in
     let owed = c.owed_after-owed.ensures ∙ ap (λ (h : Held). h.owed) (sym c.in_ok-lay.ensures.ok) in
     asked_both c.args.image.now c.args.self.now c.args.tx.now (λ none. cc (c.in_ok-commit.ensures.missing none)) _ _ c.in_ok-commit.ensures.keys
     (c.in_ok-lay.ensures.ok ∙ c.in_ok-commit.ensures.laid)
-    (λ I same. c.take_up.ensures ∙ ap (λ (j : Job). taken_up j (option_map job_seen c.in_ok-next.next)) note ∙ ap (taken_up (noting j keys)) (sym (c.in_ok-next.ensures I same))
+    (λ I same. c.take_up.ensures ∙ ap (λ (j : Job). taken_up j (option_map job_seen c.in_ok-next.next)) note
+    ∙ ap (taken_up (noting j keys)) (sym (c.in_ok-next.ensures I same))
     ∙ ap (λ (o : Owed). taken_up (noting j keys) (next_job I o j)) owed) refl
 
 pub returns-clause-typed : goal.returns-clause-typed

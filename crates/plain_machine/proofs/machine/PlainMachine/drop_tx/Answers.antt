@@ -8,7 +8,8 @@ use Rattle.plain_machine.proofs.RequestsAnswered.{asked_drop}
 use Rattle.plain_machine.proofs.machine.PlainMachine.drop_tx.Goals as goal
 
 pub returns-clause-asked : goal.returns-clause-asked
-returns-clause-asked c = IfOk-weaker c.drop_tx.result _ _ (λ keys a. asked_drop c.args.image.now c.args.self.now _ c.args.tx.now _ a refl) c.drop_tx.ensures.answered
+returns-clause-asked c = IfOk-weaker c.drop_tx.result _ _ (λ keys a. asked_drop c.args.image.now c.args.self.now _ c.args.tx.now _ a refl)
+    c.drop_tx.ensures.answered
 
 pub returns-clause-unchanged : goal.returns-clause-unchanged
 returns-clause-unchanged c = on_err_weaker c.drop_tx.result (λ same. ap (λ (h : Held). with_held (world_of c.args.self.now) h) same) c.drop_tx.ensures.unchanged

@@ -8,7 +8,8 @@ use Rattle.plain_machine.proofs.StoreOpened.{may_open, step_typed, stepped}
 use Rattle.plain_machine.proofs.machine.PlainMachine.take_step.Goals as goal
 
 pub opening_change-requires-clause-types : goal.opening_change-requires-clause-types
-opening_change-requires-clause-types c = may_open c.args.image.now.types c.args.image.now.defaults c.args.self.now.held c.requires.table c.requires.defaults c.requires.typed
+opening_change-requires-clause-types c = may_open c.args.image.now.types c.args.image.now.defaults c.args.self.now.held c.requires.table c.requires.defaults
+    c.requires.typed
 
 pub returns-clause-stepped : goal.returns-clause-stepped
 returns-clause-stepped c =

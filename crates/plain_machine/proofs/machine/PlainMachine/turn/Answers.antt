@@ -13,7 +13,8 @@ returns-in_default-clause-turned c = unturned c.args.image.now c.args.self.now c
 
 pub returns-in-File-clause-turned : goal.returns-in-File-clause-turned
 returns-in-File-clause-turned c = on_ok_weaker c.file_turn.result
-    (λ turned. file_turned c.args.image.now c.args.self.now c.file_turn.new.self c.args.answer (work_seen c.in-Running.work) (ap job_seen c.in-Running.is) c.in-File.file
+    (λ turned. file_turned c.args.image.now c.args.self.now c.file_turn.new.self c.args.answer (work_seen c.in-Running.work) (ap job_seen c.in-Running.is)
+    c.in-File.file
     (subst (λ (t : Todo). IsTodo (work_seen c.in-Running.work) t) c.in-File.is c.in_ok-file.ensures) turned) c.file_turn.ensures.turned
 
 pub returns-in-File-clause-typed : goal.returns-in-File-clause-typed
@@ -21,7 +22,8 @@ returns-in-File-clause-typed c = λ types typed. typed_kept types c.args.self.no
 
 pub returns-in-Command-clause-turned : goal.returns-in-Command-clause-turned
 returns-in-Command-clause-turned c = on_ok_weaker c.command_turn.result
-    (λ turned. command_turned c.args.image.now c.args.self.now c.command_turn.new.self c.args.answer (work_seen c.in-Running.work) (ap job_seen c.in-Running.is) c.in-Command.service c.in-Command.words.items
+    (λ turned. command_turned c.args.image.now c.args.self.now c.command_turn.new.self c.args.answer (work_seen c.in-Running.work) (ap job_seen c.in-Running.is)
+    c.in-Command.service c.in-Command.words.items
     (subst (λ (t : Todo). IsTodo (work_seen c.in-Running.work) t) c.in-Command.is c.in_ok-file.ensures) turned) c.command_turn.ensures.turned
 
 pub returns-in-Command-clause-typed : goal.returns-in-Command-clause-typed
@@ -29,7 +31,8 @@ returns-in-Command-clause-typed c = λ types typed. typed_kept types c.args.self
 
 pub returns-in-End-clause-turned : goal.returns-in-End-clause-turned
 returns-in-End-clause-turned c = on_ok_weaker c.last_turn.result
-    (λ turned. last_turned c.args.image.now c.args.self.now c.last_turn.new.self c.args.answer (work_seen c.in-Running.work) (ap job_seen c.in-Running.is) c.in-End.since c.in-End.again
+    (λ turned. last_turned c.args.image.now c.args.self.now c.last_turn.new.self c.args.answer (work_seen c.in-Running.work) (ap job_seen c.in-Running.is)
+    c.in-End.since c.in-End.again
     (subst (λ (t : Todo). IsTodo (work_seen c.in-Running.work) t) c.in-End.is c.in_ok-file.ensures) turned) c.last_turn.ensures.turned
 
 pub returns-in-End-clause-typed : goal.returns-in-End-clause-typed

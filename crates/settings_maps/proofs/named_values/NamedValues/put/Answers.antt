@@ -11,4 +11,6 @@ always (Ok x) p = tt
 always (Err e) p = p
 
 pub returns-in_err-insert-in-Err-clause-absent : goal.returns-in_err-insert-in-Err-clause-absent
-returns-in_err-insert-in-Err-clause-absent c = always _ (subst (λ (k : List ℕ). get c.args.self.now k ≡ None) (c.as_bytes.ensures.value ∙ c.as_str.ensures) (get_missing c.self.inside.entries.items c.deref.result.now c.in-Err.index c.as_bytes.result.now c.self.invariant c.deref.ensures.value c.args.self.now c.self.view_is c.in-Err.ensures.missing))
+returns-in_err-insert-in-Err-clause-absent c = always _ (subst (λ (k : List ℕ). get c.args.self.now k ≡ None) (c.as_bytes.ensures.value ∙ c.as_str.ensures)
+    (get_missing c.self.inside.entries.items c.deref.result.now c.in-Err.index c.as_bytes.result.now c.self.invariant c.deref.ensures.value c.args.self.now
+    c.self.view_is c.in-Err.ensures.missing))

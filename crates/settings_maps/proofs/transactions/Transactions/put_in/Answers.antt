@@ -8,6 +8,8 @@ use Rattle.settings_maps.proofs.transactions.Transactions.put_in.Goals as goal
 
 pub returns-clause-err : goal.returns-clause-err
 returns-clause-err c =
-    let has : tree.get bytes_cmp c.self.inside.map c.args.tx.now ≡ Some c.unwrap.result.now = sym c.get_mut.ensures.value ∙ ap option_copied_mut c.unwrap.ensures in
-    on_err_weaker c.put.result (λ same. seen-kept bytes_total bytes_cmp-IsAntisymmetric c.self.inside.map (c.get_mut.follows.lender c.put.new.self) c.args.self.now c.args.tx.now c.put.new.self c.unwrap.result.now c.self.view_is has same
+    let has : tree.get bytes_cmp c.self.inside.map c.args.tx.now ≡ Some c.unwrap.result.now = sym c.get_mut.ensures.value
+    ∙ ap option_copied_mut c.unwrap.ensures in
+    on_err_weaker c.put.result (λ same. seen-kept bytes_total bytes_cmp-IsAntisymmetric c.self.inside.map (c.get_mut.follows.lender c.put.new.self)
+    c.args.self.now c.args.tx.now c.put.new.self c.unwrap.result.now c.self.view_is has same
     ((c.get_mut.follows.holds c.put.new.self).3 (ap is_some has))) c.put.ensures.err

@@ -4,4 +4,6 @@ use Rattle.settings_tree.proofs.Below.{first_past, greater}
 use Rattle.settings_tree.proofs.content.Content.below_past.Goals as goal
 
 pub returns-then-is_gt-clause-least : goal.returns-then-is_gt-clause-least
-returns-then-is_gt-clause-least c = IfSome_then c.first_below.result c.first_below.ensures.least (λ e first. first_past c.args.self.now.values c.args.prefix.now e.0.now e.1.now c.args.after.now (sym c.cmp.ensures ∙ greater c.cmp.result (sym c.is_gt.ensures ∙ c.if-is_gt.true)) first)
+returns-then-is_gt-clause-least c = IfSome_then c.first_below.result c.first_below.ensures.least
+    (λ e first. first_past c.args.self.now.values c.args.prefix.now e.0.now e.1.now c.args.after.now
+    (sym c.cmp.ensures ∙ greater c.cmp.result (sym c.is_gt.ensures ∙ c.if-is_gt.true)) first)

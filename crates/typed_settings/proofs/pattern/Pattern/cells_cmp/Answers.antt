@@ -8,6 +8,7 @@ use Rattle.typed_settings.proofs.pattern.Pattern.cells_cmp.Goals as goal
 pub returns : goal.returns
 returns c =
     cmp_from_yields_List (λ x y. y ≡ x) _ bytes_cmp _ c.cmp.ensures.ran
-    (YieldsList-from_map_by _ (λ (b : Bor (List ℕ)). b.now) cell (YieldsList-from_slice c.args.self.now cc) c.map-cells.ensures.closure (λ x r q k. search rules))
+    (YieldsList-from_map_by _ (λ (b : Bor (List ℕ)). b.now) cell (YieldsList-from_slice c.args.self.now cc) c.map-cells.ensures.closure
+    (λ x r q k. search rules))
     (λ it e. YieldsList-from_map_by _ (λ (b : Bor (List ℕ)). b.now) cell (YieldsList-from_slice c.args.other.now cc) (cc) (λ x r q k. search rules))
     (λ x y. refl)

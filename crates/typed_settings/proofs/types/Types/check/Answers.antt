@@ -13,9 +13,11 @@ returns-then-branch-clause-exact c =
 pub returns-clause-exact : goal.returns-clause-exact
 returns-clause-exact c =
     let here : IsIllTyped c.args.self.now c.args.key.now c.args.value.now (Wrong c.in_ok-key-2.key c.in_ok-wanted.wanted) = search rules in
-    λ fault is _. one_cause c.args.self.now (subst AreApart c.self.view_is c.self.invariant.apart) c.args.key.now c.args.value.now (Wrong c.in_ok-key-2.key c.in_ok-wanted.wanted) fault here is
+    λ fault is _. one_cause c.args.self.now (subst AreApart c.self.view_is c.self.invariant.apart) c.args.key.now c.args.value.now
+    (Wrong c.in_ok-key-2.key c.in_ok-wanted.wanted) fault here is
 
 pub returns-clause-no_fault : goal.returns-clause-no_fault
 returns-clause-no_fault c =
     let here : IsIllTyped c.args.self.now c.args.key.now c.args.value.now (Wrong c.in_ok-key-2.key c.in_ok-wanted.wanted) = search rules in
-    λ typed. absurd (no_cause c.args.self.now (subst AreApart c.self.view_is c.self.invariant.apart) c.args.key.now c.args.value.now (Wrong c.in_ok-key-2.key c.in_ok-wanted.wanted) typed here)
+    λ typed. absurd (no_cause c.args.self.now (subst AreApart c.self.view_is c.self.invariant.apart) c.args.key.now c.args.value.now
+    (Wrong c.in_ok-key-2.key c.in_ok-wanted.wanted) typed here)
