@@ -97,7 +97,8 @@ module _ (I : Image) (good : IsGood I) (folder : Folder) (W V : World) (old new 
         path_is = refl;
       } in
       subst (λ (h : History). Ran I folder W V (Turned one.answer ∷ []) old h before now) (sym puts.on_disk)
-      (ran_wrote I folder W V old before kept none_failed (Turned one.answer) (path_of I f) (paths.etc f row) due_path puts.node
+      (ran_wrote I folder W V old before kept none_failed (Turned one.answer) (one.answer, inl refl) (path_of I f) (paths.etc f row) due_path
+      puts.node
       (ap (λ (N : World). N.version) one.is) (ap (λ (N : World). N.format) one.is) (ap (λ (N : World). N.held) one.is)
       (ap (λ (N : World). N.etc) one.is ∙ puts.files)
       fit_next now refl refl job_same (sym one.fault) (stopped t left))

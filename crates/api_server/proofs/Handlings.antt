@@ -66,7 +66,7 @@ module _ (c now : Core) (q : Request) (old new : History) where
           outcome = e.outcome;
           reopens = subst (λ (o : Outcome). Reopens false o []) (sym e.is) refl;
           says = subst (λ (o : Outcome). Says (request_next I W q o).reply (sent_of Memory)) (sym e.is) refl;
-          fits = subst (λ (o : Outcome). Fits (request_next I W q o).reply Memory) (sym e.is) tt;
+          fits = subst (λ (o : Outcome). Fits (request_next I W q o).reply Memory) (sym e.is) refl;
           ran = e.ran;
         };
   }

@@ -1,4 +1,6 @@
 pub mod Requested
+pub mod Counted
+pub mod Slices
 pub mod Replied
 pub mod Conversations
 pub mod Answerings

@@ -1,6 +1,7 @@
 -- A request that comes after a failed call of the disk.
 use Rattle.std.proofs.Common.{arith, ◌≡◌, ℕ, inl, inr, Bool, true, false, List, [], ◌∷◌, Ok, Err, refl, sym, ◌∙◌, ap, subst}
 use Rattle.outside.specs.History.{History}
+use Rattle.outside.specs.Since.{EachSince}
 use Rattle.outside.proofs.Since.{since_map}
 use Rattle.settings_machine.specs.declared.cause.Cause.{Cause}
 use Rattle.settings_machine.specs.declared.cause.Cause.TheVariants as cause
@@ -15,8 +16,9 @@ use Rattle.settings_machine.specs.Typed.{IsTypedHeld}
 use Rattle.settings_machine.proofs.PaidLaws.{fit_stays}
 use Rattle.machine_disk.specs.Kept.{Folder, CoreState, Kept}
 use Rattle.machine_disk.specs.Ran.{Ran, Reopens, OpensNot, OnTheWay, Within}
-use Rattle.machine_disk.proofs.Runs.{ran_more, opens_ran, unopened_ran, refused_ran, way_of_more}
+use Rattle.machine_disk.proofs.Runs.{ran_more, opens_ran, unopened_ran, refused_ran, way_of_more, disk_moments}
 use Rattle.machine_disk.proofs.Quiet.{ran_unsaid}
+use Rattle.machine_disk.proofs.Touched.{own_of_any}
 use Rattle.store_open.specs.Laws.{HoldsImage, IsImageOfFolder, IsKeptAt, IsRefusal}
 use Rattle.store_open.specs.Opening.{Opens}
 use Rattle.store_open.specs.Typed as stored
@@ -185,7 +187,7 @@ module _ (c : Core) (q : Request) (faulted : c.faulted ≡ true) where
       events = Opened false (Failing n.taken) ∷ Asked q WithoutMemory ∷ [];
       replied = NoMemory;
       says = refl;
-      fits = tt;
+      fits = refl;
       handled_by = record {
         outcome = WithoutMemory;
         first = Opened false (Failing n.taken) ∷ [];
@@ -236,7 +238,7 @@ module _ (c : Core) (q : Request) (faulted : c.faulted ≡ true) where
               made = refl;
               replied = refl;
             };
-            made = refused_ran I folder W V q at old new (core_state c) faulted kept k.disk k.moments;
+            made = refused_ran I folder W V q at old new (core_state c) faulted kept k.disk k.moments k.touches;
             image = holds;
           };
     }
@@ -245,13 +247,19 @@ module _ (c : Core) (q : Request) (faulted : c.faulted ≡ true) where
     untold_handles : Handles c q came.Memory c old new
     untold_handles = record {
       each = λ I good holds folder still W V kept.
-          let k : IsKeptAt I folder W V old new = kept_at I folder W V kept in memory_handled old new I good holds folder W V kept (record {
+          let k : IsKeptAt I folder W V old new = kept_at I folder W V kept in
+          let way : EachSince (OnTheWay I W V (Opened false (Failing false) ∷ [])) old new = since_map (OnTheWay I W V [])
+          (OnTheWay I W V (Opened false (Failing false) ∷ [])) old new (λ t way. way_of_more I W V [] (Opened false (Failing false) ∷ []) t way) k.moments
+          in
+          memory_handled old new I good holds folder W V kept (record {
             taken = false;
             other = W;
             late = Within [] (Opened false (Failing false) ∷ []) refl refl refl;
             disk = k.disk;
-            moments = since_map (OnTheWay I W V []) (OnTheWay I W V (Opened false (Failing false) ∷ [])) old new
-                (λ t way. way_of_more I W V [] (Opened false (Failing false) ∷ []) t way) k.moments;
+            moments = way;
+            keeps = disk_moments I folder W V (Opened false (Failing false)) old new W kept.disk k.disk
+                (Within [] (Opened false (Failing false) ∷ []) refl refl refl) way;
+            touches = own_of_any I (Opened false (Failing false) ∷ []) old new k.touches;
           });
     }
 

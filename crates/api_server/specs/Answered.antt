@@ -15,6 +15,7 @@ use Rattle.machine_disk.specs.Ran.{Ran, RunsBy}
 use Rattle.store_open.specs.Laws.{HoldsImage, IsImageOfFolder}
 use Rattle.api_core.specs.Cores.{core_state}
 use Rattle.api_core.specs.declared.serving.Core.{Core}
+use Rattle.api_server.specs.Causes.{FaultCounts, AreCounted}
 use Rattle.api_server.specs.Exchanged.{Said, Replied, IsServed}
 use Rattle.api_server.specs.Rounds.{AsksFor, Round, IsRound, AreRounds, AreExchanged, events_of_round, events_of}
 
@@ -38,41 +39,43 @@ pub record Answers (c now : Core) (faults faults_after : ℕ) (told told_after :
 
 -- ---- a connection
 
--- One connection, by the machine, crash included. It is replied that the disk failed only where its count rose.
-pub record RoundBy (I : Image) (folder : Folder) (W V : World) (slice : Option ℕ) (c now : Core) (faults faults_after : ℕ)
+-- One connection, by the machine, crash included. It is replied that the disk failed only where its count rose, and what failed in its events was
+-- counted.
+pub record RoundBy (I : Image) (folder : Folder) (W V : World) (slice : Option ℕ) (c now : Core) (counts counts_after : FaultCounts)
     (told told_after : Option (List Exchange))
     (ran_before ran_after : Option (List Run))
     (old new : History) : Type 0 where
   pub round : Round
   pub is : IsRound I slice c.faulted W round
   pub served : Moves told told_after (LastBy (IsServed round.said))
-  pub cause : (q : Request) → round.said ≡ Replied q DiskFault → Rose faults faults_after
+  pub cause : (q : Request) → round.said ≡ Replied q DiskFault → Rose counts.disk counts_after.disk
+  pub counted : AreCounted (events_of_round round) counts counts_after
   pub made : Ran I folder W V (events_of_round round) old new (core_state c) (core_state now)
   pub runs : RunsBy I W (events_of_round round) ran_before ran_after
   pub image : HoldsImage I now.image
 
 -- By each image that the core holds, each folder whose files make it, and in each world at which disk and core are.
-pub record ServesOne (slice : Option ℕ) (c now : Core) (faults faults_after : ℕ) (told told_after : Option (List Exchange))
+pub record ServesOne (slice : Option ℕ) (c now : Core) (counts counts_after : FaultCounts) (told told_after : Option (List Exchange))
     (ran_before ran_after : Option (List Run))
     (old new : History) : Type 0 where
   pub each : (I : Image) → IsGood I → HoldsImage I c.image → (folder : Folder) → IsImageOfFolder I folder → (W V : World) → Kept I folder W V old (core_state c)
-      → RoundBy I folder W V slice c now faults faults_after told told_after ran_before ran_after old new
+      → RoundBy I folder W V slice c now counts counts_after told told_after ran_before ran_after old new
 
 -- ---- connections one after another
 
--- Connections one after another, by the machine, crash included.
-pub record RoundsBy (I : Image) (folder : Folder) (W V : World) (slice : Option ℕ) (c now : Core) (told told_after : Option (List Exchange))
-    (ran_before ran_after : Option (List Run))
-    (old new : History) : Type 0 where
+-- Connections one after another, by the machine, crash included; what failed in their events was counted.
+pub record RoundsBy (I : Image) (folder : Folder) (W V : World) (slice : Option ℕ) (c now : Core) (counts counts_after : FaultCounts)
+    (told told_after : Option (List Exchange)) (ran_before ran_after : Option (List Run)) (old new : History) : Type 0 where
   pub rounds : List Round
   pub are : AreRounds I slice c.faulted W rounds
   pub exchanged : Moves told told_after (AreExchanged rounds)
+  pub counted : AreCounted (events_of rounds) counts counts_after
   pub made : Ran I folder W V (events_of rounds) old new (core_state c) (core_state now)
   pub runs : RunsBy I W (events_of rounds) ran_before ran_after
   pub image : HoldsImage I now.image
 
 -- By each image that the core holds, each folder whose files make it, and in each world at which disk and core are.
-pub record ServesAll (slice : Option ℕ) (c now : Core) (told told_after : Option (List Exchange)) (ran_before ran_after : Option (List Run))
-    (old new : History) : Type 0 where
+pub record ServesAll (slice : Option ℕ) (c now : Core) (counts counts_after : FaultCounts) (told told_after : Option (List Exchange))
+    (ran_before ran_after : Option (List Run)) (old new : History) : Type 0 where
   pub each : (I : Image) → IsGood I → HoldsImage I c.image → (folder : Folder) → IsImageOfFolder I folder → (W V : World) → Kept I folder W V old (core_state c)
-      → RoundsBy I folder W V slice c now told told_after ran_before ran_after old new
+      → RoundsBy I folder W V slice c now counts counts_after told told_after ran_before ran_after old new

@@ -73,8 +73,10 @@ GivesUp e handled = TellsFault e handled
 
 -- ---- a request
 
--- The machine replies that the disk failed, or that the store could not be opened again, only where the request came to that.
+-- The machine replies that it ran out of memory, that the disk failed, or that the store could not be opened again, only where the request came to
+-- that.
 abbrev pub Fits : machine.Reply → Handled → Type 0
+Fits machine.NoMemory handled = handled ≡ Memory
 Fits machine.DiskFault handled = handled ≡ DiskFault
 Fits (machine.NotOpened at) handled = IsNotOpened handled
 Fits _ handled = ⊤

@@ -1,3 +1,4 @@
+pub mod Causes
 pub mod Handled
 pub mod Exchanged
 pub mod Rounds

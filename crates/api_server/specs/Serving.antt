@@ -15,6 +15,7 @@ use Rattle.store_open.specs.Laws.{HoldsImage, IsImageOfFolder}
 use Rattle.affected_apply.specs.Turned.{AreTurns}
 use Rattle.api_core.specs.Cores.{core_state}
 use Rattle.api_core.specs.declared.serving.Core.{Core}
+use Rattle.api_server.specs.Causes.{FaultCounts, AreCounted}
 use Rattle.api_server.specs.Rounds.{IsAsked, Round, AreRounds, AreExchanged, events_of}
 
 -- How many connections are to be accepted: where no number is given as many as a door may accept.
@@ -45,19 +46,21 @@ abbrev pub AreBooted : Bool → Image → Option ℕ → Bool → World → List
 AreBooted true I slice faulted W events = AreBegun I slice faulted W events
 AreBooted false I slice faulted W events = events ≡ []
 
--- By the machine, crash included.
-pub record BootedBy (I : Image) (folder : Folder) (W V : World) (boot : Bool) (slice : Option ℕ) (c now : Core) (ran_before ran_after : Option (List Run))
-    (old new : History) : Type 0 where
+-- By the machine, crash included; what failed in the events was counted.
+pub record BootedBy (I : Image) (folder : Folder) (W V : World) (boot : Bool) (slice : Option ℕ) (c now : Core) (counts counts_after : FaultCounts)
+    (ran_before ran_after : Option (List Run)) (old new : History) : Type 0 where
   pub events : List Event
   pub are : AreBooted boot I slice c.faulted W events
+  pub counted : AreCounted events counts counts_after
   pub made : Ran I folder W V events old new (core_state c) (core_state now)
   pub runs : RunsBy I W events ran_before ran_after
   pub image : HoldsImage I now.image
 
 -- By each image that the core holds, each folder whose files make it, and in each world at which disk and core are.
-pub record Boots (boot : Bool) (slice : Option ℕ) (c now : Core) (ran_before ran_after : Option (List Run)) (old new : History) : Type 0 where
+pub record Boots (boot : Bool) (slice : Option ℕ) (c now : Core) (counts counts_after : FaultCounts) (ran_before ran_after : Option (List Run))
+    (old new : History) : Type 0 where
   pub each : (I : Image) → IsGood I → HoldsImage I c.image → (folder : Folder) → IsImageOfFolder I folder → (W V : World) → Kept I folder W V old (core_state c)
-      → BootedBy I folder W V boot slice c now ran_before ran_after old new
+      → BootedBy I folder W V boot slice c now counts counts_after ran_before ran_after old new
 
 -- ---- the end
 
@@ -66,19 +69,21 @@ abbrev pub AreLast : Bool → Image → World → List Event → Type 0
 AreLast true I W last = IsDriven I W last
 AreLast false I W last = last ≡ []
 
--- By the machine, crash included.
-pub record EndedBy (I : Image) (folder : Folder) (W V : World) (fine : Bool) (c now : Core) (ran_before ran_after : Option (List Run))
+-- By the machine, crash included; what failed in the events was counted.
+pub record EndedBy (I : Image) (folder : Folder) (W V : World) (fine : Bool) (c now : Core) (counts counts_after : FaultCounts)
+    (ran_before ran_after : Option (List Run))
     (old new : History) : Type 0 where
   pub events : List Event
   pub are : AreLast fine I W events
+  pub counted : AreCounted events counts counts_after
   pub made : Ran I folder W V events old new (core_state c) (core_state now)
   pub runs : RunsBy I W events ran_before ran_after
   pub image : HoldsImage I now.image
 
 -- By each image that the core holds, each folder whose files make it, and in each world at which disk and core are.
-pub record Ends (fine : Bool) (c now : Core) (ran_before ran_after : Option (List Run)) (old new : History) : Type 0 where
+pub record Ends (fine : Bool) (c now : Core) (counts counts_after : FaultCounts) (ran_before ran_after : Option (List Run)) (old new : History) : Type 0 where
   pub each : (I : Image) → IsGood I → HoldsImage I c.image → (folder : Folder) → IsImageOfFolder I folder → (W V : World) → Kept I folder W V old (core_state c)
-      → EndedBy I folder W V fine c now ran_before ran_after old new
+      → EndedBy I folder W V fine c now counts counts_after ran_before ran_after old new
 
 -- ---- the whole
 
@@ -91,19 +96,20 @@ pub record AreServed (I : Image) (slice : Option ℕ) (boot fine faulted : Bool)
   pub are : AreRounds I slice (faulted_after faulted booted) (after I W booted) rounds
   pub ends : AreLast fine I (after I (after I W booted) (events_of rounds)) last
 
--- By the machine, crash included.
-pub record ServedBy (I : Image) (folder : Folder) (W V : World) (slice : Option ℕ) (boot fine : Bool) (c now : Core) (told told_after : Option (List Exchange))
-    (ran_before ran_after : Option (List Run)) (old new : History) : Type 0 where
+-- By the machine, crash included; what failed in the events was counted.
+pub record ServedBy (I : Image) (folder : Folder) (W V : World) (slice : Option ℕ) (boot fine : Bool) (c now : Core) (counts counts_after : FaultCounts)
+    (told told_after : Option (List Exchange)) (ran_before ran_after : Option (List Run)) (old new : History) : Type 0 where
   pub rounds : List Round
   pub events : List Event
   pub are : AreServed I slice boot fine c.faulted W rounds events
   pub exchanged : Moves told told_after (AreExchanged rounds)
+  pub counted : AreCounted events counts counts_after
   pub made : Ran I folder W V events old new (core_state c) (core_state now)
   pub runs : RunsBy I W events ran_before ran_after
   pub image : HoldsImage I now.image
 
 -- By each image that the core holds, each folder whose files make it, and in each world at which disk and core are.
-pub record Serves (slice : Option ℕ) (boot fine : Bool) (c now : Core) (told told_after : Option (List Exchange)) (ran_before ran_after : Option (List Run))
-    (old new : History) : Type 0 where
+pub record Serves (slice : Option ℕ) (boot fine : Bool) (c now : Core) (counts counts_after : FaultCounts) (told told_after : Option (List Exchange))
+    (ran_before ran_after : Option (List Run)) (old new : History) : Type 0 where
   pub each : (I : Image) → IsGood I → HoldsImage I c.image → (folder : Folder) → IsImageOfFolder I folder → (W V : World) → Kept I folder W V old (core_state c)
-      → ServedBy I folder W V slice boot fine c now told told_after ran_before ran_after old new
+      → ServedBy I folder W V slice boot fine c now counts counts_after told told_after ran_before ran_after old new

@@ -2,6 +2,7 @@
 ghost use Rattle.std.specs.Prelude.{◌≡◌, ◌≤◌};
 ghost use Rattle.outside.specs.Told.{Moves};
 ghost use Rattle.api_core.specs.Cores.{IsSound};
+ghost use Rattle.api_server.specs.Causes.{fault_counts};
 ghost use Rattle.api_server.specs.Serving.{Boots};
 
 use crate::handle;
@@ -20,7 +21,8 @@ pub(crate) fn boot_up<D: Disk, S: Spawner>(
 )
     requires { IsSound core.old }
     ensures boots { Moves (D.told disk.old) (D.told disk.new)
-        (Boots boot slice core.old core.new (S.runs spawner.old) (S.runs spawner.new)) }
+        (Boots boot slice core.old core.new (fault_counts (D.faults disk.old) (S.faults spawner.old))
+        (fault_counts (D.faults disk.new) (S.faults spawner.new)) (S.runs spawner.old) (S.runs spawner.new)) }
     ensures sound { IsSound core.new }
     ensures disk_faults { D.faults disk.old ≤ D.faults disk.new }
     ensures spawner_faults { S.faults spawner.old ≤ S.faults spawner.new }

@@ -3,6 +3,7 @@ ghost use Rattle.std.specs.Prelude.{◌≡◌, ◌≤◌, true, false};
 ghost use Rattle.outside.specs.Told.{Moves};
 ghost use Rattle.outside.specs.Faults.{Rose};
 ghost use Rattle.api_core.specs.Cores.{IsSound};
+ghost use Rattle.api_server.specs.Causes.{fault_counts};
 ghost use Rattle.api_server.specs.Serving.{HasAccepted, Serves};
 
 use crate::booting::boot_up;
@@ -30,8 +31,10 @@ pub fn serve<D: Disk, S: Spawner, N: Door>(
     requires sound { IsSound core.old }
 
     // It is a run of the machine: what boot makes, for each connection its request and a slice of turns, and the last turns.
+    // What failed in these events was counted.
     ensures serves { Moves (D.told disk.old) (D.told disk.new)
-        (Serves slice boot result core.old core.new (N.told door.old) (N.told door.new) (S.runs spawner.old) (S.runs spawner.new)) }
+        (Serves slice boot result core.old core.new (fault_counts (D.faults disk.old) (S.faults spawner.old))
+        (fault_counts (D.faults disk.new) (S.faults spawner.new)) (N.told door.old) (N.told door.new) (S.runs spawner.old) (S.runs spawner.new)) }
     ensures sound { IsSound core.new }
     ensures idle { (N.state door.new).busy ≡ false }
     ensures accepted { HasAccepted connections result (N.state door.old) (N.state door.new) }

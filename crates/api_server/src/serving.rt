@@ -5,6 +5,7 @@ ghost use Rattle.outside.specs.Door.{finished};
 ghost use Rattle.outside.specs.Faults.{Rose};
 ghost use Rattle.api_core.specs.Cores.{IsSound};
 ghost use Rattle.api_server.specs.Answered.{ServesOne, ServesAll};
+ghost use Rattle.api_server.specs.Causes.{fault_counts};
 ghost use Rattle.api_server.specs.Serving.{HasAccepted};
 
 use crate::answering::answer_one;
@@ -28,9 +29,10 @@ pub fn serve_one<D: Disk, S: Spawner, N: Door>(
     requires busy { (N.state door.old).busy ≡ true }
     requires sound { IsSound core.old }
 
-    // It is one request of the machine, or none, and a slice of its turns, crash included.
+    // It is one request of the machine, or none, and a slice of its turns, crash included. What failed in these was counted.
     ensures serves { Moves (D.told disk.old) (D.told disk.new)
-        (ServesOne slice core.old core.new (D.faults disk.old) (D.faults disk.new) (N.told door.old) (N.told door.new)
+        (ServesOne slice core.old core.new (fault_counts (D.faults disk.old) (S.faults spawner.old))
+        (fault_counts (D.faults disk.new) (S.faults spawner.new)) (N.told door.old) (N.told door.new)
         (S.runs spawner.old) (S.runs spawner.new)) }
     ensures sound { IsSound core.new }
     ensures done { N.state door.new ≡ finished (N.state door.old) }
@@ -59,9 +61,10 @@ pub(crate) fn serve_all<D: Disk, S: Spawner, N: Door>(
     requires unused { (N.state door.old).accepted ≡ 0 }
     requires sound { IsSound core.old }
 
-    // Each connection begins where the one before it has led.
+    // Each connection begins where the one before it has led. What failed in their events was counted.
     ensures serves { Moves (D.told disk.old) (D.told disk.new)
-        (ServesAll slice core.old core.new (N.told door.old) (N.told door.new) (S.runs spawner.old) (S.runs spawner.new)) }
+        (ServesAll slice core.old core.new (fault_counts (D.faults disk.old) (S.faults spawner.old))
+        (fault_counts (D.faults disk.new) (S.faults spawner.new)) (N.told door.old) (N.told door.new) (S.runs spawner.old) (S.runs spawner.new)) }
     ensures sound { IsSound core.new }
     ensures idle { (N.state door.new).busy ≡ false }
     ensures accepted { HasAccepted connections result (N.state door.old) (N.state door.new) }

@@ -1,5 +1,6 @@
 -- Events that are counted, from their parts.
-use Rattle.std.proofs.Common.{◌≡◌, ℕ, ◌+◌, ◌≤◌, length, Bool, true, false, nat_lt, List, [], ◌∷◌, ◌++◌, Some, inl, inr, refl, sym, ◌∙◌, ap, subst, arith}
+use Rattle.std.proofs.Common.{◌≡◌, ◌≢◌, ◌||◌, ◌&&◌, ℕ, ◌+◌, ◌≤◌, length, Bool, true, false, nat_lt}
+use Rattle.std.proofs.Common.{List, [], ◌∷◌, ◌++◌, Some, inl, inr, refl, sym, ◌∙◌, ap, subst, arith}
 use Rattle.std.proofs.lemmas.List.{append-nil}
 use Rattle.outside.specs.Door.{LastBy}
 use Rattle.outside.specs.Exchange.{Exchange, fresh}
@@ -9,15 +10,19 @@ use Rattle.api_http.specs.Replies.{Sent, is_of_success}
 use Rattle.api_http.specs.Requests.{Asks}
 use Rattle.api_http.specs.Says.{Says}
 use Rattle.api_http.proofs.Said.{says_success}
-use Rattle.api_server.specs.Handled.{IsHandled, Handles}
+use Rattle.api_server.specs.Handled.{Fits, IsHandled, Handles}
 use Rattle.api_server.specs.Hearing.{input_of, IsHeard}
 use Rattle.api_server.specs.declared.handled.Handled.TheVariants as came
 use Rattle.api_server.specs.declared.hearing.Heard.TheVariants as heard
 use Rattle.settings_machine.specs.Asked.{request_of}
 use Rattle.settings_machine.specs.declared.request.Request as asked
-use Rattle.settings_machine.specs.World.{Image, World, Job, Idle, is_running}
+use Rattle.settings_machine.specs.World.{Image, World, Work, Job, Idle, Failed, Running, is_running}
 use Rattle.settings_machine.specs.Requests.{Request, Reply, is_success}
-use Rattle.settings_machine.specs.Step.{Outcome, Answered, WithoutMemory, Unopened, Faulted, Answer, request_next, turn_next}
+use Rattle.settings_machine.specs.declared.cause.Cause.{Cause}
+use Rattle.settings_machine.specs.declared.cause.Cause.TheVariants as cause
+use Rattle.settings_machine.specs.Step.{Outcome, Answered, WithoutMemory, Unopened, Faulted, request_next}
+use Rattle.settings_machine.specs.Step.{Answer, Fine, NoRoom, FileFault, NoSpawn, SyncFault, OwedFault}
+use Rattle.settings_machine.specs.Step.{Command, after_files_turn, work_turn, job_turn, turn_next}
 use Rattle.settings_machine.specs.Events.{Event, Opened, Asked, Unread, Turned, Began, Moved, next, after}
 use Rattle.settings_machine.specs.Paid.{IsGood}
 use Rattle.settings_machine.proofs.Programs.{request_runs}
@@ -26,12 +31,13 @@ use Rattle.machine_disk.specs.Kept.{Folder, Kept}
 use Rattle.machine_disk.specs.Ran.{Ran, Reopens, Handled, IsSlice}
 use Rattle.machine_disk.proofs.Runs.{ran_none, ran_more}
 use Rattle.store_open.specs.Laws.{HoldsImage}
+use Rattle.affected_apply.specs.Jobs.{failed_with_disk}
 use Rattle.api_core.specs.Cores.{core_state}
 use Rattle.api_core.specs.Turned.{IsTurned, Turns}
 use Rattle.api_core.specs.declared.serving.Core.{Core}
 use Rattle.load_input.specs.declared.counts.Counts.{Counts}
 use Rattle.load_input.specs.Counts.{no_counts, with_reply, with_turn, with_event, with_events}
-use Rattle.load_input.specs.Counted.{IsAskedBy, AreAskedBy, requests_in, AskedIdle, CountedBy, Counted}
+use Rattle.load_input.specs.Counted.{IsAskedBy, AreAskedBy, requests_in, AskedIdle, IsFine, WentWell, CountedBy, Counted}
 use Rattle.api_server.proofs.Lasts.{head_same}
 
 clash : (b : Bool) → b ≡ false → b ≡ true → ⊥
@@ -51,6 +57,15 @@ idle-append I W (Unread ∷ es) fs first second = idle-append I (next I W Unread
 idle-append I W (Turned a ∷ es) fs first second = idle-append I (next I W (Turned a)) es fs first second
 idle-append I W (Began v ∷ es) fs first second = idle-append I (next I W (Began v)) es fs first second
 idle-append I W (Moved v held ∷ es) fs first second = idle-append I (next I W (Moved v held)) es fs first second
+
+well-append : (es fs : List Event) → WentWell es → WentWell fs → WentWell (es ++ fs)
+well-append [] fs first second = second
+well-append (Asked q o ∷ es) fs first second = (first.0, well-append es fs first.1 second)
+well-append (Turned a ∷ es) fs first second = (first.0, well-append es fs first.1 second)
+well-append (Opened boot o ∷ es) fs first second = absurd first
+well-append (Unread ∷ es) fs first second = absurd first
+well-append (Began v ∷ es) fs first second = absurd first
+well-append (Moved v held ∷ es) fs first second = absurd first
 
 requests-append : (es fs : List Event) → requests_in (es ++ fs) ≡ requests_in es ++ requests_in fs
 requests-append [] fs = refl
@@ -84,6 +99,7 @@ counted_none c n runs h = record { each = by } where
     counts = refl;
     asked = tt;
     idle = tt;
+    well = tt;
     image = of;
   }
 
@@ -104,6 +120,7 @@ counted_then bs cs c mid now n m k r s t old between new one two = record { each
         counts = b.counts ∙ ap (λ (x : Counts). with_events I X b.events x) a.counts ∙ sym (counts-append I W a.events b.events n);
         asked = asked-append bs cs a.events b.events a.asked b.asked;
         idle = idle-append I W a.events b.events a.idle b.idle;
+        well = well-append a.events b.events a.well b.well;
         image = b.image;
       }
 
@@ -113,6 +130,14 @@ alone Answered first is = (is, refl)
 alone WithoutMemory first is = (is, refl)
 alone (Unopened at) first is = absurd is
 alone (Faulted taken) first is = (is, refl)
+
+-- The machine answered a request that is replied as answered.
+answered_well : (I : Image) (W : World) (q : Request) (o : Outcome) (sent : Sent) → Fits (request_next I W q o).reply (came.Answered sent) → o ≡ Answered
+unfolding request_next
+answered_well I W q Answered sent fits = refl
+answered_well I W q WithoutMemory sent fits = absurd (cc fits)
+answered_well I W q (Unopened at) sent fits = absurd fits
+answered_well I W q (Faulted taken) sent fits = absurd (cc fits)
 
 -- One request, where no call of the disk has failed: its reply is one of success or not.
 pub counted_reply : (bytes : List ℕ) (c now : Core) (q : Request) (sent : Sent) (fine : Bool) (n m : Counts) (runs : List Run) (old new : History)
@@ -139,10 +164,54 @@ counted_reply bytes c now q sent fine n m runs old new calm idle by_bytes succes
         counts = is ∙ ap (λ (b : Bool). with_reply b n) told;
         asked = (by_bytes, tt);
         idle = (ap is_running (sym kept.core.job ∙ idle), tt);
+        well = (answered_well I W q e.outcome sent (subst (λ (r : Reply). Fits r (came.Answered sent)) replied h.fits), tt);
         image = h.image;
       }
 
 -- ---- one turn
+
+-- A turn after which the job has not failed went well.
+module _ (I : Image) (W : World) where
+  commands_fine : (w : Work) (cs : List Command) (a : Answer) → ((c : Cause) → (after_files_turn I W cs w a).job ≢ Failed c) → IsFine a
+  commands_fine w cs (Fine status) unfailed = tt
+  commands_fine w [] NoRoom unfailed = unfailed cause.Memory refl
+  commands_fine w [] (FileFault left) unfailed = unfailed cause.Disk refl
+  commands_fine w [] NoSpawn unfailed = unfailed cause.Disk refl
+  commands_fine w [] SyncFault unfailed = unfailed cause.Disk refl
+  commands_fine w [] (OwedFault stored) unfailed = unfailed cause.Disk refl
+  commands_fine w (c ∷ cs) NoRoom unfailed = unfailed cause.Memory refl
+  commands_fine w (c ∷ cs) (FileFault left) unfailed = unfailed cause.Disk refl
+  commands_fine w (c ∷ cs) NoSpawn unfailed = unfailed (cause.Spawn c.0) refl
+  commands_fine w (c ∷ cs) SyncFault unfailed = unfailed cause.Disk refl
+  commands_fine w (c ∷ cs) (OwedFault stored) unfailed = unfailed cause.Disk refl
+
+  work_fine : (w : Work) (files : List (List ℕ)) (a : Answer) → ((c : Cause) → (work_turn I W files w a).job ≢ Failed c) → IsFine a
+  work_fine w [] a unfailed = commands_fine w w.commands a unfailed
+  work_fine w (f ∷ fs) (Fine status) unfailed = tt
+  work_fine w (f ∷ fs) NoRoom unfailed = unfailed cause.Memory refl
+  work_fine w (f ∷ fs) (FileFault left) unfailed = unfailed cause.Disk refl
+  work_fine w (f ∷ fs) NoSpawn unfailed = unfailed cause.Disk refl
+  work_fine w (f ∷ fs) SyncFault unfailed = unfailed cause.Disk refl
+  work_fine w (f ∷ fs) (OwedFault stored) unfailed = unfailed cause.Disk refl
+
+  job_fine : (j : Job) (a : Answer) → is_running j ≡ true → ((c : Cause) → (job_turn I W j a).job ≢ Failed c) → IsFine a
+  job_fine Idle a running unfailed = absurd (cc running)
+  job_fine (Failed c) a running unfailed = absurd (cc running)
+  job_fine (Running w) a running unfailed = work_fine w w.files a unfailed
+
+  turn_fine : (a : Answer) → is_running W.job ≡ true → ((c : Cause) → (turn_next I W a).job ≢ Failed c) → IsFine a
+  unfolding turn_next
+  turn_fine a running unfailed = job_fine W.job a running unfailed
+
+-- No call of the disk has failed, where none had and the job has not failed.
+pub calm_after : (before now ran : Bool) (job : Job) → now ≡ (before || (ran && failed_with_disk job)) → before ≡ false → ((c : Cause) → job ≢ Failed c)
+    → now ≡ false
+calm_after before now ran job is calm unfailed = by ran job unfailed (is ∙ ap (λ (b : Bool). b || (ran && failed_with_disk job)) calm) where
+  by : (r : Bool) (j : Job) → ((c : Cause) → j ≢ Failed c) → now ≡ (false || (r && failed_with_disk j)) → now ≡ false
+  by false j other e = e
+  by true Idle other e = e
+  by true (Running w) other e = e
+  by true (Failed c) other e = absurd (other c refl)
 
 none_left : (I : Image) (W : World) (e : Event) (es : List Event) → IsSlice I 0 W (e ∷ es) → ⊥
 none_left I W (Turned a) es is = let below : 1 ≤ 0 = is.0 in omega (arith, below)
@@ -165,9 +234,10 @@ one_left I W (Moved v held ∷ es) running is = absurd is
 
 -- One turn of a running job: whether a program more was run, and whether the job goes on.
 pub counted_turn : (c now : Core) (n m : Counts) (r s : List Run) (old new : History) → is_running (core_state c).job ≡ true
+    → ((e : Cause) → (core_state now).job ≢ Failed e)
     → m ≡ with_turn (nat_lt (length r) (length s)) (is_running (core_state now).job) n → Turns c (Some 1) now (Some r) (Some s) old new
     → Counted [] c now n m r s old new
-counted_turn c now n m r s old new running is turns = record { each = by } where
+counted_turn c now n m r s old new running unfailed is turns = record { each = by } where
   by : (I : Image) → IsGood I → HoldsImage I c.image → (folder : Folder) (W V : World) → Kept I folder W V old (core_state c) → r ≡ W.runs
       → CountedBy I folder W V [] c now n m s old new
   by I good of folder W V kept are =
@@ -189,6 +259,7 @@ counted_turn c now n m r s old new running is turns = record { each = by } where
             ∙ ap (λ (j : Job). with_turn (nat_lt (length W.runs) (length X.runs)) (is_running j) n) made.kept.core.job;
         asked = tt;
         idle = tt;
+        well = (turn_fine I W one.0 (ap is_running (sym kept.core.job) ∙ running) (λ e failed. unfailed e (made.kept.core.job ∙ failed)), tt);
         image = t.image;
       }
 

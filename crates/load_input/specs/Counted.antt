@@ -8,7 +8,8 @@ use Rattle.disk_memory.specs.declared.spawner.MemorySpawner.{MemorySpawner}
 use Rattle.api_http.specs.Requests.{Asks}
 use Rattle.settings_machine.specs.World.{Image, World, is_running}
 use Rattle.settings_machine.specs.Requests.{Request}
-use Rattle.settings_machine.specs.Events.{Event, Asked, next, after}
+use Rattle.settings_machine.specs.Step.{Answered, Answer, Fine}
+use Rattle.settings_machine.specs.Events.{Event, Asked, Turned, next, after}
 use Rattle.settings_machine.specs.Paid.{IsGood}
 use Rattle.machine_disk.specs.Kept.{Folder, Kept}
 use Rattle.machine_disk.specs.Ran.{Ran}
@@ -45,7 +46,20 @@ AskedIdle I W [] = Unit {0}
 AskedIdle I W (Asked q o ∷ es) = (is_running W.job ≡ false) × AskedIdle I (next I W (Asked q o)) es
 AskedIdle I W (e ∷ es) = AskedIdle I (next I W e) es
 
+-- The turn went well.
+abbrev pub IsFine : Answer → Type 0
+IsFine (Fine status) = Unit {0}
+IsFine _ = ⊥
+
+-- The events are requests that the machine answered, and turns that went well: no device failed, and nowhere it ran out of memory.
+abbrev pub WentWell : List Event → Type 0
+WentWell [] = Unit {0}
+WentWell (Asked q o ∷ es) = (o ≡ Answered) × WentWell es
+WentWell (Turned a ∷ es) = IsFine a × WentWell es
+WentWell (e ∷ es) = ⊥
+
 -- Events of the machine from W on, on the disk, in the core and in the programs that were run, the bytes that ask their requests, and what is counted of them.
+-- All went well in them.
 pub record CountedBy (I : Image) (folder : Folder) (W V : World) (bytes : List (List ℕ)) (c now : Core) (n m : Counts) (ran_after : List Run)
     (old new : History) : Type 0 where
   pub events : List Event
@@ -54,6 +68,7 @@ pub record CountedBy (I : Image) (folder : Folder) (W V : World) (bytes : List (
   pub counts : m ≡ with_events I W events n
   pub asked : AreAskedBy bytes (requests_in events)
   pub idle : AskedIdle I W events
+  pub well : WentWell events
   pub image : HoldsImage I now.image
 
 -- By each image that the core holds, and in each world at which disk and core are and whose programs are those that were run.

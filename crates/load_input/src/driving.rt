@@ -1,7 +1,8 @@
 //! The job is driven to its end, turn by turn.
-ghost use Rattle.std.specs.Prelude.{◌≡◌, true, false, nat_lt, [], OnOk};
+ghost use Rattle.std.specs.Prelude.{◌≡◌, ◌≢◌, true, false, nat_lt, [], IfOk, OnOk};
 ghost use Rattle.outside.specs.Told.{Moves};
-ghost use Rattle.settings_machine.specs.World.{is_running, Idle};
+ghost use Rattle.settings_machine.specs.World.{is_running, Idle, Failed};
+ghost use Rattle.settings_machine.specs.declared.cause.Cause.{Cause};
 ghost use Rattle.affected_apply.specs.Jobs.{job_of};
 ghost use Rattle.api_core.specs.Cores.{core_state, IsSound};
 ghost use Rattle.load_input.specs.Counts.{with_turn};
@@ -28,6 +29,18 @@ fn count(counts: &mut Counts, before: usize, after: usize, goes_on: bool) -> Res
     Ok(())
 }
 
+// Whether the job goes on. It is an error that it has failed.
+fn still_runs(job: &JobState) -> Result<bool, AllocError>
+    ensures running { IfOk result (λ goes. goes ≡ is_running (job_of job.now)) }
+    ensures unfailed { OnOk result ((cause : Cause) → job_of job.now ≢ Failed cause) }
+{
+    match job {
+        JobState::Idle => Ok(false),
+        JobState::Running(_) => Ok(true),
+        JobState::Failed(_) => Err(AllocError),
+    }
+}
+
 // Makes one turn of a running job, and counts it.
 fn turn_once<D: Disk>(
     alloc: Global,
@@ -37,6 +50,7 @@ fn turn_once<D: Disk>(
     spawner: &mut MemorySpawner,
 ) -> Result<(), AllocError>
     requires sound { IsSound core.old }
+    requires calm { (core_state core.old).faulted ≡ false }
     requires running { is_running (core_state core.old).job ≡ true }
     ensures counted { OnOk result (Moves (D.told disk.old) (D.told disk.new)
         (Counted [] core.old core.new counts.old counts.new (ran spawner.old) (ran spawner.new))) }
@@ -47,11 +61,8 @@ fn turn_once<D: Disk>(
 {
     let before = spawner.runs().len();
     core.turns(alloc, Some(1), disk, spawner);
-    if core.faulted() {
-        return Err(AllocError);
-    }
+    let goes_on = still_runs(core.job())?;
     let after = spawner.runs().len();
-    let goes_on = core.job().is_running();
     count(counts, before, after, goes_on)?;
     Ok(())
 }

@@ -5,7 +5,7 @@ use Rattle.std.specs.FinMap.{get}
 use Rattle.outside.specs.Names.{Names}
 use Rattle.outside.specs.Tree.{Node, Tree, node_at, file_in}
 use Rattle.outside.specs.History.{History, tree_of, MayLeave, IsSettled}
-use Rattle.outside.specs.Since.{EachSince, IsAtOrSync}
+use Rattle.outside.specs.Since.{EachSince, IsAtOrSync, Touches}
 use Rattle.outside.proofs.Crash.{settled_image, may_leave_now}
 use Rattle.outside.proofs.Goes.{may_leave_untouched, since_goes}
 use Rattle.outside.proofs.Since.{since_both, since_map, since_now}
@@ -24,10 +24,12 @@ use Rattle.settings_machine.specs.Paid.{IsDuePath}
 use Rattle.version_links.specs.declared.chain.Place.{Place}
 use Rattle.machine_disk.specs.Store.{is_image, bytes_at, HoldsIn, HasStore, Recovers, IsReadyAt}
 use Rattle.machine_disk.specs.Kept.{Folder, DiskAt}
+use Rattle.machine_disk.specs.Touched.{TouchesOwn}
 use Rattle.machine_disk.specs.Ran.{OnTheWay}
 use Rattle.machine_disk.proofs.Meanings.{IsCores, cores}
 use Rattle.machine_disk.proofs.Settled.{in_store, SameLinks, resolves_same}
 use Rattle.machine_disk.proofs.Apart.{IsApart, dir_apart}
+use Rattle.machine_disk.proofs.Touched.{own_below}
 
 -- ---- the step of a world that a change of the store is
 
@@ -45,11 +47,13 @@ pub record ChangeMade (I : Image) (folder : Folder) (W V : World) (e : Event) (p
   pub disk : DiskAt I folder (next I W e) (next I W e) new
   pub ready : IsReadyAt place held new
   pub moments : EachSince (OnTheWay I W V (e ∷ [])) old new
+  pub touches : TouchesOwn I (e ∷ []) old new
 
 -- The change failed: the disk is at the world after the event, and an image may have the store from before.
 pub record ChangeFailed (I : Image) (folder : Folder) (W V : World) (e : Event) (old new : History) : Type 0 where
   pub disk : DiskAt I folder (next I W e) W new
   pub moments : EachSince (OnTheWay I W V (e ∷ [])) old new
+  pub touches : TouchesOwn I (e ∷ []) old new
 
 module _ (I : Image) (folder : Folder) (W V : World) (old new : History) (disk : DiskAt I folder W V old) (place : Place) (was : Held)
     (ready : IsReadyAt place was old)
@@ -137,6 +141,11 @@ module _ (I : Image) (folder : Folder) (W V : World) (old new : History) (disk :
       → EachSince (λ c. StandsForEither batch old c × IsOldElsewhere c) old new
   since_either either others = since_both (StandsForEither batch old) IsOldElsewhere old new either (since_elsewhere others)
 
+  -- No other path is touched.
+  own : (e : Event) → ChangesOnlyBelow batch.dir old new → TouchesOwn I (e ∷ []) old new
+  own e others = own_below I (e ∷ []) old new place.version place.directory ready.resolves
+      (subst (λ (d : Names). Touches (IsBelow d) old new) dir_is others.touches)
+
   -- ---- the disk after the change
 
   now_elsewhere : ChangesOnlyBelow batch.dir old new → IsOldElsewhere (tree_of new)
@@ -174,6 +183,7 @@ module _ (I : Image) (folder : Folder) (W V : World) (old new : History) (disk :
     };
     moments = since_map (λ c. StandsForEither batch old c × IsOldElsewhere c) (OnTheWay I W V (e ∷ [])) old new (on_the_way (next I W e) step e refl)
         (since_either either others);
+    touches = own e others;
   } where
     store_now : HasStore (next I W e) (tree_of new)
     store_now = held_after (next I W e) step (tree_of new) (now_elsewhere others) (inl (is_made.ready.no_journal, sym is_made.files))
@@ -196,6 +206,7 @@ module _ (I : Image) (folder : Folder) (W V : World) (old new : History) (disk :
     };
     moments = since_map (λ c. StandsForEither batch old c × IsOldElsewhere c) (OnTheWay I W V (e ∷ [])) old new (on_the_way (next I W e) step e refl)
         (since_either either others);
+    touches = own e others;
   } where
     images : (c : Tree) → StandsForEither batch old c × IsOldElsewhere c → HasStore (next I W e) c ⊎ HasStore W c
     images c (inl stands, elsewhere) = inr (held_before c elsewhere stands)
@@ -230,6 +241,7 @@ module _ (I : Image) (folder : Folder) (W V : World) (old new : History) (disk :
     };
     moments = since_map (λ c. TreeStandsFor batch.dir (files_before batch old) c × IsOldElsewhere c) (OnTheWay I W V (e ∷ [])) old new
         (λ c both. inr (record { first = []; rest = e ∷ []; whole = refl; recovers = before_recovers c both.1 both.0 })) all;
+    touches = own e others;
   } where
     all : EachSince (λ c. TreeStandsFor batch.dir (files_before batch old) c × IsOldElsewhere c) old new
     all = since_both (TreeStandsFor batch.dir (files_before batch old)) IsOldElsewhere old new not_begun.images (since_elsewhere others)

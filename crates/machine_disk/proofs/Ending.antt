@@ -21,6 +21,7 @@ use Rattle.machine_disk.specs.Kept.{Folder, CoreState, Kept}
 use Rattle.machine_disk.specs.Ran.{Within, Ran}
 use Rattle.machine_disk.proofs.Quiet.{IsAlike, ran_calm}
 use Rattle.machine_disk.proofs.Changed.{IsStoreStep, ChangeMade, ChangeFailed, clear_settled, made, taken, not_taken}
+use Rattle.machine_disk.proofs.Runs.{stepped}
 
 -- The turn of a job that has nothing left to do.
 last_is : (I : Image) (W : World) (w : Work) (a : Answer) → W.job ≡ Running w → w.files ≡ [] → w.commands ≡ [] → turn_next I W a ≡ last_turn I W w a
@@ -105,7 +106,7 @@ module _ (I : Image) (good : IsGood I) (folder : Folder) (W V : World) (old new 
       (Turned (Fine status))
       (step (Fine status) (record W.held { owed = owed.Keys w.since }) refl refl refl refl) (commits.done is_ready) (commits.any_moment is_ready) commits.others
       in
-      record {
+      stepped I folder W V (Turned (Fine status)) old new before _ kept.disk (record {
         other = next I W (Turned (Fine status));
         late = Within (Turned (Fine status) ∷ []) [] refl refl refl;
         kept = record {
@@ -116,7 +117,8 @@ module _ (I : Image) (good : IsGood I) (folder : Folder) (W V : World) (old new 
         };
         flag = sym (ap (λ b. b || false) calm);
         moments = m.moments;
-      }
+        touches = m.touches;
+      })
 
   stopped : (stored : Bool) → is_running (next I W (Turned (OwedFault stored))).job ≡ false
   stopped stored = ap (λ (N : World). is_running N.job) (last_is I W w (OwedFault stored) job files commands)
@@ -130,7 +132,7 @@ module _ (I : Image) (good : IsGood I) (folder : Folder) (W V : World) (old new 
         faulted = true;
       })
   failed_ran stored held failed =
-      record {
+      stepped I folder W V (Turned (OwedFault stored)) old new before _ kept.disk (record {
         other = W;
         late = Within [] (Turned (OwedFault stored) ∷ []) refl refl refl;
         kept = record {
@@ -141,7 +143,8 @@ module _ (I : Image) (good : IsGood I) (folder : Folder) (W V : World) (old new 
         };
         flag = sym (or_true before.faulted);
         moments = failed.moments;
-      }
+        touches = failed.touches;
+      })
 
   -- After an error owed was stored or not.
   pub ran_not_done : (fault : Failed) (held : Held) → Commits batch (Err fault) old new

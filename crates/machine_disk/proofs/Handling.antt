@@ -22,6 +22,7 @@ use Rattle.machine_disk.specs.Store.{IsReadyAt}
 use Rattle.machine_disk.specs.Kept.{Folder, CoreState, Kept}
 use Rattle.machine_disk.specs.Ran.{Within, Ran}
 use Rattle.machine_disk.proofs.Changed.{IsStoreStep, ChangeMade, ChangeFailed, clear_more, made, taken, not_taken}
+use Rattle.machine_disk.proofs.Runs.{stepped}
 
 module _ (I : Image) (good : IsGood I) (folder : Folder) (W V : World) (old new : History) (before : CoreState) (kept : Kept I folder W V old before)
     (calm : before.faulted ≡ false)
@@ -90,7 +91,7 @@ module _ (I : Image) (good : IsGood I) (folder : Folder) (W V : World) (old new 
       made I folder W V old new kept.disk before.place before.held (kept.core.ready calm) batch dir_is (answered I W q).world.held stands (Asked q Answered)
       answered_step
       (commits.done is_ready) (commits.any_moment is_ready) commits.others in
-      record {
+      stepped I folder W V (Asked q Answered) old new before core_answered kept.disk (record {
         other = next I W (Asked q Answered);
         late = Within (Asked q Answered ∷ []) [] refl refl refl;
         kept = record {
@@ -101,7 +102,8 @@ module _ (I : Image) (good : IsGood I) (folder : Folder) (W V : World) (old new 
         };
         flag = sym calm;
         moments = m.moments;
-      }
+        touches = m.touches;
+      })
 
   faulted_format : (taken : Bool) → (next I W (Asked q (Faulted taken))).format ≡ 2
   faulted_format taken = let k : Keeps I W (next I W (Asked q (Faulted taken))) = request_keeps I W q (Faulted taken) in k.format ∙ kept.format
@@ -115,7 +117,7 @@ module _ (I : Image) (good : IsGood I) (folder : Folder) (W V : World) (old new 
         faulted = true;
       })
   failed_ran taken' held failed =
-      record {
+      stepped I folder W V (Asked q (Faulted taken')) old new before _ kept.disk (record {
         other = W;
         late = Within [] (Asked q (Faulted taken') ∷ []) refl refl (or_false _ _ (unsaid taken') refl);
         kept = record {
@@ -126,7 +128,8 @@ module _ (I : Image) (good : IsGood I) (folder : Folder) (W V : World) (old new 
         };
         flag = refl;
         moments = failed.moments;
-      }
+        touches = failed.touches;
+      })
 
   -- After an error the request was taken or not; the core notes the fault, and its job is that of the machine.
   pub ran_faulted : (fault : Failed) (held : Held) → Commits batch (Err fault) old new

@@ -1,4 +1,5 @@
 pub mod Meanings
+pub mod Moments
 pub mod Runs
 pub mod Prefixes
 pub mod Settled
@@ -7,6 +8,7 @@ pub mod Quiet
 pub mod Handling
 pub mod Turning
 pub mod Apart
+pub mod Touched
 pub mod FromSync
 pub mod Recovering
 pub mod Opened

@@ -20,14 +20,16 @@ use Rattle.settings_machine.specs.World.{Image, World, is_running, is_etc}
 use Rattle.settings_machine.specs.Typed.{IsTypedHeld}
 use Rattle.settings_machine.specs.Opening.{opened_held}
 use Rattle.settings_machine.specs.Step.{opened}
-use Rattle.settings_machine.specs.Events.{Event, Opened, Succeeded, Failing, next}
+use Rattle.settings_machine.specs.Events.{Event, Opened, Succeeded, Failing, next, after}
 use Rattle.settings_machine.specs.Paid.{IsFit, IsGood}
 use Rattle.settings_machine.proofs.PaidLaws.{openings_fit}
 use Rattle.machine_disk.specs.Store.{is_image, bytes_at, HasStore, Recovers}
 use Rattle.machine_disk.specs.Kept.{Folder, DiskAt}
-use Rattle.machine_disk.specs.Ran.{Before, Within, OnTheWay, OpensTo, OpensNot}
-use Rattle.machine_disk.proofs.Runs.{at_start, way_now}
+use Rattle.machine_disk.specs.Touched.{TouchesOwn}
+use Rattle.machine_disk.specs.Ran.{IsLate, Before, Within, OnTheWay, OpensTo, OpensNot}
+use Rattle.machine_disk.proofs.Runs.{at_start, way_now, disk_moments}
 use Rattle.machine_disk.proofs.Apart.{IsApart, dir_apart}
+use Rattle.machine_disk.proofs.Touched.{own_from_sync}
 use Rattle.machine_disk.proofs.FromSync.{IsThereElsewhere, from_sync}
 
 -- The tree has the store of W, or that of the opened world.
@@ -61,6 +63,9 @@ module _ (I : Image) (good : IsGood I) (folder : Folder) (W V : World) (boot : B
   image_now : (path : Names) → is_image path ≡ true → bytes_at (tree_of new) path ≡ folder path
   image_now path e = ap file_in (elsewhere others path (apart.image path e)) ∙ disk.image path e
 
+  own : (e : Event) → TouchesOwn I (e ∷ []) old new
+  own e = own_from_sync I (e ∷ []) old new place.version place.directory leads others
+
   -- Below `etc` a crash leaves what is there, once the disk was synced.
   left_of : ChangesOnlyBelow place.directory (then synced old) new → (path : Names) (node : Option Node) → is_etc path ≡ true → MayLeave new path node
       → file_in node ≡ get W.etc path
@@ -89,16 +94,24 @@ module _ (I : Image) (good : IsGood I) (folder : Folder) (W V : World) (boot : B
 
   -- ---- an opening that was not taken
 
+  opens_not : (taken : Bool) (other : World) → IsLate I W V (Opened boot (Failing taken) ∷ []) other
+      → DiskAt I folder (after I W (Opened boot (Failing taken) ∷ [])) other new → EachSince (OnTheWay I W V (Opened boot (Failing taken) ∷ [])) old new
+      → OpensNot I folder W V boot old new
+  opens_not taken other late now moments = record {
+    taken = taken;
+    other = other;
+    late = late;
+    disk = now;
+    moments = moments;
+    keeps = disk_moments I folder W V (Opened boot (Failing taken)) old new other disk now late moments;
+    touches = own (Opened boot (Failing taken));
+  }
+
   -- Nothing happened.
   not_begun : new ≡ old → OpensNot I folder W V boot old new
-  not_begun same = record {
-    taken = false;
-    other = V;
-    late = Before refl refl;
-    disk = subst (DiskAt I folder W V) (sym same) disk;
-    moments = subst (EachSince (OnTheWay I W V (Opened boot (Failing false) ∷ [])) old) (sym same)
-        (since_start (OnTheWay I W V (Opened boot (Failing false) ∷ [])) old (way_now I folder W V (Opened boot (Failing false) ∷ []) old disk));
-  }
+  not_begun same = opens_not false V (Before refl refl) (subst (DiskAt I folder W V) (sym same) disk)
+      (subst (EachSince (OnTheWay I W V (Opened boot (Failing false) ∷ [])) old) (sym same)
+      (since_start (OnTheWay I W V (Opened boot (Failing false) ∷ [])) old (way_now I folder W V (Opened boot (Failing false) ∷ []) old disk)))
 
   -- The tree has the store of W, and so has each image from the first sync on.
   pub opens_not_taken : HasStore W (tree_of new) → FromSyncOn (EachSince (HasStore W)) old new → OpensNot I folder W V boot old new
@@ -106,22 +119,17 @@ module _ (I : Image) (good : IsGood I) (folder : Folder) (W V : World) (boot : B
     by : FromSyncOn (ChangesOnlyBelow place.directory) old new → FromSyncOn (EachSince (HasStore W)) old new → OpensNot I folder W V boot old new
     by (inl same) images = not_begun same
     by (inr changes) (inl same) = not_begun same
-    by (inr changes) (inr since) = record {
-      taken = false;
-      other = W;
-      late = Within [] (Opened boot (Failing false) ∷ []) refl refl refl;
-      disk = record {
-        store = store;
-        etc = record { each = etc_now };
-        image = image_now;
-        images = λ c left. inl (since_now (HasStore W) (then synced old) new since c left);
-        same_etc = refl;
-        unsettled = λ path node e left. inl (left_of changes path node e left);
-      };
-      moments = from_sync I folder W V (Opened boot (Failing false) ∷ []) old new disk place.directory (HasStore W)
-          (before_way (Opened boot (Failing false) ∷ []))
-          (touches others) images;
-    }
+    by (inr changes) (inr since) = opens_not false W (Within [] (Opened boot (Failing false) ∷ []) refl refl refl)
+        (record {
+          store = store;
+          etc = record { each = etc_now };
+          image = image_now;
+          images = λ c left. inl (since_now (HasStore W) (then synced old) new since c left);
+          same_etc = refl;
+          unsettled = λ path node e left. inl (left_of changes path node e left);
+        })
+        (from_sync I folder W V (Opened boot (Failing false) ∷ []) old new disk place.directory (HasStore W)
+        (before_way (Opened boot (Failing false) ∷ [])) (touches others) images)
 
   -- ---- one that was taken, of a typed world
 
@@ -137,17 +145,12 @@ module _ (I : Image) (good : IsGood I) (folder : Folder) (W V : World) (boot : B
     opens_to format either resolves stands ready settled = record {
       fit = fit_opened;
       format = format;
-      disk = record {
-        store = store;
-        etc = record { each = etc_now };
-        image = image_now;
-        images = λ c left. inl (subst (HasStore (opened I W boot)) (sym (settled_image new settled c left)) store);
-        same_etc = refl;
-        unsettled = λ path node e left. inl (ap file_in (settled path node left) ∙ etc_now path e);
-      };
+      disk = now;
       ready = record { settled = record { at = λ path is. settled path }; resolves = resolves; ready = ready; stands = stands };
-      moments = from_sync I folder W V (Opened boot Succeeded ∷ []) old new disk place.directory (HasEither I W boot) (either_way (Opened boot Succeeded) refl)
-          (touches others) either;
+      moments = moments;
+      keeps = disk_moments I folder W V (Opened boot Succeeded) old new (opened I W boot) disk now (Within (Opened boot Succeeded ∷ []) [] refl refl refl)
+          moments;
+      touches = own (Opened boot Succeeded);
     } where
       store : HasStore (opened I W boot) (tree_of new)
       store = record {
@@ -160,6 +163,20 @@ module _ (I : Image) (good : IsGood I) (folder : Folder) (W V : World) (boot : B
         };
       }
 
+      now : DiskAt I folder (opened I W boot) (opened I W boot) new
+      now = record {
+        store = store;
+        etc = record { each = etc_now };
+        image = image_now;
+        images = λ c left. inl (subst (HasStore (opened I W boot)) (sym (settled_image new settled c left)) store);
+        same_etc = refl;
+        unsettled = λ path node e left. inl (ap file_in (settled path node left) ∙ etc_now path e);
+      }
+
+      moments : EachSince (OnTheWay I W V (Opened boot Succeeded ∷ [])) old new
+      moments = from_sync I folder W V (Opened boot Succeeded ∷ []) old new disk place.directory (HasEither I W boot) (either_way (Opened boot Succeeded) refl)
+          (touches others) either
+
     -- The tree has the store of the opened world, and each image from the first sync on that of W or of the opened world.
     pub opens_taken : HasStore (opened I W boot) (tree_of new) → FromSyncOn (EachSince (HasEither I W boot)) old new → OpensNot I folder W V boot old new
     unfolding opened
@@ -171,19 +188,14 @@ module _ (I : Image) (good : IsGood I) (folder : Folder) (W V : World) (boot : B
       by : FromSyncOn (ChangesOnlyBelow place.directory) old new → FromSyncOn (EachSince (HasEither I W boot)) old new → OpensNot I folder W V boot old new
       by (inl same) either = not_begun same
       by (inr changes) (inl same) = not_begun same
-      by (inr changes) (inr since) = record {
-        taken = true;
-        other = W;
-        late = Within [] (Opened boot (Failing true) ∷ []) refl refl refl;
-        disk = record {
-          store = store;
-          etc = record { each = etc_now };
-          image = image_now;
-          images = λ c left. swapped c (since_now (HasEither I W boot) (then synced old) new since c left);
-          same_etc = refl;
-          unsettled = λ path node e left. inl (left_of changes path node e left);
-        };
-        moments = from_sync I folder W V (Opened boot (Failing true) ∷ []) old new disk place.directory (HasEither I W boot)
-            (either_way (Opened boot (Failing true)) refl)
-            (touches others) either;
-      }
+      by (inr changes) (inr since) = opens_not true W (Within [] (Opened boot (Failing true) ∷ []) refl refl refl)
+          (record {
+            store = store;
+            etc = record { each = etc_now };
+            image = image_now;
+            images = λ c left. swapped c (since_now (HasEither I W boot) (then synced old) new since c left);
+            same_etc = refl;
+            unsettled = λ path node e left. inl (left_of changes path node e left);
+          })
+          (from_sync I folder W V (Opened boot (Failing true) ∷ []) old new disk place.directory (HasEither I W boot)
+          (either_way (Opened boot (Failing true)) refl) (touches others) either)

@@ -17,9 +17,11 @@ use Rattle.settings_machine.proofs.PaidLaws.{files_stay_paid, openings_pay, boot
 use Rattle.version_links.specs.declared.chain.Place.{Place}
 use Rattle.machine_disk.specs.Store.{Recovers}
 use Rattle.machine_disk.specs.Kept.{Folder, DiskAt, CoreState}
-use Rattle.machine_disk.specs.Laws.{IsSameStore}
-use Rattle.machine_disk.specs.Ran.{AtPrefix, IsLate, Within, OnTheWay, Ran, OpensTo, StayPaid, EachPaid, LeavesPaid, AtPaidPrefix, RunsTo}
+use Rattle.machine_disk.specs.Laws.{IsSameStore, RunsTouchOwn}
+use Rattle.machine_disk.specs.Ran.{AtPrefix, IsLate, Within, OnTheWay, HasMoments, Ran, OpensTo, StayPaid, EachPaid, LeavesPaid, AtPaidPrefix, RunsTo}
 use Rattle.machine_disk.proofs.Meanings.{one_store}
+use Rattle.machine_disk.proofs.Touched.{own_more}
+use Rattle.machine_disk.proofs.Moments.{more_moments}
 use Rattle.machine_disk.proofs.Runs.{at_start, late_more, way_of_more, way_after, recovers_now, calm_disk, late_at}
 
 module _ (I : Image) (W : World) where
@@ -39,6 +41,10 @@ module _ (I : Image) (W : World) where
   one_paid e last (g ∷ []) rest whole = let head : e ≡ g = cc in subst (λ (x : Event). StayPaid I W (x ∷ [])) head last
   one_paid e last (g ∷ h ∷ first) rest whole = absurd (cc whole)
 
+-- An opening, and what came after it, touch no path but their own.
+pub runs_touch : RunsTouchOwn
+runs_touch I folder W boot es old mid new place held core now opens ran = own_more I (Opened boot Succeeded ∷ []) es old mid new opens.touches ran.touches
+
 module _ (I : Image) (good : IsGood I) where
   -- In the worlds of an image the files are paid that are in the world to which it recovers.
   pub leaves_paid : (W : World) (events : List Event) (c : Tree) → Recovers I (after I W events) c → StayPaid I W events → LeavesPaid I W events c
@@ -56,13 +62,14 @@ module _ (I : Image) (good : IsGood I) where
 
     -- The disk is at the last world, or an image has that of an earlier one after which nothing is acknowledged.
     pub whole : (other : World) → DiskAt I folder (after I W events) other new → IsLate I W W events other → EachPaid I W events
-        → EachSince (OnTheWay I W W events) old new
+        → EachSince (OnTheWay I W W events) old new → HasMoments I W W events old new
         → (faulted_after false events ≡ false → DiskAt I folder (after I W events) (after I W events) new) → RunsTo I folder W events old new
-    whole other disk late paid since settles = record {
+    whole other disk late paid since keeps settles = record {
       store = disk.store;
       etc = disk.etc;
       paid = paid;
       any_moment = since_map (OnTheWay I W W events) (AtPrefix I W events) old new way since;
+      keeps = keeps;
       at_exit = λ c left. ⊎_elim
           (λ r. record { prefix = record { first = events; rest = []; whole = sym (append-nil events); recovers = r }; unacknowledged = refl })
           (λ r. late_at I W other events c late r)
@@ -80,6 +87,7 @@ module _ (I : Image) (good : IsGood I) where
   runs_to folder W boot es old mid new place held core now idle opens calm served ran =
       whole folder W (Opened boot Succeeded ∷ es) old new ran.other ran.kept.disk
       (late_more I W W (Opened boot Succeeded ∷ []) es (opened I W boot) ran.other at_opened ran.late) each_paid moments
+      (more_moments I W W (opened I W boot) (Opened boot Succeeded ∷ []) es at_opened old mid new opens.keeps opens.moments ran.keeps ran.moments)
       (λ quiet. calm_disk I folder (after I (opened I W boot) es) ran.other new now (ran.flag ∙ ap (λ (b : Bool). faulted_after b es) calm ∙ quiet) ran.kept)
     where
       at_opened : IsLate I W W (Opened boot Succeeded ∷ []) (opened I W boot)

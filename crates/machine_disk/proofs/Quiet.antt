@@ -16,8 +16,9 @@ use Rattle.settings_machine.proofs.Sequences.{or_false}
 use Rattle.machine_disk.specs.Store.{HasFiles, HasStore, Recovers, IsReadyAt}
 use Rattle.machine_disk.specs.Kept.{Folder, CoreState, Kept}
 use Rattle.machine_disk.specs.Ran.{Before, Within, OnTheWay, Ran}
-use Rattle.machine_disk.proofs.Runs.{at_start, recovers_now}
+use Rattle.machine_disk.proofs.Runs.{at_start, recovers_now, stepped}
 use Rattle.machine_disk.proofs.Settled.{settled_store}
+use Rattle.machine_disk.proofs.Touched.{own_none}
 
 -- N has the stored parts and the configuration files of W.
 pub record IsAlike (W N : World) : Type 0 where
@@ -52,7 +53,7 @@ module _ (I : Image) (folder : Folder) (W V : World) (h : History) (before : Cor
 
   -- Where no call of the disk has failed since the last opening: acknowledged or not.
   pub ran_calm : before.faulted ≡ false → now.faulted ≡ false → faulted_next false e ≡ false → Ran I folder W V (e ∷ []) h h before now
-  ran_calm calm still_calm quiet = record {
+  ran_calm calm still_calm quiet = stepped I folder W V e h h before now kept.disk (record {
     other = next I W e;
     late = Within (e ∷ []) [] refl refl refl;
     kept = record {
@@ -75,12 +76,13 @@ module _ (I : Image) (folder : Folder) (W V : World) (h : History) (before : Cor
     flag = still_calm ∙ sym (ap (λ b. faulted_next b e) calm ∙ quiet);
     moments = since_start (OnTheWay I W V (e ∷ [])) h (λ c left. ⊎_elim (λ r. inr (at_start I W (e ∷ []) c r)) (λ r. inl r)
         (recovers_now I folder W V h kept.disk c left));
-  }
+    touches = own_none I (e ∷ []) h;
+  })
 
   -- While a call of the disk has failed: not acknowledged.
   pub ran_unsaid : now.faulted ≡ before.faulted → faulted_next before.faulted e ≡ before.faulted → acknowledges I W e ≡ false
       → (before.faulted ≡ true → is_running now.job ≡ false) → Ran I folder W V (e ∷ []) h h before now
-  ran_unsaid same_flag quiet unsaid still = record {
+  ran_unsaid same_flag quiet unsaid still = stepped I folder W V e h h before now kept.disk (record {
     other = V;
     late = Before refl (or_false _ _ unsaid refl);
     kept = record {
@@ -102,7 +104,8 @@ module _ (I : Image) (folder : Folder) (W V : World) (h : History) (before : Cor
     flag = same_flag ∙ sym quiet;
     moments = since_start (OnTheWay I W V (e ∷ [])) h (λ c left. ⊎_elim (λ r. inr (at_start I W (e ∷ []) c r)) (λ r. inl r)
         (recovers_now I folder W V h kept.disk c left));
-  }
+    touches = own_none I (e ∷ []) h;
+  })
 
 -- Where no call of the disk has failed since an opening each image recovers to the world.
 pub calm_images : (I : Image) (folder : Folder) (W V : World) (h : History) (core : CoreState) → core.faulted ≡ false → Kept I folder W V h core

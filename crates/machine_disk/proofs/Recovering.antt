@@ -18,19 +18,22 @@ use Rattle.machine_disk.specs.Store as stored
 use Rattle.version_links.specs.declared.chain.Place.{Place}
 use Rattle.machine_disk.specs.Store.{bytes_at, HasStore, IsReadyAt}
 use Rattle.machine_disk.specs.Kept.{Folder, DiskAt}
+use Rattle.machine_disk.specs.Touched.{TouchesOwn}
 use Rattle.machine_disk.specs.Ran.{OnTheWay}
 use Rattle.version_links.proofs.Chains.{resolves_one}
 use Rattle.machine_disk.proofs.Runs.{at_start}
 use Rattle.machine_disk.proofs.Settled.{SameLinks, resolves_same}
 use Rattle.machine_disk.proofs.Apart.{IsApart, dir_apart}
+use Rattle.machine_disk.proofs.Touched.{own_below}
 use Rattle.machine_disk.proofs.FromSync.{IsThereElsewhere, from_sync}
 
--- After a recovery the disk is at the same world alone, and the store of one of format 2 is ready.
+-- After a recovery the disk is at the same world alone, and the store of one of format 2 is ready. Nothing but the data directory is touched.
 pub record Recovered (I : Image) (folder : Folder) (W V : World) (place : Place) (old new : History) : Type 0 where
   pub disk : DiskAt I folder W W new
   pub ready : W.format ≡ 2 → IsReadyAt place W.held new
   pub settled : IsSettled new
   pub moments : EachSince (OnTheWay I W V []) old new
+  pub touches : TouchesOwn I [] old new
 
 module _ (I : Image) (folder : Folder) (W V : World) (old new : History) (disk : DiskAt I folder W V old) (place : Place)
     (leads : Resolves (tree_of old) (found place.version place.directory)) (there : Bool) (recovers : Recovers place.directory (Ok there) old new) where
@@ -103,4 +106,5 @@ module _ (I : Image) (folder : Folder) (W V : World) (old new : History) (disk :
     moments = from_sync I folder W V [] old new disk place.directory (TreeStandsFor place.directory files)
         (λ c both. inr (at_start I W [] c (recovers_to c both)))
         recovers.sync_first (recovers.keeps files stands_for);
+    touches = own_below I [] old new place.version place.directory leads recovers.others.touches;
   }

@@ -18,8 +18,11 @@ use Rattle.settings_machine.proofs.Sequences.{faulted-append, or_false, after-ap
 use Rattle.version_links.specs.declared.chain.Place.{Place}
 use Rattle.machine_disk.specs.Store.{Recovers, IsReadyAt}
 use Rattle.machine_disk.specs.Kept.{Folder, DiskAt, CoreState, Kept}
+use Rattle.machine_disk.specs.Touched.{TouchesOwn}
 use Rattle.machine_disk.proofs.Settled.{settled_store}
-use Rattle.machine_disk.specs.Ran.{AtPrefix, AtLatePrefix, IsLate, Before, Within, OnTheWay, Ran, IsSlice, IsDriven, OpensTo, OpensNot}
+use Rattle.machine_disk.proofs.Moments.{none_moments, one_moments, more_moments}
+use Rattle.machine_disk.proofs.Touched.{own_none, own_of_any, own_more}
+use Rattle.machine_disk.specs.Ran.{AtPrefix, AtLatePrefix, IsLate, Before, Within, OnTheWay, HasMoments, Ran, IsSlice, IsDriven, OpensTo, OpensNot}
 
 -- ---- the format, which openings leave alone
 
@@ -124,15 +127,48 @@ module _ (I : Image) where
 
   -- ---- one call after another
 
+  -- The moments of one event, from where the disk is before and after it.
+  pub disk_moments : (folder : Folder) (W V : World) (e : Event) (old new : History) (other : World) → DiskAt I folder W V old
+      → DiskAt I folder (after I W (e ∷ [])) other new → IsLate I W V (e ∷ []) other → EachSince (OnTheWay I W V (e ∷ [])) old new
+      → HasMoments I W V (e ∷ []) old new
+  disk_moments folder W V e old new other start now late since = one_moments I W V old new e other start.store start.etc now.store now.etc
+      (recovers_now folder (after I W (e ∷ [])) other new now) late since
+
+  -- What one event made, but for its moments.
+  pub record Stepped (folder : Folder) (W V : World) (e : Event) (old new : History) (before now : CoreState) : Type 0 where
+    pub other : World
+    pub late : IsLate I W V (e ∷ []) other
+    pub kept : Kept I folder (after I W (e ∷ [])) other new now
+    pub flag : now.faulted ≡ faulted_next before.faulted e
+    pub moments : EachSince (OnTheWay I W V (e ∷ [])) old new
+    pub touches : TouchesOwn I (e ∷ []) old new
+
+  -- These follow from where the disk was.
+  pub stepped : (folder : Folder) (W V : World) (e : Event) (old new : History) (before now : CoreState) → DiskAt I folder W V old
+      → Stepped folder W V e old new before now → Ran I folder W V (e ∷ []) old new before now
+  stepped folder W V e old new before now start s = record {
+    other = s.other;
+    late = s.late;
+    kept = s.kept;
+    flag = s.flag;
+    moments = s.moments;
+    keeps = disk_moments folder W V e old new s.other start s.kept.disk s.late s.moments;
+    touches = s.touches;
+  }
+
   -- Before the first event.
   pub ran_none : (folder : Folder) (W V : World) (h : History) (core : CoreState) → Kept I folder W V h core → Ran I folder W V [] h h core core
-  ran_none folder W V h core kept = record {
-    other = V;
-    late = Before refl refl;
-    kept = kept;
-    flag = refl;
-    moments = since_start (OnTheWay I W V []) h (way_now folder W V [] h kept.disk);
-  }
+  ran_none folder W V h core kept =
+      let way : EachSince (OnTheWay I W V []) h h = since_start (OnTheWay I W V []) h (way_now folder W V [] h kept.disk) in
+      record {
+        other = V;
+        late = Before refl refl;
+        kept = kept;
+        flag = refl;
+        moments = way;
+        keeps = none_moments I W V h h kept.disk.store kept.disk.etc way;
+        touches = own_none I [] h;
+      }
 
   -- One call after another.
   pub ran_more : (folder : Folder) (W V : World) (es fs : List Event) (old mid new : History) (before between now : CoreState)
@@ -147,19 +183,22 @@ module _ (I : Image) where
         (since_map (OnTheWay I W V es) (OnTheWay I W V (es ++ fs)) old mid (λ c way. way_of_more W V es fs c way) one.moments)
         (since_map (OnTheWay I (after I W es) one.other fs) (OnTheWay I W V (es ++ fs)) mid new (λ c way. way_after W V one.other es fs c one.late way)
         two.moments);
+    keeps = more_moments I W V one.other es fs one.late old mid new one.keeps one.moments two.keeps two.moments;
+    touches = own_more I es fs old mid new one.touches two.touches;
   }
 
   -- An event that changes nothing and acknowledges nothing.
   pub ran_idle : (folder : Folder) (W V : World) (e : Event) (h : History) (core : CoreState) → Kept I folder W V h core → next I W e ≡ W
       → acknowledges I W e ≡ false → faulted_next core.faulted e ≡ core.faulted
       → Ran I folder W V (e ∷ []) h h core core
-  ran_idle folder W V e h core kept same none flag = record {
+  ran_idle folder W V e h core kept same none flag = stepped folder W V e h h core core kept.disk (record {
     other = V;
     late = Before refl (or_false _ _ none refl);
     kept = subst (λ (Z : World). Kept I folder Z V h core) (sym same) kept;
     flag = sym flag;
     moments = since_start (OnTheWay I W V (e ∷ [])) h (way_now folder W V (e ∷ []) h kept.disk);
-  }
+    touches = own_none I (e ∷ []) h;
+  })
 
   -- A request that was refused in reading.
   pub ran_unread : (folder : Folder) (W V : World) (h : History) (core : CoreState) → Kept I folder W V h core → Ran I folder W V (Unread ∷ []) h h core core
@@ -194,6 +233,8 @@ module _ (I : Image) where
     kept = opens_kept folder W V boot place held old new core opens place_is held_is job calm;
     flag = calm;
     moments = opens.moments;
+    keeps = opens.keeps;
+    touches = opens.touches;
   }
 
   -- And so is one that failed.
@@ -213,14 +254,17 @@ module _ (I : Image) where
     };
     flag = faulted;
     moments = not_opened.moments;
+    keeps = not_opened.keeps;
+    touches = not_opened.touches;
   }
 
   -- A reopening that was refused adds no opening to the events; it may have carried out a change that was cut off.
   pub refused_ran : (folder : Folder) (W V : World) (q : Request) (at : List ℕ) (old new : History) (core : CoreState) → core.faulted ≡ true
       → Kept I folder W V old core
-      → DiskAt I folder W W new → EachSince (OnTheWay I W V []) old new → Ran I folder W V (Asked q (Unopened at) ∷ []) old new core core
+      → DiskAt I folder W W new → EachSince (OnTheWay I W V []) old new → TouchesOwn I [] old new
+      → Ran I folder W V (Asked q (Unopened at) ∷ []) old new core core
   unfolding request_next
-  refused_ran folder W V q at old new core faulted kept disk moments = record {
+  refused_ran folder W V q at old new core faulted kept disk moments touches = stepped folder W V (Asked q (Unopened at)) old new core core kept.disk (record {
     other = W;
     late = Within [] (Asked q (Unopened at) ∷ []) refl refl refl;
     kept = record {
@@ -232,7 +276,8 @@ module _ (I : Image) where
     flag = refl;
     moments = since_map (OnTheWay I W V []) (OnTheWay I W V (Asked q (Unopened at) ∷ [])) old new
         (λ t way. way_of_more W V [] (Asked q (Unopened at) ∷ []) t way) moments;
-  }
+    touches = own_of_any I (Asked q (Unopened at) ∷ []) old new touches;
+  })
 
   -- ---- turns
 

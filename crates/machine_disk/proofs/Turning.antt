@@ -6,6 +6,7 @@ use Rattle.std.specs.FinMap.{get}
 use Rattle.std.specs.Prelude.{codes}
 use Rattle.outside.specs.Names.{Names, path_cmp, is_below}
 use Rattle.outside.specs.Tree.{Node, node_at, set_node, file_in, AgreeOn}
+use Rattle.outside.specs.Since.{EachSince}
 use Rattle.outside.specs.History.{scribbled, synced, History, next as then, tree_of, MayLeave, IsSettledOn}
 use Rattle.outside.proofs.Crash.{settled_image, settled_synced}
 use Rattle.outside.proofs.Since.{since_start, since_next}
@@ -23,10 +24,13 @@ use Rattle.settings_machine.proofs.Sequences.{or_false}
 use Rattle.settings_machine.proofs.Lasting.{put_here, put_other}
 use Rattle.machine_disk.specs.Store.{is_store, bytes_at, HasStore, Recovers, IsReadyAt}
 use Rattle.machine_disk.specs.Kept.{Folder, CoreState, Kept}
+use Rattle.machine_disk.specs.Touched.{HasTurn}
 use Rattle.machine_disk.specs.Ran.{Before, Within, OnTheWay, Ran}
-use Rattle.machine_disk.proofs.Runs.{at_start, recovers_now}
+use Rattle.machine_disk.proofs.Moments.{none_moments}
+use Rattle.machine_disk.proofs.Runs.{at_start, recovers_now, stepped}
 use Rattle.machine_disk.proofs.Quiet.{IsAlike, alike_store}
 use Rattle.machine_disk.proofs.Apart.{first_name}
+use Rattle.machine_disk.proofs.Touched.{own_none, own_synced, own_written}
 use Rattle.machine_disk.proofs.Settled.{settled_store, store_same, ready_elsewhere}
 
 -- ---- a sync
@@ -60,11 +64,15 @@ ran_synced I folder W V h core kept = record {
     };
   };
   flag = refl;
-  moments = since_next (OnTheWay I W V []) h h synced
+  moments = way;
+  keeps = none_moments I W V h (then synced h) kept.disk.store kept.disk.etc way;
+  touches = own_synced I [] h;
+} where
+  way : EachSince (OnTheWay I W V []) h (then synced h)
+  way = since_next (OnTheWay I W V []) h h synced
       (since_start (OnTheWay I W V []) h (λ c left. ⊎_elim (λ r. inr (at_start I W [] c r)) (λ r. inl r) (recovers_now I folder W V h kept.disk c left)))
       (λ c left. inr (at_start I W [] c (subst (Recovers I W) (sym (settled_image (then synced h) (settled_synced h) c left))
-      (record { store = kept.disk.store; etc = λ path is. inl (kept.disk.etc.each path is) }))));
-}
+      (record { store = kept.disk.store; etc = λ path is. inl (kept.disk.etc.each path is) }))))
 
 -- ---- a call that failed and changed nothing, as a sync
 
@@ -72,7 +80,7 @@ pub ran_failed : (I : Image) (folder : Folder) (W V : World) (h : History) (befo
     → IsAlike W (next I W e) → IsFit I (next I W e)
     → now.job ≡ (next I W e).job → now.faulted ≡ true → faulted_next before.faulted e ≡ true → acknowledges I W e ≡ false → is_running now.job ≡ false
     → Ran I folder W V (e ∷ []) h h before now
-ran_failed I folder W V h before kept e now alike fit job faulted fault unsaid stopped = record {
+ran_failed I folder W V h before kept e now alike fit job faulted fault unsaid stopped = stepped I folder W V e h h before now kept.disk (record {
   other = V;
   late = Before refl (or_false _ _ unsaid refl);
   kept = record {
@@ -94,7 +102,8 @@ ran_failed I folder W V h before kept e now alike fit job faulted fault unsaid s
   flag = faulted ∙ sym fault;
   moments = since_start (OnTheWay I W V (e ∷ [])) h (λ c left. ⊎_elim (λ r. inr (at_start I W (e ∷ []) c r)) (λ r. inl r)
       (recovers_now I folder W V h kept.disk c left));
-}
+  touches = own_none I (e ∷ []) h;
+})
 
 -- ---- a write of a file
 
@@ -110,7 +119,7 @@ apart folder other p q in_folder in_other differ = ⊎_elim (λ same. absurd (di
       cc e
 
 module _ (I : Image) (folder : Folder) (W V : World) (old : History) (before : CoreState) (kept : Kept I folder W V old before) (calm : before.faulted ≡ false)
-    (e : Event) (path : Names) (below : is_etc path ≡ true) (due : IsDuePath I W.held path) (node : Option Node)
+    (e : Event) (turn : HasTurn (e ∷ [])) (path : Names) (below : is_etc path ≡ true) (due : IsDuePath I W.held path) (node : Option Node)
     (version : (next I W e).version ≡ W.version) (format : (next I W e).format ≡ W.format) (held : (next I W e).held ≡ W.held)
     (etc : (next I W e).etc ≡ with_file W.etc path (file_in node))
     (fit : IsFit I (next I W e)) where
@@ -183,7 +192,7 @@ module _ (I : Image) (folder : Folder) (W V : World) (old : History) (before : C
       → (now.faulted ≡ true → is_running now.job ≡ false)
       → Ran I folder W V (e ∷ []) old (then (scribbled path node) old) before now
   unfolding wrote
-  ran_wrote now place held' job flag still = record {
+  ran_wrote now place held' job flag still = stepped I folder W V e old (then (scribbled path node) old) before now kept.disk (record {
     other = next I W e;
     late = Within (e ∷ []) [] refl refl refl;
     kept = record {
@@ -215,4 +224,5 @@ module _ (I : Image) (folder : Folder) (W V : World) (old : History) (before : C
           etc =
               λ q is. still_due q (node_at c q) is (left q);
         })));
-  }
+    touches = own_written I (e ∷ []) turn path node old (record { file = due.file; path_is = due.path_is; below = below });
+  })

@@ -10,6 +10,7 @@ use Rattle.settings_machine.specs.Events.{Event, Opened, Succeeded, after, are_s
 use Rattle.settings_machine.specs.Paid.{IsGood}
 use Rattle.machine_disk.specs.Store.{HasStore, Recovers}
 use Rattle.machine_disk.specs.Kept.{Folder, DiskAt, CoreState, Kept}
+use Rattle.machine_disk.specs.Touched.{TouchesOwn}
 use Rattle.machine_disk.specs.Ran.{Ran, OpensTo, RunsTo}
 
 -- A call that goes on from where another ended makes one run with it.
@@ -26,6 +27,12 @@ abbrev pub RunsAreWhole : Type 0
 RunsAreWhole = (I : Image) → IsGood I → (folder : Folder) (W : World) (boot : Bool) (events : List Event) (old mid new : History) (place : Place) (held : Held)
     (before now : CoreState) → is_running W.job ≡ false → OpensTo I folder W W boot place held old mid → before.faulted ≡ false → are_served events ≡ true
     → Ran I folder (opened I W boot) (opened I W boot) events mid new before now → RunsTo I folder W (Opened boot Succeeded ∷ events) old new
+
+-- Such a run touches only what is below the data directory and, where a turn is among its events, files of the manifest.
+abbrev pub RunsTouchOwn : Type 0
+RunsTouchOwn = (I : Image) (folder : Folder) (W : World) (boot : Bool) (events : List Event) (old mid new : History) (place : Place) (held : Held)
+    (before now : CoreState) → OpensTo I folder W W boot place held old mid
+    → Ran I folder (opened I W boot) (opened I W boot) events mid new before now → TouchesOwn I (Opened boot Succeeded ∷ events) old new
 
 -- Where no call of the disk has failed since the last opening that succeeded, the disk is at the world alone.
 abbrev pub CalmDisksSettle : Type 0

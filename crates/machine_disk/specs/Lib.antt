@@ -1,4 +1,5 @@
 pub mod Store
 pub mod Kept
+pub mod Touched
 pub mod Ran
 pub mod Laws

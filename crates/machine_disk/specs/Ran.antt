@@ -15,6 +15,7 @@ use Rattle.version_links.specs.declared.chain.Place.{Place}
 use Rattle.machine_disk.specs.Store.{HasStore, HasFiles, Recovers, IsReadyAt}
 use Rattle.settings_tree.specs.declared.held.Held.{Held}
 use Rattle.machine_disk.specs.Kept.{Folder, DiskAt, CoreState, Kept}
+use Rattle.machine_disk.specs.Touched.{TouchesOwn}
 
 -- A crash that leaves this image recovers to the world after the first of the events.
 pub record AtPrefix (I : Image) (W : World) (events : List Event) (image : Tree) : Type 0 where
@@ -37,13 +38,37 @@ pub data IsLate (I : Image) (W V : World) (events : List Event) (X : World) : Ty
 abbrev pub OnTheWay : Image → World → World → List Event → Tree → Type 0
 OnTheWay I W V events image = Recovers I V image ⊎ AtPrefix I W events image
 
--- From W the events lead on, on the disk and in the core.
+-- A crash that leaves this image recovers to the world after a prefix of the events, and none of the first ones that it leaves out is acknowledged.
+pub record AtPrefixPast (I : Image) (W : World) (first events : List Event) (image : Tree) : Type 0 where
+  pub prefix : AtPrefix I W events image
+  pub none_lost : (rest : List Event) → first ≡ prefix.first ++ rest → acknowledges_any I (after I W prefix.first) rest ≡ false
+
+-- A crash recovers to such a world; or to V, and then none of the first events is acknowledged.
+abbrev pub KeepsFirst : Image → World → World → List Event → List Event → Tree → Type 0
+KeepsFirst I W V first events image = (Recovers I V image × (acknowledges_any I W first ≡ false)) ⊎ AtPrefixPast I W first events image
+
+-- The moment of a run at which the first of its events were made: the tree represents the world after them, and a crash at any moment since keeps
+-- what is acknowledged of them.
+pub record Moment (I : Image) (W V : World) (first events : List Event) (old new : History) : Type 0 where
+  pub then_is : History
+  pub reached : EachSince (λ image. Unit {0}) old then_is
+  pub store : HasStore (after I W first) (tree_of then_is)
+  pub etc : HasFiles (after I W first).etc (tree_of then_is)
+  pub keeps : EachSince (KeepsFirst I W V first events) then_is new
+
+-- There is such a moment for each prefix of the events.
+abbrev pub HasMoments : Image → World → World → List Event → History → History → Type 0
+HasMoments I W V events old new = (first rest : List Event) → events ≡ first ++ rest → Moment I W V first events old new
+
+-- From W the events lead on, on the disk and in the core, and no path is touched but their own.
 pub record Ran (I : Image) (folder : Folder) (W V : World) (events : List Event) (old new : History) (before now : CoreState) : Type 0 where
   pub other : World
   pub late : IsLate I W V events other
   pub kept : Kept I folder (after I W events) other new now
   pub flag : now.faulted ≡ faulted_after before.faulted events
   pub moments : EachSince (OnTheWay I W V events) old new
+  pub keeps : HasMoments I W V events old new
+  pub touches : TouchesOwn I events old new
 
 -- ---- the forms of the calls
 
@@ -80,13 +105,15 @@ IsDriven I W (_ ∷ es) = ⊥
 -- ---- openings
 
 -- An opening that succeeded: the disk is at the opened world alone, which is fit and of format 2, and the store is ready at its
--- place with what is held.
+-- place with what is held. Nothing but the data directory is touched.
 pub record OpensTo (I : Image) (folder : Folder) (W V : World) (boot : Bool) (place : Place) (held : Held) (old new : History) : Type 0 where
   pub fit : IsFit I (opened I W boot)
   pub format : W.format ≡ 2
   pub disk : DiskAt I folder (opened I W boot) (opened I W boot) new
   pub ready : IsReadyAt place held new
   pub moments : EachSince (OnTheWay I W V (Opened boot Succeeded ∷ [])) old new
+  pub keeps : HasMoments I W V (Opened boot Succeeded ∷ []) old new
+  pub touches : TouchesOwn I (Opened boot Succeeded ∷ []) old new
 
 -- One that failed was taken or not.
 pub record OpensNot (I : Image) (folder : Folder) (W V : World) (boot : Bool) (old new : History) : Type 0 where
@@ -95,6 +122,8 @@ pub record OpensNot (I : Image) (folder : Folder) (W V : World) (boot : Bool) (o
   pub late : IsLate I W V (Opened boot (Failing taken) ∷ []) other
   pub disk : DiskAt I folder (after I W (Opened boot (Failing taken) ∷ [])) other new
   pub moments : EachSince (OnTheWay I W V (Opened boot (Failing taken) ∷ [])) old new
+  pub keeps : HasMoments I W V (Opened boot (Failing taken) ∷ []) old new
+  pub touches : TouchesOwn I (Opened boot (Failing taken) ∷ []) old new
 
 -- ---- a run
 
@@ -131,6 +160,7 @@ pub record RunsTo (I : Image) (folder : Folder) (W : World) (events : List Event
   pub etc : HasFiles (after I W events).etc (tree_of new)
   pub paid : EachPaid I W events
   pub any_moment : EachSince (AtPrefix I W events) old new
+  pub keeps : HasMoments I W W events old new
   pub at_exit : EachImage (AtLatePrefix I W events) new
   pub image_paid : EachSince (AtPaidPrefix I W events) old new
   pub settles : faulted_after false events ≡ false → DiskAt I folder (after I W events) (after I W events) new

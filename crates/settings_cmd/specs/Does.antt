@@ -1,9 +1,10 @@
 -- What each order does, by what the devices tell before and after.
-use Rattle.std.specs.Prelude.{Option, List}
+use Rattle.std.specs.Prelude.{ℕ, Option, List}
 use Rattle.outside.specs.Door.{DoorState}
 use Rattle.outside.specs.Exchange.{Exchange}
 use Rattle.outside.specs.History.{History}
 use Rattle.outside.specs.Spawner.{Run, Question}
+use Rattle.api_server.specs.Causes.{FaultCounts, fault_counts}
 use Rattle.command_outcome.specs.Ends.{Outcome}
 use Rattle.command_words.specs.Orders.{Order, init, serve, set, get, apply, check, migrate, prune, load, generate, user_data}
 use Rattle.core_commands.specs.Carried.{Carried as Commanded, set_requests, apply_requests}
@@ -11,23 +12,41 @@ use Rattle.core_commands.specs.Lines.{IsSettingsLine, IsJobLine}
 use Rattle.settings_cmd.specs.Carried.{Carried, IsBegun, IsGot, IsChecked, IsMigrated, IsPruned, GeneratesOrNot, IsProvided, IsLoaded}
 use Rattle.settings_cmd.specs.Serving.{HasServed, HasAccepted}
 
--- The disk's history, what the door has accepted and its connections, the programs that were asked, and those that were run, each where its device tells it.
+-- How often disk, door and spawner have failed.
+pub record Faults : Type 0 where
+  pub disk : ℕ
+  pub door : ℕ
+  pub spawner : ℕ
+
+-- These three.
+abbrev pub faults : ℕ → ℕ → ℕ → Faults
+faults disk door spawner = record { disk = disk; door = door; spawner = spawner }
+
+-- Those of the disk and of the spawner, which fail in events of the machine.
+abbrev pub counts_of : Faults → FaultCounts
+counts_of f = fault_counts f.disk f.spawner
+
+-- The disk's history, what the door has accepted and its connections, the programs that were asked, and those that were run, each where its device tells it;
+-- and how often the devices have failed.
 pub record Devices : Type 0 where
   pub disk : Option History
   pub door : DoorState
   pub connections : Option (List Exchange)
   pub asked : Option (List Question)
   pub runs : Option (List Run)
+  pub faults : Faults
 
--- These five.
-abbrev pub devices : Option History → DoorState → Option (List Exchange) → Option (List Question) → Option (List Run) → Devices
-devices disk door connections asked runs = record { disk = disk; door = door; connections = connections; asked = asked; runs = runs }
+-- These six.
+abbrev pub devices : Option History → DoorState → Option (List Exchange) → Option (List Question) → Option (List Run) → Faults → Devices
+devices disk door connections asked runs failed =
+    record { disk = disk; door = door; connections = connections; asked = asked; runs = runs; faults = failed }
 
 -- The order is carried out, and comes to this.
 abbrev pub Does : Order → Outcome → Devices → Devices → Type 0
 Does (init version) outcome old new = Carried (IsBegun version) outcome old.disk new.disk
 Does (serve boot slice connections) outcome old new =
-    HasServed boot slice old.connections new.connections old.runs new.runs outcome old.disk new.disk × HasAccepted connections outcome old.door new.door
+    HasServed boot slice (counts_of old.faults) (counts_of new.faults) old.connections new.connections old.runs new.runs outcome old.disk new.disk
+    × HasAccepted connections outcome old.door new.door
 Does (set pairs) outcome old new = Commanded (set_requests pairs) IsSettingsLine outcome old.runs new.runs old.disk new.disk
 Does (get keys) outcome old new = Carried (IsGot keys) outcome old.disk new.disk
 Does apply outcome old new = Commanded apply_requests IsJobLine outcome old.runs new.runs old.disk new.disk

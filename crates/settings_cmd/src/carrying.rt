@@ -5,7 +5,7 @@ ghost use Rattle.outside.specs.Spawner.{texts};
 ghost use Rattle.core_commands.specs.Handing.{HasSpawnCause};
 ghost use Rattle.command_words.specs.Orders.{Order, Spells, SpellsNone};
 ghost use Rattle.settings_cmd.specs.Carried.{Carried, IsMisused, ServesNot, RunsNothing, AsksNothing};
-ghost use Rattle.settings_cmd.specs.Does.{Does, devices};
+ghost use Rattle.settings_cmd.specs.Does.{Does, devices, faults};
 
 use crate::beginning::begin;
 use crate::checking::check;
@@ -40,8 +40,10 @@ pub fn carry_out<D: Disk, S: Asker, N: Door>(
     requires unused { (N.state door.old).accepted ≡ 0 }
     ensures usage { SpellsNone (texts words.now) → Carried IsMisused result (D.told disk.old) (D.told disk.new) }
     ensures does { (order : Order) → Spells (texts words.now) order → Does order result
-        (devices (D.told disk.old) (N.state door.old) (N.told door.old) (S.asked spawner.old) (S.runs spawner.old))
-        (devices (D.told disk.new) (N.state door.new) (N.told door.new) (S.asked spawner.new) (S.runs spawner.new)) }
+        (devices (D.told disk.old) (N.state door.old) (N.told door.old) (S.asked spawner.old) (S.runs spawner.old)
+        (faults (D.faults disk.old) (N.faults door.old) (S.faults spawner.old)))
+        (devices (D.told disk.new) (N.state door.new) (N.told door.new) (S.asked spawner.new) (S.runs spawner.new)
+        (faults (D.faults disk.new) (N.faults door.new) (S.faults spawner.new))) }
     ensures unasked { AsksNothing (texts words.now) → S.asked spawner.new ≡ S.asked spawner.old }
     ensures unrun { RunsNothing (texts words.now) → S.runs spawner.new ≡ S.runs spawner.old }
     ensures shut { ServesNot (texts words.now) → N.told door.new ≡ N.told door.old }

@@ -2,6 +2,7 @@
 ghost use Rattle.std.specs.Prelude.{◌≡◌, ◌≤◌, Ok, [], false, IsErrOf};
 ghost use Rattle.outside.specs.Faults.{Rose};
 ghost use Rattle.store_open.specs.Opening.{IsSoundOpened};
+ghost use Rattle.api_server.specs.Causes.{fault_counts};
 ghost use Rattle.settings_cmd.specs.Serving.{served, IsServed, HasAccepted};
 
 use api_core::Core;
@@ -39,8 +40,8 @@ pub(crate) fn serve_store<D: Disk, S: Spawner, N: Door>(
 ) -> Result<Bytes, Refusal>
     requires idle { (N.state door.old).busy ≡ false }
     requires unused { (N.state door.old).accepted ≡ 0 }
-    ensures served { IsServed boot slice (N.told door.old) (N.told door.new) (S.runs spawner.old) (S.runs spawner.new) result (D.told disk.old)
-        (D.told disk.new) }
+    ensures served { IsServed boot slice (fault_counts (D.faults disk.old) (S.faults spawner.old)) (fault_counts (D.faults disk.new) (S.faults spawner.new))
+        (N.told door.old) (N.told door.new) (S.runs spawner.old) (S.runs spawner.new) result (D.told disk.old) (D.told disk.new) }
     ensures idle { (N.state door.new).busy ≡ false }
     ensures accepted { HasAccepted connections result (N.state door.old) (N.state door.new) }
     ensures disk_fault { IsErrOf result Refusal.Disk → Rose (D.faults disk.old) (D.faults disk.new) }

@@ -1,54 +1,18 @@
 -- Where a command has ended well, no call of the disk has failed since its opening.
 use Rattle.std.proofs.Common.{◌≡◌, inl, inr, ℕ, Bool, true, false, List, [], ◌∷◌, ◌++◌, Ok, Err, OnOk, refl, ◌∙◌, ap}
-use Rattle.settings_machine.specs.World.{Image, World, Work, Job, Idle, Failed, Running, is_running}
+use Rattle.settings_machine.specs.World.{Image, World, Idle, Failed, is_running}
 use Rattle.settings_machine.specs.Requests.{Request}
-use Rattle.settings_machine.specs.Step.{Answer, Fine, NoRoom, FileFault, NoSpawn, SyncFault}
-use Rattle.settings_machine.specs.Step.{OwedFault, Command, after_files_turn, work_turn, job_turn, turn_next, opened}
+use Rattle.settings_machine.specs.Step.{turn_next, opened}
 use Rattle.settings_machine.specs.Events.{Event, Opened, Asked, Unread, Turned, Began, Moved, is_disk_fault, after, faulted_after}
 use Rattle.settings_machine.specs.declared.cause.Cause.{Cause}
 use Rattle.settings_machine.specs.declared.cause.Cause.TheVariants as cause
 use Rattle.settings_machine.proofs.Sequences.{faulted-append}
 use Rattle.machine_disk.specs.Ran.{IsDriven}
+use Rattle.api_server.proofs.Slices.{turn_fails}
 use Rattle.command_outcome.specs.Ends.{Outcome}
 use Rattle.core_commands.specs.Asking.{asked_all}
 use Rattle.core_commands.specs.Carried.{HasEnded}
 use Rattle.settings_run.specs.Laws.{RequestEvents, GetEvents}
-
--- ---- a turn in which the disk failed
-
-module _ (I : Image) (W : World) where
-  commands_fail : (w : Work) (cs : List Command) (a : Answer) → is_disk_fault a ≡ true → (after_files_turn I W cs w a).job ≡ Failed cause.Disk
-  commands_fail w [] (FileFault left) fault = refl
-  commands_fail w [] SyncFault fault = refl
-  commands_fail w [] (OwedFault stored) fault = refl
-  commands_fail w [] (Fine status) fault = absurd (cc fault)
-  commands_fail w [] NoRoom fault = absurd (cc fault)
-  commands_fail w [] NoSpawn fault = absurd (cc fault)
-  commands_fail w (c ∷ cs) (FileFault left) fault = refl
-  commands_fail w (c ∷ cs) SyncFault fault = refl
-  commands_fail w (c ∷ cs) (OwedFault stored) fault = refl
-  commands_fail w (c ∷ cs) (Fine status) fault = absurd (cc fault)
-  commands_fail w (c ∷ cs) NoRoom fault = absurd (cc fault)
-  commands_fail w (c ∷ cs) NoSpawn fault = absurd (cc fault)
-
-  work_fails : (w : Work) (files : List (List ℕ)) (a : Answer) → is_disk_fault a ≡ true → (work_turn I W files w a).job ≡ Failed cause.Disk
-  work_fails w [] a fault = commands_fail w w.commands a fault
-  work_fails w (f ∷ fs) (FileFault left) fault = refl
-  work_fails w (f ∷ fs) SyncFault fault = refl
-  work_fails w (f ∷ fs) (OwedFault stored) fault = refl
-  work_fails w (f ∷ fs) (Fine status) fault = absurd (cc fault)
-  work_fails w (f ∷ fs) NoRoom fault = absurd (cc fault)
-  work_fails w (f ∷ fs) NoSpawn fault = absurd (cc fault)
-
-  job_fails : (j : Job) (a : Answer) → is_running j ≡ true → is_disk_fault a ≡ true → (job_turn I W j a).job ≡ Failed cause.Disk
-  job_fails Idle a running fault = absurd (cc running)
-  job_fails (Failed c) a running fault = absurd (cc running)
-  job_fails (Running w) a running fault = work_fails w w.files a fault
-
-  -- It fails the job.
-  turn_fails : (a : Answer) → is_running W.job ≡ true → is_disk_fault a ≡ true → (turn_next I W a).job ≡ Failed cause.Disk
-  unfolding turn_next
-  turn_fails a running fault = job_fails W.job a running fault
 
 -- ---- turns until no job runs
 

@@ -18,7 +18,8 @@ use Rattle.settings_machine.proofs.PaidLaws.{openings_pay, booted_paid}
 use Rattle.machine_disk.specs.Kept.{Folder, Kept}
 use Rattle.machine_disk.specs.Ran.{Before, StayPaid, OpensTo, OpensNot, RunsBy}
 use Rattle.machine_disk.proofs.Runs.{ran_none, opens_kept}
-use Rattle.machine_disk.proofs.Prefixes.{none_paid, one_paid, whole, runs_to}
+use Rattle.machine_disk.proofs.Moments.{none_moments}
+use Rattle.machine_disk.proofs.Prefixes.{none_paid, one_paid, whole, runs_touch, runs_to}
 use Rattle.machine_disk.proofs.Meanings.{core_holds}
 use Rattle.store_open.specs.Laws.{IsImageOfFolder, HoldsImage, IsKeptAt, IsRefusal}
 use Rattle.store_open.specs.Opening.{Opens}
@@ -32,6 +33,7 @@ use Rattle.core_commands.specs.Lines.{IsSettingsLine, IsJobLine}
 use Rattle.core_commands.specs.Carried.{set_requests, apply_requests, core_over, Follows, GoesOn, FollowsOpening}
 use Rattle.core_commands.specs.Handing.{not_opened}
 use Rattle.settings_cmd.specs.Gets.{Answers, AnswersOpening}
+use Rattle.api_server.specs.Causes.{FaultCounts}
 use Rattle.settings_cmd.specs.Serving.{served, ServesOn, Serves, FollowsOpening as FollowsServing}
 use Rattle.settings_run.specs.Laws.{Begins, IsRun, IsUnopened, RequestEvents, RequestsRun, SetsRun, AppliesRun, ServeEvents, ServesRun, GetEvents, GetsRun}
 use Rattle.settings_run.proofs.Served.{comes_served, all_served}
@@ -71,7 +73,8 @@ module _ (I : Image) (good : IsGood I) (folder : Folder) (is : IsImageOfFolder I
       events = Opened boot (Failing not.taken) ∷ [];
       form_is = formed _ (inl (not.taken, refl, told));
       runs_to = whole I good folder W (Opened boot (Failing not.taken) ∷ []) old new not.other not.disk not.late
-          (one_paid I W (Opened boot (Failing not.taken)) (failed_pays boot not.taken)) not.moments (λ e. absurd (cc e));
+          (one_paid I W (Opened boot (Failing not.taken)) (failed_pays boot not.taken)) not.moments not.keeps (λ e. absurd (cc e));
+      touches = not.touches;
       ran = same_runs W (after I W (Opened boot (Failing not.taken) ∷ [])) (failing_runs not.taken);
     }
 
@@ -81,7 +84,9 @@ module _ (I : Image) (good : IsGood I) (folder : Folder) (is : IsImageOfFolder I
         record {
           events = [];
           form_is = formed [] (inr (refl, e, refusal, told));
-          runs_to = whole I good folder W [] old new W kept.disk (Before refl refl) (none_paid I W) kept.moments (λ e. kept.disk);
+          runs_to = whole I good folder W [] old new W kept.disk (Before refl refl) (none_paid I W) kept.moments
+              (none_moments I W W old new begins.disk.store begins.disk.etc kept.moments) (λ e. kept.disk);
+          touches = kept.touches;
           ran = same_runs W W refl;
         }
 
@@ -130,6 +135,7 @@ module _ (I : Image) (good : IsGood I) (folder : Folder) (is : IsImageOfFolder I
           form_is = inl (f.asked, f.turned, refl, f.comes);
           runs_to = runs_to I good folder W false (f.asked ++ f.turned) old between new store.place store.held (core_over store) f.now idle run.0 refl
               (comes_served I (opened I W false) qs Tells outcome f.asked f.turned f.comes) f.made;
+          touches = runs_touch I folder W false (f.asked ++ f.turned) old between new store.place store.held (core_over store) f.now run.0 f.made;
           ran = runs_after false (f.asked ++ f.turned) r r' f.runs;
         }
 
@@ -144,30 +150,33 @@ module _ (I : Image) (good : IsGood I) (folder : Folder) (is : IsImageOfFolder I
 
   -- ---- serve
 
-  module _ (boot : Bool) (slice : Option ℕ) (x x' : Option (List Exchange)) (outcome : Outcome) (r r' : Option (List Run)) (fine : Bool) where
+  module _ (boot : Bool) (slice : Option ℕ) (n n' : FaultCounts) (x x' : Option (List Exchange)) (outcome : Outcome)
+      (r r' : Option (List Run)) (fine : Bool) where
     serves_on : (store : answer.Opened) (between : History) → outcome ≡ served fine → Opens boot (Ok store) old between
-        → Serves boot slice fine store x x' r r' between new
-        → IsRun I folder W (ServeEvents I W boot slice x x' outcome) r r' old new
+        → Serves boot slice fine store n n' x x' r r' between new
+        → IsRun I folder W (ServeEvents I W boot slice n n' x x' outcome) r r' old new
     serves_on store between told opens serves =
         let run = opening_run boot store between opens in
-        let s : ServesOn I folder (opened I W boot) (opened I W boot) boot slice fine (core_over store) x x' r r' between new =
+        let s : ServesOn I folder (opened I W boot) (opened I W boot) boot slice fine (core_over store) n n' x x' r r' between new =
         serves.each I good run.1 folder is (opened I W boot) (opened I W boot) (open_kept boot store between run.0) in
         record {
           events = Opened boot Succeeded ∷ s.events;
-          form_is = inl (fine, s.rounds, s.events, refl, s.are, s.exchanged, told);
+          form_is = inl (fine, s.rounds, s.events, refl, s.are, s.counted, s.exchanged, told);
           runs_to = runs_to I good folder W boot s.events old between new store.place store.held (core_over store) s.now idle run.0 refl
               (all_served I slice boot fine false (opened I W boot) s.rounds s.events s.are) s.made;
+          touches = runs_touch I folder W boot s.events old between new store.place store.held (core_over store) s.now run.0 s.made;
           ran = runs_after boot s.events r r' s.runs;
         }
 
     pub by_serving : (result : Result answer.Opened OpenError) (between : Option History) → Moves (Some old) between (Opens boot result)
-        → FollowsServing boot slice fine result outcome x x' r r' between (Some new) → IsRun I folder W (ServeEvents I W boot slice x x' outcome) r r' old new
+        → FollowsServing boot slice fine result outcome n n' x x' r r' between (Some new) → IsRun I folder W (ServeEvents I W boot slice n n' x x' outcome) r r'
+        old new
     by_serving (Ok store) None opens follows = absurd opens.told
     by_serving (Ok store) (Some mid) opens follows = serves_on store mid follows.0 opens.told follows.1.told
     by_serving (Err e) between opens follows =
         let here : Moves (Some old) (Some new) (Opens boot (Err e)) = subst (λ (d : Option History). Moves (Some old) d (Opens boot (Err e))) (sym follows.1)
         opens in
-        unopened_run (ServeEvents I W boot slice x x' outcome) r r' boot outcome (λ events un. inr (un, follows.2)) follows.3 e follows.0 here.told
+        unopened_run (ServeEvents I W boot slice n n' x x' outcome) r r' boot outcome (λ events un. inr (un, follows.2)) follows.3 e follows.0 here.told
 
 pub requests_run : (qs : List Request) (Tells : World → List ℕ → Type 0) → RequestsRun qs Tells
 requests_run qs Tells I good folder is W outcome r r' old new begins carries =
@@ -180,8 +189,8 @@ pub applies_run : AppliesRun
 applies_run = requests_run apply_requests IsJobLine
 
 pub serves_run : ServesRun
-serves_run I good folder is W boot slice x x' outcome r r' old new begins serves =
-    by_serving I good folder is W old new begins boot slice x x' outcome r r' serves.fine serves.opening serves.between serves.opens serves.follows
+serves_run I good folder is W boot slice n n' x x' outcome r r' old new begins serves =
+    by_serving I good folder is W old new begins boot slice n n' x x' outcome r r' serves.fine serves.opening serves.between serves.opens serves.follows
 
 -- ---- get
 
@@ -203,6 +212,7 @@ module _ (I : Image) (good : IsGood I) (folder : Folder) (is : IsImageOfFolder I
         runs_to = runs_to I good folder W false [] old new new store.place store.held (core_over store) (core_over store) (ap is_running begins.idle) run.0 refl
             refl
             (ran_none I folder (opened I W false) (opened I W false) new (core_over store) kept);
+        touches = run.0.touches;
         ran = moves_same refl (λ s was. was ∙ sym (opened_runs I good folder is W old new begins false));
       }
   gets (Err e) opens told = unopened_run I good folder is W old new begins (GetEvents I W keys outcome) r r false outcome (λ events un. inr un) refl e told

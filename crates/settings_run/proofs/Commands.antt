@@ -1,8 +1,8 @@
 -- What each command came to is a run of the machine, where a store is there.
 use Rattle.std.proofs.Common.{◌≡◌, inl, inr, ℕ, Bool, false, List, [], Option, Some, None, Result, Ok, Err, refl, sym, subst}
-use Rattle.outside.specs.Exchange.{Exchange}
 use Rattle.outside.specs.History.{History}
-use Rattle.outside.specs.Spawner.{Run, Question}
+use Rattle.outside.specs.Names.{Names}
+use Rattle.outside.specs.Spawner.{Run}
 use Rattle.outside.specs.Told.{Moves}
 use Rattle.outside.proofs.Told.{moves_same, moves_map, moves_then}
 use Rattle.json_trees.specs.declared.scalar.Scalar.{Scalar}
@@ -10,11 +10,14 @@ use Rattle.settings_machine.specs.World.{Key, Image, World}
 use Rattle.settings_machine.specs.Requests.{Request}
 use Rattle.settings_machine.specs.Events.{Event}
 use Rattle.machine_disk.specs.Kept.{Folder}
+use Rattle.machine_disk.specs.Touched.{MayChange}
 use Rattle.version_links.specs.declared.version.Version.{Version}
 use Rattle.store_open.specs.Beginning.{Begins}
 use Rattle.store_open.specs.Opening.{Opens}
 use Rattle.store_open.specs.declared.opened.Opened.{Opened}
 use Rattle.store_open.specs.declared.open_error.OpenError.{OpenError}
+use Rattle.migrate_chain.specs.Store.{IsInOther}
+use Rattle.migrate_chain.proofs.Migrated.{touched_since}
 use Rattle.store_events.proofs.Stays.{prunings_stay}
 use Rattle.command_outcome.specs.Ends.{Outcome}
 use Rattle.command_outcome.specs.declared.refusal.Refusal.TheVariants as refused
@@ -23,46 +26,51 @@ use Rattle.core_commands.specs.Carried.{set_requests, apply_requests, FollowsOpe
 use Rattle.core_commands.specs.Lines.{IsSettingsLine, IsJobLine}
 use Rattle.settings_cmd.specs.Carried.{Carried, IsBegun, IsGot, IsChecked, IsPruned, IsLoaded}
 use Rattle.settings_cmd.specs.Serving.{FollowsOpening as FollowsServing, IsServed, HasServed}
+use Rattle.settings_cmd.specs.Does.{Devices, counts_of}
 use Rattle.settings_run.specs.Laws as runs
 use Rattle.settings_run.specs.Laws.{RequestEvents, ServeEvents, GetEvents}
 use Rattle.settings_run.proofs.CommandRuns.{requests_run, serves_run, gets_run}
 use Rattle.settings_run.specs.Events.{Makes}
 use Rattle.settings_run.specs.Headline.{RunsOver, RunsOverAll}
 use Rattle.settings_run.proofs.Answered.{run_of, stays, untouched}
+use Rattle.settings_run.specs.Touched.{MayTouch}
+use Rattle.settings_run.proofs.Touched.{changes_only, own_elsewhere}
 use Rattle.settings_run.proofs.Calm.{ends_calm, requests_calm, gets_calm}
 
-module _ (x x' : Option (List Exchange)) (a a' : Option (List Question)) (r r' : Option (List Run)) (outcome : Outcome) where
+module _ (b n : Devices) (outcome : Outcome) where
   -- The disk is as before, and there is no event.
-  pub unmoved : (order : Order) (d d' : Option History) → d' ≡ d → r' ≡ r
-      → ((I : Image) (folder : Folder) (W : World) (h : History) → Makes order I folder W x x' a a' outcome h [])
-      → Moves d d' (RunsOverAll order x x' a a' r r' outcome)
+  pub unmoved : (order : Order) (d d' : Option History) → d' ≡ d → n.runs ≡ b.runs
+      → ((I : Image) (folder : Folder) (W : World) (h : History) → Makes order I folder W b n outcome h [])
+      → Moves d d' (RunsOverAll order b n outcome)
   unmoved order d d' same no_runs made =
-      moves_same same (λ h I good folder image W at. inl (untouched order I good folder W x x' a a' r r' outcome h at (made I folder W h) no_runs))
+      moves_same same (λ h I good folder image W at. inl (untouched order I good folder W b n outcome h at (made I folder W h) no_runs))
 
   -- ---- commands that make no event
 
-  pub inits : (version : Version) (d d' : Option History) → r' ≡ r → Carried (IsBegun version) outcome d d'
-      → Moves d d' (RunsOverAll (init version) x x' a a' r r' outcome)
+  pub inits : (version : Version) (d d' : Option History) → n.runs ≡ b.runs → Carried (IsBegun version) outcome d d'
+      → Moves d d' (RunsOverAll (init version) b n outcome)
   inits version d d' no_runs (inl is) = moves_map begun is.begins where
-    begun : (old new : History) → Begins version is.result old new → RunsOverAll (init version) x x' a a' r r' outcome old new
+    begun : (old new : History) → Begins version is.result old new → RunsOverAll (init version) b n outcome old new
     begun old new begins I good folder image W at =
         let same : new ≡ old = begins.still W.version at.disk.store.directory at.disk.store.resolves in
-        subst (λ (h : History). RunsOver (init version) I folder W x x' a a' r r' outcome old h) (sym same)
-        (inl (untouched (init version) I good folder W x x' a a' r r' outcome old at refl no_runs))
+        subst (λ (h : History). RunsOver (init version) I folder W b n outcome old h) (sym same)
+        (inl (untouched (init version) I good folder W b n outcome old at refl no_runs))
   inits version d d' no_runs (inr none) = unmoved (init version) d d' none.1 no_runs (λ I folder W h. refl)
 
-  pub checks : (d d' : Option History) → r' ≡ r → Carried IsChecked outcome d d' → Moves d d' (RunsOverAll check x x' a a' r r' outcome)
+  pub checks : (d d' : Option History) → n.runs ≡ b.runs → Carried IsChecked outcome d d' → Moves d d' (RunsOverAll check b n outcome)
   checks d d' no_runs (inl is) = unmoved check d d' is.1 no_runs (λ I folder W h. refl)
   checks d d' no_runs (inr none) = unmoved check d d' none.1 no_runs (λ I folder W h. refl)
 
-  pub prunes : (d d' : Option History) → r' ≡ r → Carried IsPruned outcome d d' → Moves d d' (RunsOverAll prune x x' a a' r r' outcome)
+  pub prunes : (d d' : Option History) → n.runs ≡ b.runs → Carried IsPruned outcome d d' → Moves d d' (RunsOverAll prune b n outcome)
   prunes d d' no_runs (inl is) = moves_map (λ old new pruned I good folder image W at.
-      inl (stays prune I good folder W x x' a a' r r' outcome old new at refl no_runs (prunings_stay I good folder W is.result old new at.disk pruned)))
+      inl (stays prune I good folder W b n outcome old new at refl no_runs (prunings_stay I good folder W is.result old new at.disk pruned)
+      (λ version directory leads. changes_only (IsInOther directory) old new (touched_since (IsInOther directory) old new
+      (pruned.sync_first (record { version = version; directory = directory }) leads)))))
       is.prunes
   prunes d d' no_runs (inr none) = unmoved prune d d' none.1 no_runs (λ I folder W h. refl)
 
-  pub loads : (count : ℕ) (d d' : Option History) → r' ≡ r → Carried (IsLoaded count) outcome d d'
-      → Moves d d' (RunsOverAll (load count) x x' a a' r r' outcome)
+  pub loads : (count : ℕ) (d d' : Option History) → n.runs ≡ b.runs → Carried (IsLoaded count) outcome d d'
+      → Moves d d' (RunsOverAll (load count) b n outcome)
   loads count d d' no_runs (inl is) = unmoved (load count) d d' is.same no_runs (λ I folder W h. refl)
   loads count d d' no_runs (inr none) = unmoved (load count) d d' none.1 no_runs (λ I folder W h. refl)
 
@@ -70,20 +78,22 @@ module _ (x x' : Option (List Exchange)) (a a' : Option (List Question)) (r r' :
 
   module _ (order : Order) (qs : List Request) (Tells : World → List ℕ → Type 0)
       (form : (I : Image) (folder : Folder) (W : World) (h : History) (events : List Event) → RequestEvents I W qs Tells outcome events
-      → Makes order I folder W x x' a a' outcome h events)
-      (unbegun : outcome ≡ Err refused.Memory → (I : Image) (folder : Folder) (W : World) (h : History) → Makes order I folder W x x' a a' outcome h []) where
-    requested : (old new : History) → CarriesOut qs Tells outcome r r' (Some old) (Some new) → RunsOverAll order x x' a a' r r' outcome old new
+      → Makes order I folder W b n outcome h events)
+      (unbegun : outcome ≡ Err refused.Memory → (I : Image) (folder : Folder) (W : World) (h : History) → Makes order I folder W b n outcome h [])
+      (may : (I : Image) (events : List Event) (directory path : Names) → MayChange I events directory path → MayTouch order I events directory path) where
+    requested : (old new : History) → CarriesOut qs Tells outcome b.runs n.runs (Some old) (Some new) → RunsOverAll order b n outcome old new
     requested old new carries I good folder image W at =
-        let run : runs.IsRun I folder W (RequestEvents I W qs Tells outcome) r r' old new =
-        requests_run qs Tells I good folder image W outcome r r' old new at carries in
-        inl (run_of order I good folder W x x' a a' r r' outcome old new at run.events (form I folder W old run.events run.form_is) run.runs_to run.ran
+        let run : runs.IsRun I folder W (RequestEvents I W qs Tells outcome) b.runs n.runs old new =
+        requests_run qs Tells I good folder image W outcome b.runs n.runs old new at carries in
+        inl (run_of order I good folder W b n outcome old new at run.events (form I folder W old run.events run.form_is) run.runs_to run.ran
+        (own_elsewhere order I run.events old new (may I run.events) run.touches)
         (λ all. ends_calm run.events outcome
         (λ said is. requests_calm I W qs Tells said run.events (subst (λ (o : Outcome). RequestEvents I W qs Tells o run.events) is run.form_is))))
 
-    carries_out : (d d' : Option History) → CarriesOut qs Tells outcome r r' d d' → Moves d d' (RunsOverAll order x x' a a' r r' outcome)
+    carries_out : (d d' : Option History) → CarriesOut qs Tells outcome b.runs n.runs d d' → Moves d d' (RunsOverAll order b n outcome)
     carries_out d d' carries = by carries.opening carries.between carries.opens carries.follows where
       by : (opening : Result Opened OpenError) (between : Option History) → Moves d between (Opens false opening)
-          → FollowsOpening qs Tells opening outcome r r' between d' → Moves d d' (RunsOverAll order x x' a a' r r' outcome)
+          → FollowsOpening qs Tells opening outcome b.runs n.runs between d' → Moves d d' (RunsOverAll order b n outcome)
       by (Ok store) between opens follows =
           moves_then (λ old mid new o f. requested old new (record {
             opening = Ok store;
@@ -102,56 +112,62 @@ module _ (x x' : Option (List Exchange)) (a a' : Option (List Question)) (r r' :
           }))
           (subst (λ (t : Option History). Moves d t (Opens false (Err e))) (sym follows.1) opens)
 
-    pub commanded : (d d' : Option History) → Commanded qs Tells outcome r r' d d' → Moves d d' (RunsOverAll order x x' a a' r r' outcome)
+    pub commanded : (d d' : Option History) → Commanded qs Tells outcome b.runs n.runs d d' → Moves d d' (RunsOverAll order b n outcome)
     commanded d d' (inl carries) = carries_out d d' carries
     commanded d d' (inr none) = unmoved order d d' none.same none.no_runs (unbegun none.result_is)
 
-  pub sets : (pairs : List (Key × Scalar)) (d d' : Option History) → Commanded (set_requests pairs) IsSettingsLine outcome r r' d d'
-      → Moves d d' (RunsOverAll (set pairs) x x' a a' r r' outcome)
+  pub sets : (pairs : List (Key × Scalar)) (d d' : Option History) → Commanded (set_requests pairs) IsSettingsLine outcome b.runs n.runs d d'
+      → Moves d d' (RunsOverAll (set pairs) b n outcome)
   sets pairs = commanded (set pairs) (set_requests pairs) IsSettingsLine (λ I folder W h events is. inl is) (λ memory I folder W h. inr (memory, refl))
+      (λ I events directory path may. may)
 
-  pub applies : (d d' : Option History) → Commanded apply_requests IsJobLine outcome r r' d d' → Moves d d' (RunsOverAll apply x x' a a' r r' outcome)
+  pub applies : (d d' : Option History) → Commanded apply_requests IsJobLine outcome b.runs n.runs d d' → Moves d d' (RunsOverAll apply b n outcome)
   applies = commanded apply apply_requests IsJobLine (λ I folder W h events is. inl is) (λ memory I folder W h. inr (memory, refl))
+      (λ I events directory path may. may)
 
   -- ---- get
 
-  module _ (keys : List (List (List ℕ))) (no_runs : r' ≡ r) where
-    got : (old new : History) → IsGot keys outcome (Some old) (Some new) → RunsOverAll (get keys) x x' a a' r r' outcome old new
+  module _ (keys : List (List (List ℕ))) (no_runs : n.runs ≡ b.runs) where
+    got : (old new : History) → IsGot keys outcome (Some old) (Some new) → RunsOverAll (get keys) b n outcome old new
     got old new is I good folder image W at =
-        let run : runs.IsRun I folder W (GetEvents I W keys outcome) r r' old new =
-        subst (λ (s : Option (List Run)). runs.IsRun I folder W (GetEvents I W keys outcome) r s old new) (sym no_runs)
-        (gets_run I good folder image W keys outcome r old new at is) in
-        inl (run_of (get keys) I good folder W x x' a a' r r' outcome old new at run.events (inl run.form_is) run.runs_to run.ran
+        let run : runs.IsRun I folder W (GetEvents I W keys outcome) b.runs n.runs old new =
+        subst (λ (s : Option (List Run)). runs.IsRun I folder W (GetEvents I W keys outcome) b.runs s old new) (sym no_runs)
+        (gets_run I good folder image W keys outcome b.runs old new at is) in
+        inl (run_of (get keys) I good folder W b n outcome old new at run.events (inl run.form_is) run.runs_to run.ran
+        (own_elsewhere (get keys) I run.events old new (λ directory path may. may) run.touches)
         (λ all. ends_calm run.events outcome
         (λ said told. gets_calm I W keys said run.events (subst (λ (o : Outcome). GetEvents I W keys o run.events) told run.form_is))))
 
-    got_by : (d d' : Option History) → IsGot keys outcome d d' → Moves d d' (RunsOverAll (get keys) x x' a a' r r' outcome)
+    got_by : (d d' : Option History) → IsGot keys outcome d d' → Moves d d' (RunsOverAll (get keys) b n outcome)
     got_by None None is = record { told = tt }
     got_by (Some old) (Some new) is = record { told = got old new is }
     got_by None (Some new) is = absurd is.opens.told
     got_by (Some old) None is = absurd is.opens.told
 
-    pub gets : (d d' : Option History) → Carried (IsGot keys) outcome d d' → Moves d d' (RunsOverAll (get keys) x x' a a' r r' outcome)
+    pub gets : (d d' : Option History) → Carried (IsGot keys) outcome d d' → Moves d d' (RunsOverAll (get keys) b n outcome)
     gets d d' (inl is) = got_by d d' is
     gets d d' (inr none) = unmoved (get keys) d d' none.1 no_runs (λ I folder W h. inr (none.0, refl))
 
   -- ---- serve
 
   module _ (boot : Bool) (slice connections : Option ℕ) where
-    served : (old new : History) → IsServed boot slice x x' r r' outcome (Some old) (Some new)
-        → RunsOverAll (serve boot slice connections) x x' a a' r r' outcome old new
+    served : (old new : History) → IsServed boot slice (counts_of b.faults) (counts_of n.faults) b.connections n.connections b.runs n.runs outcome (Some old)
+        (Some new)
+        → RunsOverAll (serve boot slice connections) b n outcome old new
     served old new is I good folder image W at =
-        let run : runs.IsRun I folder W (ServeEvents I W boot slice x x' outcome) r r' old new =
-        serves_run I good folder image W boot slice x x' outcome r r' old new at is in
-        inl (run_of (serve boot slice connections) I good folder W x x' a a' r r' outcome old new at run.events (inl run.form_is) run.runs_to run.ran
+        let run : runs.IsRun I folder W (ServeEvents I W boot slice (counts_of b.faults) (counts_of n.faults) b.connections n.connections outcome) b.runs n.runs
+        old new =
+        serves_run I good folder image W boot slice (counts_of b.faults) (counts_of n.faults) b.connections n.connections outcome b.runs n.runs old new at is in
+        inl (run_of (serve boot slice connections) I good folder W b n outcome old new at run.events (inl run.form_is) run.runs_to run.ran
+        (own_elsewhere (serve boot slice connections) I run.events old new (λ directory path may. may) run.touches)
         (λ all. absurd (cc all)))
 
-    served_by : (d d' : Option History) → IsServed boot slice x x' r r' outcome d d'
-        → Moves d d' (RunsOverAll (serve boot slice connections) x x' a a' r r' outcome)
+    served_by : (d d' : Option History) → IsServed boot slice (counts_of b.faults) (counts_of n.faults) b.connections n.connections b.runs n.runs outcome d d'
+        → Moves d d' (RunsOverAll (serve boot slice connections) b n outcome)
     served_by d d' is = by is.opening is.between is.opens is.follows where
       by : (opening : Result Opened OpenError) (between : Option History) → Moves d between (Opens boot opening)
-          → FollowsServing boot slice is.fine opening outcome x x' r r' between d'
-          → Moves d d' (RunsOverAll (serve boot slice connections) x x' a a' r r' outcome)
+          → FollowsServing boot slice is.fine opening outcome (counts_of b.faults) (counts_of n.faults) b.connections n.connections b.runs n.runs between d'
+          → Moves d d' (RunsOverAll (serve boot slice connections) b n outcome)
       by (Ok store) between opens follows =
           moves_then (λ old mid new o f. served old new (record {
             opening = Ok store;
@@ -173,8 +189,8 @@ module _ (x x' : Option (List Exchange)) (a a' : Option (List Question)) (r r' :
           }))
           (subst (λ (t : Option History). Moves d t (Opens boot (Err e))) (sym follows.1) opens)
 
-    pub serves : (d d' : Option History) → HasServed boot slice x x' r r' outcome d d'
-        → Moves d d' (RunsOverAll (serve boot slice connections) x x' a a' r r' outcome)
+    pub serves : (d d' : Option History) → HasServed boot slice (counts_of b.faults) (counts_of n.faults) b.connections n.connections b.runs n.runs outcome d d'
+        → Moves d d' (RunsOverAll (serve boot slice connections) b n outcome)
     serves d d' (inl is) = served_by d d' is
     serves d d' (inr none) = unmoved (serve boot slice connections) d d' none.same none.no_runs
         (λ I folder W h. inr ((none.outcome_is, refl), none.no_connections))

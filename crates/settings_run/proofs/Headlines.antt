@@ -5,7 +5,7 @@ use Rattle.command_outcome.specs.Ends.{Outcome, Ends}
 use Rattle.command_words.specs.Orders.{Order, Spells, SpellsNone, init, serve, set, get, apply, check, migrate, prune, load, generate, user_data}
 use Rattle.settings_cmd.specs.Carried.{Carried, IsMisused, RunsNothing}
 use Rattle.settings_cmd.specs.Does.{Devices, Does}
-use Rattle.settings_run.specs.Headline.{Faults, HasCauses, RunsOverAll, Headline}
+use Rattle.settings_run.specs.Headline.{HasCauses, RunsOverAll, Headline}
 use Rattle.settings_run.proofs.Beginnings.{begins_store}
 use Rattle.settings_run.proofs.Commands.{inits, checks, prunes, sets, applies, gets, serves, loads}
 use Rattle.settings_run.proofs.Inputs.{generates, provides}
@@ -16,38 +16,38 @@ use Rattle.settings_run.proofs.Words.{generate_runs_nothing, user_data_runs_noth
 module _ (words : List (List ℕ)) (outcome : Outcome) (b n : Devices) (unrun : RunsNothing words → n.runs ≡ b.runs)
     (does : (order : Order) → Spells words order → Does order outcome b n) where
   -- Each order is a run of the machine.
-  runs : (order : Order) → Spells words order → Moves b.disk n.disk (RunsOverAll order b.connections n.connections b.asked n.asked b.runs n.runs outcome)
+  runs : (order : Order) → Spells words order → Moves b.disk n.disk (RunsOverAll order b n outcome)
   runs (init version) spells =
-      inits b.connections n.connections b.asked n.asked b.runs n.runs outcome version b.disk n.disk (unrun (init_runs_nothing words version spells))
+      inits b n outcome version b.disk n.disk (unrun (init_runs_nothing words version spells))
       (does (init version) spells)
   runs (serve boot slice connections) spells =
-      serves b.connections n.connections b.asked n.asked b.runs n.runs outcome boot slice connections b.disk n.disk
+      serves b n outcome boot slice connections b.disk n.disk
       (does (serve boot slice connections) spells).0
-  runs (set pairs) spells = sets b.connections n.connections b.asked n.asked b.runs n.runs outcome pairs b.disk n.disk (does (set pairs) spells)
+  runs (set pairs) spells = sets b n outcome pairs b.disk n.disk (does (set pairs) spells)
   runs (get keys) spells =
-      gets b.connections n.connections b.asked n.asked b.runs n.runs outcome keys (unrun (get_runs_nothing words keys spells)) b.disk n.disk
+      gets b n outcome keys (unrun (get_runs_nothing words keys spells)) b.disk n.disk
       (does (get keys) spells)
-  runs apply spells = applies b.connections n.connections b.asked n.asked b.runs n.runs outcome b.disk n.disk (does apply spells)
+  runs apply spells = applies b n outcome b.disk n.disk (does apply spells)
   runs check spells =
-      checks b.connections n.connections b.asked n.asked b.runs n.runs outcome b.disk n.disk (unrun (check_runs_nothing words spells)) (does check spells)
+      checks b n outcome b.disk n.disk (unrun (check_runs_nothing words spells)) (does check spells)
   runs (migrate to) spells =
-      migrates b.connections n.connections b.asked n.asked b.runs n.runs (unrun (migrate_runs_nothing words to spells)) to outcome b.disk n.disk
+      migrates b n (unrun (migrate_runs_nothing words to spells)) to outcome b.disk n.disk
       (does (migrate to) spells)
   runs prune spells =
-      prunes b.connections n.connections b.asked n.asked b.runs n.runs outcome b.disk n.disk (unrun (prune_runs_nothing words spells)) (does prune spells)
+      prunes b n outcome b.disk n.disk (unrun (prune_runs_nothing words spells)) (does prune spells)
   runs (load count) spells =
-      loads b.connections n.connections b.asked n.asked b.runs n.runs outcome count b.disk n.disk (unrun (load_runs_nothing words count spells))
+      loads b n outcome count b.disk n.disk (unrun (load_runs_nothing words count spells))
       (does (load count) spells)
   runs generate spells =
-      generates b.connections n.connections b.asked n.asked b.runs n.runs (unrun (generate_runs_nothing words spells)) outcome b.disk n.disk
+      generates b n (unrun (generate_runs_nothing words spells)) outcome b.disk n.disk
       (does generate spells)
   runs (user_data path) spells =
-      provides b.connections n.connections b.asked n.asked b.runs n.runs (unrun (user_data_runs_nothing words path spells)) outcome path b.disk n.disk
+      provides b n (unrun (user_data_runs_nothing words path spells)) outcome path b.disk n.disk
       (does (user_data path) spells)
 
-  pub headline : (status : ℕ) (s s' : Option (List ℕ)) (f f' : Faults) → Ends outcome status s s' → HasCauses words outcome status f f'
-      → (SpellsNone words → Carried IsMisused outcome b.disk n.disk) → Headline words status b n s s' f f'
-  headline status s s' f f' ends causes misused = record {
+  pub headline : (status : ℕ) (s s' : Option (List ℕ)) → Ends outcome status s s' → HasCauses words outcome status b.faults n.faults
+      → (SpellsNone words → Carried IsMisused outcome b.disk n.disk) → Headline words status b n s s'
+  headline status s s' ends causes misused = record {
     outcome = outcome;
     ends = ends;
     causes = causes;

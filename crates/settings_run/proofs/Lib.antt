@@ -3,6 +3,7 @@ pub mod DoorFaults
 pub mod SpawnerFaults
 pub mod Calm
 pub mod PaidFiles
+pub mod Touched
 pub mod Answered
 pub mod Beginnings
 pub mod Commands

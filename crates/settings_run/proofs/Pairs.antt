@@ -11,9 +11,10 @@ use Rattle.settings_machine.specs.Step.{opened}
 use Rattle.settings_machine.specs.Events.{Event, Opened, Succeeded, after}
 use Rattle.settings_machine.specs.Paid.{IsGood}
 use Rattle.machine_disk.specs.Kept.{Folder, Kept}
+use Rattle.machine_disk.specs.Touched.{TouchesOwn}
 use Rattle.machine_disk.specs.Ran.{RunsTo, OpensTo}
 use Rattle.machine_disk.proofs.Runs.{ran_none}
-use Rattle.machine_disk.proofs.Prefixes.{runs_to}
+use Rattle.machine_disk.proofs.Prefixes.{runs_touch, runs_to}
 use Rattle.machine_disk.proofs.Meanings.{core_holds}
 use Rattle.store_image.specs.Paths.{sources_in}
 use Rattle.typed_settings.specs.declared.row.Row.{Row}
@@ -53,6 +54,7 @@ module _ (I : Image) (good : IsGood I) (folder : Folder) (is : IsImageOfFolder I
     pub events : List Event
     pub form_is : MadeEvents I W tx made outcome events
     pub runs_to : RunsTo I folder W events old new
+    pub touches : TouchesOwn I events old new
     pub runs : (after I W events).runs ≡ W.runs
 
   opened_same : (opened I W false).runs ≡ W.runs
@@ -75,6 +77,7 @@ module _ (I : Image) (good : IsGood I) (folder : Folder) (is : IsImageOfFolder I
         form_is = (c.events, refl, c.comes);
         runs_to = runs_to I good folder W false c.events old between new store.place store.held (core_over store) c.now (ap is_running begins.idle) run.0 refl
             plain.served c.made;
+        touches = runs_touch I folder W false c.events old between new store.place store.held (core_over store) c.now run.0 c.made;
         runs = plain.runs ∙ opened_same;
       }
   made_ends tx (Err refusal) outcome new ends =
@@ -83,6 +86,7 @@ module _ (I : Image) (good : IsGood I) (folder : Folder) (is : IsImageOfFolder I
         events = Opened false Succeeded ∷ [];
         form_is = (refl, ends.0);
         runs_to = subst (λ (h : History). RunsTo I folder W (Opened false Succeeded ∷ []) old h) same opening_alone;
+        touches = subst (TouchesOwn I (Opened false Succeeded ∷ []) old) same run.0.touches;
         runs = opened_same;
       }
 
@@ -129,6 +133,7 @@ module _ (I : Image) (good : IsGood I) (folder : Folder) (is : IsImageOfFolder I
         events = e.events;
         form_is = inl (follows.made, given, e.form_is, keeps_live I folder W a a' follows.made outcome e.events given e.form_is);
         runs_to = e.runs_to;
+        touches = e.touches;
         ran = moves_same refl (λ s was. was ∙ sym e.runs);
       }
   generated (Err e) (Some between) opens follows =
@@ -163,6 +168,7 @@ module _ (I : Image) (good : IsGood I) (folder : Folder) (is : IsImageOfFolder I
           ends = e.form_is;
         });
         runs_to = e.runs_to;
+        touches = e.touches;
         ran = moves_same refl (λ s was. was ∙ sym e.runs);
       }
   provided (Err e) (Some between) opens follows =

@@ -1,8 +1,6 @@
 -- The events of each command, by what it came to.
-use Rattle.std.specs.Prelude.{◌≡◌, ◌⊎◌, ◌++◌, List, [], ◌∷◌, codes, Option, Some, Ok, Err}
-use Rattle.outside.specs.Exchange.{Exchange}
+use Rattle.std.specs.Prelude.{◌≡◌, ◌⊎◌, ◌++◌, List, [], ◌∷◌, codes, Some, Ok, Err}
 use Rattle.outside.specs.History.{History}
-use Rattle.outside.specs.Spawner.{Question}
 use Rattle.settings_machine.specs.World.{Image, World}
 use Rattle.settings_machine.specs.Events.{Event}
 use Rattle.machine_disk.specs.Kept.{Folder}
@@ -16,6 +14,7 @@ use Rattle.command_outcome.specs.declared.refusal.Refusal.TheVariants as refused
 use Rattle.command_words.specs.Orders.{Order, init, serve, set, get, apply, check, migrate, prune, load, generate, user_data}
 use Rattle.core_commands.specs.Carried.{set_requests, apply_requests}
 use Rattle.core_commands.specs.Lines.{IsSettingsLine, IsJobLine}
+use Rattle.settings_cmd.specs.Does.{Devices, counts_of}
 use Rattle.settings_cmd.specs.Releases.{IsReleaseIn}
 use Rattle.settings_run.specs.Laws.{RequestEvents, ServeEvents, GetEvents, GenerateEvents, ProvisionEvents}
 
@@ -37,19 +36,19 @@ abbrev pub IsUnbegun : Outcome → List Event → Type 0
 IsUnbegun outcome events = (outcome ≡ Err refused.Memory) × (events ≡ [])
 
 -- What each command makes of W, where a store is there, on a disk with this history. `init`, `check`, `prune` and `load` make no event. The connections
--- that the door has accepted, and the programs that were asked, are those before and after.
-abbrev pub Makes : Order → Image → Folder → World → Option (List Exchange) → Option (List Exchange) → Option (List Question) → Option (List Question) → Outcome
-    → History
-    → List Event → Type 0
-Makes (init version) I folder W x x' a a' outcome old events = events ≡ []
-Makes (serve boot slice connections) I folder W x x' a a' outcome old events = ServeEvents I W boot slice x x' outcome events
-    ⊎ (IsUnbegun outcome events × (x' ≡ x))
-Makes (set pairs) I folder W x x' a a' outcome old events = RequestEvents I W (set_requests pairs) IsSettingsLine outcome events ⊎ IsUnbegun outcome events
-Makes (get keys) I folder W x x' a a' outcome old events = GetEvents I W keys outcome events ⊎ IsUnbegun outcome events
-Makes apply I folder W x x' a a' outcome old events = RequestEvents I W apply_requests IsJobLine outcome events ⊎ IsUnbegun outcome events
-Makes check I folder W x x' a a' outcome old events = events ≡ []
-Makes (migrate to) I folder W x x' a a' outcome old events = MigrateEvents folder W to outcome events
-Makes prune I folder W x x' a a' outcome old events = events ≡ []
-Makes (load count) I folder W x x' a a' outcome old events = events ≡ []
-Makes generate I folder W x x' a a' outcome old events = GenerateEvents I folder W a a' outcome events ⊎ (IsUnbegun outcome events × (a' ≡ a))
-Makes (user_data path) I folder W x x' a a' outcome old events = ProvisionEvents I W path outcome old events ⊎ IsUnbegun outcome events
+-- that the door has accepted, the programs that were asked, and how often the devices have failed are those before and after.
+abbrev pub Makes : Order → Image → Folder → World → Devices → Devices → Outcome → History → List Event → Type 0
+Makes (init version) I folder W b n outcome old events = events ≡ []
+Makes (serve boot slice connections) I folder W b n outcome old events =
+    ServeEvents I W boot slice (counts_of b.faults) (counts_of n.faults) b.connections n.connections outcome events
+    ⊎ (IsUnbegun outcome events × (n.connections ≡ b.connections))
+Makes (set pairs) I folder W b n outcome old events = RequestEvents I W (set_requests pairs) IsSettingsLine outcome events ⊎ IsUnbegun outcome events
+Makes (get keys) I folder W b n outcome old events = GetEvents I W keys outcome events ⊎ IsUnbegun outcome events
+Makes apply I folder W b n outcome old events = RequestEvents I W apply_requests IsJobLine outcome events ⊎ IsUnbegun outcome events
+Makes check I folder W b n outcome old events = events ≡ []
+Makes (migrate to) I folder W b n outcome old events = MigrateEvents folder W to outcome events
+Makes prune I folder W b n outcome old events = events ≡ []
+Makes (load count) I folder W b n outcome old events = events ≡ []
+Makes generate I folder W b n outcome old events =
+    GenerateEvents I folder W b.asked n.asked outcome events ⊎ (IsUnbegun outcome events × (n.asked ≡ b.asked))
+Makes (user_data path) I folder W b n outcome old events = ProvisionEvents I W path outcome old events ⊎ IsUnbegun outcome events

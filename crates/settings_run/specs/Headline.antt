@@ -1,10 +1,9 @@
 -- The headline: what every run of the program is, said of the map machine.
 use Rattle.std.specs.Prelude.{◌≡◌, ◌⊎◌, ◌++◌, ℕ, Bool, true, false, List, [], Option, Err, OnOk}
-use Rattle.outside.specs.Exchange.{Exchange}
 use Rattle.outside.specs.Faults.{HasCauseOf, Rose}
 use Rattle.outside.specs.History.{History, tree_of, EachImage}
 use Rattle.outside.specs.Since.{EachSince}
-use Rattle.outside.specs.Spawner.{Run, Question}
+use Rattle.outside.specs.Spawner.{Run}
 use Rattle.outside.specs.Told.{Moves}
 use Rattle.outside.specs.Tree.{Tree}
 use Rattle.settings_machine.specs.World.{Image, World, Idle, owes_none, due}
@@ -14,8 +13,8 @@ use Rattle.settings_machine.specs.Events.{Event, Began, next, after, faulted_aft
 use Rattle.settings_machine.specs.Jobs.{RunInOrder}
 use Rattle.settings_machine.specs.Paid.{IsCurrent, IsPaid, WasPaid, IsGood}
 use Rattle.machine_disk.specs.Kept.{Folder}
-use Rattle.machine_disk.specs.Ran.{AtPrefix, AtLatePrefix, IsWorldOf, RunsBy}
-use Rattle.machine_disk.specs.Store.{bytes_at, HasStore, HasFiles, Recovers}
+use Rattle.machine_disk.specs.Ran.{AtPrefix, AtLatePrefix, HasMoments, IsWorldOf, RunsBy}
+use Rattle.machine_disk.specs.Store.{is_store, bytes_at, HasStore, HasFiles, Recovers}
 use Rattle.store_open.specs.Laws.{IsImageOfFolder}
 use Rattle.store_events.specs.Laws.{IsBare, IsBeginning, HasBegun}
 use Rattle.version_links.specs.declared.version.Version.{Version}
@@ -24,29 +23,17 @@ use Rattle.command_outcome.specs.declared.refusal.Refusal.TheVariants as refused
 use Rattle.command_words.specs.Orders.{Order, Spells, SpellsNone, init, serve, migrate}
 use Rattle.core_commands.specs.Handing.{HasSpawnCause}
 use Rattle.settings_cmd.specs.Carried.{Carried, IsMisused, ServesNot}
-use Rattle.settings_cmd.specs.Does.{Devices, Does}
+use Rattle.settings_cmd.specs.Does.{Faults, Devices, Does}
 use Rattle.settings_run.specs.Laws.{Begins}
 use Rattle.settings_run.specs.Events.{Makes, MovesBy}
+use Rattle.settings_run.specs.Touched.{ChangesOnly, StaysElsewhere}
 
--- ---- what the devices count
-
--- How often disk, door and spawner have failed.
-pub record Faults : Type 0 where
-  pub disk : ℕ
-  pub door : ℕ
-  pub spawner : ℕ
-
--- These three.
-abbrev pub faults : ℕ → ℕ → ℕ → Faults
-faults disk door spawner = record { disk = disk; door = door; spawner = spawner }
-
--- ---- the six points
+-- ---- what a run is
 
 -- The replies and lines are those of the machine after the events, and so are the settings and the configuration files of the disk.
-pub record IsMachines (order : Order) (I : Image) (folder : Folder) (W : World) (x x' : Option (List Exchange)) (a a' : Option (List Question))
-    (outcome : Outcome)
+pub record IsMachines (order : Order) (I : Image) (folder : Folder) (W : World) (before now : Devices) (outcome : Outcome)
     (events : List Event) (old new : History) : Type 0 where
-  pub made : Makes order I folder W x x' a a' outcome old events
+  pub made : Makes order I folder W before now outcome old events
   pub settings : HasStore (after I W events) (tree_of new)
   pub files : HasFiles (after I W events).etc (tree_of new)
 
@@ -55,10 +42,12 @@ abbrev pub acknowledges_all : Order → Bool
 acknowledges_all (serve boot slice connections) = false
 acknowledges_all _ = true
 
--- A crash at any moment recovers to a prefix of the events, and at the end to one after which no event is acknowledged: to all of them where a
+-- A crash at any moment recovers to a prefix of the events. For each prefix there is a moment at which its events were made: from it on a crash recovers
+-- to a prefix that leaves none of them out that is acknowledged. At the end it is one after which no event is acknowledged, and all of them where a
 -- command other than `serve` has ended well.
 pub record RecoversToPrefix (order : Order) (I : Image) (W : World) (outcome : Outcome) (events : List Event) (old new : History) : Type 0 where
   pub any_moment : EachSince (AtPrefix I W events) old new
+  pub keeps : HasMoments I W W events old new
   pub at_exit : EachImage (AtLatePrefix I W events) new
   pub ended_well : acknowledges_all order ≡ true → OnOk outcome (EachImage (Recovers I (after I W events)) new)
 
@@ -96,46 +85,44 @@ pub record GoesOn (order : Order) (I : Image) (folder : Folder) (W : World) (out
 -- ---- a run where a store is there
 
 -- It is these events of the machine.
-pub record IsRun (order : Order) (I : Image) (folder : Folder) (W : World) (x x' : Option (List Exchange)) (a a' : Option (List Question))
-    (r r' : Option (List Run)) (outcome : Outcome) (old new : History)
-    : Type 0 where
+pub record IsRun (order : Order) (I : Image) (folder : Folder) (W : World) (before now : Devices) (outcome : Outcome) (old new : History) : Type 0 where
   pub events : List Event
-  pub machine : IsMachines order I folder W x x' a a' outcome events old new
+  pub machine : IsMachines order I folder W before now outcome events old new
   pub crashes : RecoversToPrefix order I W outcome events old new
   pub paid_files : FilesArePaid I W events old new
-  pub restarts : RestartsAffected I W events r r'
+  pub restarts : RestartsAffected I W events before.runs now.runs
   pub goes_on : GoesOn order I folder W outcome events new
+  pub elsewhere : StaysElsewhere order I events old new
 
--- The disk failed a move, and it happened or not: a crash recovers to the world before it, or to the one after it.
-pub record FailsToMove (order : Order) (I : Image) (folder : Folder) (W : World) (r r' : Option (List Run)) (outcome : Outcome) (old new : History) : Type
-    0 where
+-- The disk failed a move, and it happened or not: a crash recovers to the world before it, or to the one after it. Outside the folder `store`
+-- nothing is changed.
+pub record FailsToMove (order : Order) (I : Image) (folder : Folder) (W : World) (before now : Devices) (outcome : Outcome) (old new : History)
+    : Type 0 where
   pub to : Version
   pub order_is : order ≡ migrate to
   pub outcome_is : outcome ≡ Err refused.Disk
   pub any_moment : EachSince (λ image. LeavesFiles I W [] image ⊎ ((events : List Event) × MovesBy folder W to events × LeavesFiles I W events image)) old new
-  pub no_runs : r' ≡ r
+  pub no_runs : now.runs ≡ before.runs
+  pub elsewhere : StaysElsewhere order I [] old new
 
 -- A run is a list of events; but where the disk failed a move, that happened or not.
-abbrev pub RunsOver : Order → Image → Folder → World → Option (List Exchange) → Option (List Exchange) → Option (List Question) → Option (List Question)
-    → Option (List Run)
-    → Option (List Run) → Outcome → History → History → Type 0
-RunsOver order I folder W x x' a a' r r' outcome old new = IsRun order I folder W x x' a a' r r' outcome old new
-    ⊎ FailsToMove order I folder W r r' outcome old new
+abbrev pub RunsOver : Order → Image → Folder → World → Devices → Devices → Outcome → History → History → Type 0
+RunsOver order I folder W before now outcome old new =
+    IsRun order I folder W before now outcome old new ⊎ FailsToMove order I folder W before now outcome old new
 
 -- By each image that the folder makes, and each world that the disk begins at.
-abbrev pub RunsOverAll : Order → Option (List Exchange) → Option (List Exchange) → Option (List Question) → Option (List Question) → Option (List Run)
-    → Option (List Run)
-    → Outcome → History → History → Type 0
-RunsOverAll order x x' a a' r r' outcome old new = (I : Image) → IsGood I → (folder : Folder) → IsImageOfFolder I folder → (W : World) → Begins I folder W old
-    → RunsOver order I folder W x x' a a' r r' outcome old new
+abbrev pub RunsOverAll : Order → Devices → Devices → Outcome → History → History → Type 0
+RunsOverAll order before now outcome old new = (I : Image) → IsGood I → (folder : Folder) → IsImageOfFolder I folder → (W : World) → Begins I folder W old
+    → RunsOver order I folder W before now outcome old new
 
 -- ---- a run where no store is there
 
 -- A store of the version is begun, which is one event: a crash at any moment leaves none, or it, whole; and where the command ended well, it, and the
--- next run may begin there.
+-- next run may begin there. Outside the folder `store` nothing is changed.
 pub record BeginsStore (version : Version) (outcome : Outcome) (old new : History) : Type 0 where
   pub each : (I : Image) → IsGood I → (W : World) → IsBare W old
       → IsBeginning I (next I W (Began version)) old new × OnOk outcome (HasBegun I (bytes_at (tree_of old)) (next I W (Began version)) new)
+  pub elsewhere : ChangesOnly (λ path. is_store path ≡ true) old new
 
 -- ---- the headline
 
@@ -151,13 +138,12 @@ pub record HasCauses (words : List (List ℕ)) (outcome : Outcome) (status : ℕ
 
 -- There is one thing that the run came to. The status and the text are of it, or the text could not be written, or it ran out of memory; it
 -- has its cause; it is what the words order, done as they order it; and that is a run of the machine, crash included.
-pub record Headline (words : List (List ℕ)) (status : ℕ) (before now : Devices) (output_before output_now : Option (List ℕ))
-    (failed_before failed_now : Faults) : Type 0 where
+pub record Headline (words : List (List ℕ)) (status : ℕ) (before now : Devices) (output_before output_now : Option (List ℕ)) : Type 0 where
   pub outcome : Outcome
   pub ends : Ends outcome status output_before output_now
-  pub causes : HasCauses words outcome status failed_before failed_now
+  pub causes : HasCauses words outcome status before.faults now.faults
   pub misused : SpellsNone words → Carried IsMisused outcome before.disk now.disk
   pub does : (order : Order) → Spells words order → Does order outcome before now
   pub runs : (order : Order) → Spells words order
-      → Moves before.disk now.disk (RunsOverAll order before.connections now.connections before.asked now.asked before.runs now.runs outcome)
+      → Moves before.disk now.disk (RunsOverAll order before now outcome)
   pub begins : (version : Version) → Spells words (init version) → Moves before.disk now.disk (BeginsStore version outcome)

@@ -14,6 +14,7 @@ use Rattle.settings_machine.specs.Step.{opened}
 use Rattle.settings_machine.specs.Events.{Event, Opened, Succeeded, Failing, Began, next, after}
 use Rattle.settings_machine.specs.Paid.{IsGood}
 use Rattle.machine_disk.specs.Kept.{Folder, DiskAt}
+use Rattle.machine_disk.specs.Touched.{TouchesOwn}
 use Rattle.machine_disk.specs.Ran.{RunsTo, RunsBy}
 use Rattle.machine_disk.specs.Store.{bytes_at}
 use Rattle.store_open.specs.Laws.{IsImageOfFolder, IsRefusal}
@@ -27,6 +28,7 @@ use Rattle.core_commands.specs.Carried.{set_requests, apply_requests, Comes, Car
 use Rattle.core_commands.specs.Committing.{ComesTo}
 use Rattle.core_commands.specs.Lines.{IsSettingsLine, IsJobLine}
 use Rattle.core_commands.specs.Handing.{not_opened}
+use Rattle.api_server.specs.Causes.{FaultCounts, AreCounted}
 use Rattle.api_server.specs.Rounds.{Round, AreExchanged}
 use Rattle.api_server.specs.Serving.{AreServed}
 use Rattle.version_links.specs.declared.version.Version.{Version}
@@ -47,12 +49,13 @@ pub record Begins (I : Image) (folder : Folder) (W : World) (h : History) : Type
   pub disk : DiskAt I folder W W h
   pub idle : W.job ≡ Idle
 
--- Events of this form were made, crash included, and the programs that were run are those of the events.
+-- Events of this form were made, crash included; no path is touched but their own; and the programs that were run are those of the events.
 pub record IsRun (I : Image) (folder : Folder) (W : World) (form : List Event → Type 0) (ran_before ran_after : Option (List Run)) (old new : History) : Type
     0 where
   pub events : List Event
   pub form_is : form events
   pub runs_to : RunsTo I folder W events old new
+  pub touches : TouchesOwn I events old new
   pub ran : RunsBy I W events ran_before ran_after
 
 -- The store was not opened: the disk failed or it ran out of memory, and the opening was taken or not; or what is there was refused,
@@ -87,21 +90,21 @@ AppliesRun = RequestsRun apply_requests IsJobLine
 
 -- ---- serve
 
--- The opening, and what is served from the opened world on, with the bytes of each connection; or the store was not opened, and no connection accepted.
-abbrev pub ServeEvents : Image → World → Bool → Option ℕ → Option (List Exchange) → Option (List Exchange) → Outcome → List Event → Type 0
-ServeEvents I W boot slice x x' outcome events =
+-- The opening, and what is served from the opened world on, with the bytes of each connection, where each failure among the events was counted by its
+-- device; or the store was not opened, and no connection accepted.
+abbrev pub ServeEvents : Image → World → Bool → Option ℕ → FaultCounts → FaultCounts → Option (List Exchange) → Option (List Exchange) → Outcome
+    → List Event → Type 0
+ServeEvents I W boot slice n n' x x' outcome events =
     ((fine : Bool) × (rounds : List Round) × (later : List Event) × (events ≡ Opened boot Succeeded ∷ later)
-    × AreServed I slice boot fine false (opened I W boot) rounds later
-    × Moves x x' (AreExchanged rounds) × (outcome ≡ served fine))
+    × AreServed I slice boot fine false (opened I W boot) rounds later × AreCounted later n n' × Moves x x' (AreExchanged rounds) × (outcome ≡ served fine))
     ⊎ (IsUnopened boot outcome events × (x' ≡ x))
 
 -- A `serve` is a run of these events.
 abbrev pub ServesRun : Type 0
-ServesRun = (I : Image) → IsGood I → (folder : Folder) → IsImageOfFolder I folder → (W : World) (boot : Bool) (slice : Option ℕ) (x x' : Option (List Exchange))
-    (outcome : Outcome)
-    (ran_before ran_after : Option (List Run)) (old new : History) → Begins I folder W old
-    → IsServed boot slice x x' ran_before ran_after outcome (Some old) (Some new) → IsRun I folder W (ServeEvents I W boot slice x x' outcome) ran_before
-    ran_after old new
+ServesRun = (I : Image) → IsGood I → (folder : Folder) → IsImageOfFolder I folder → (W : World) (boot : Bool) (slice : Option ℕ) (n n' : FaultCounts)
+    (x x' : Option (List Exchange)) (outcome : Outcome) (ran_before ran_after : Option (List Run)) (old new : History) → Begins I folder W old
+    → IsServed boot slice n n' x x' ran_before ran_after outcome (Some old) (Some new)
+    → IsRun I folder W (ServeEvents I W boot slice n n' x x' outcome) ran_before ran_after old new
 
 -- ---- get
 

@@ -1,3 +1,4 @@
 pub mod Events
 pub mod Headline
+pub mod Touched
 pub mod Laws

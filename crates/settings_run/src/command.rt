@@ -8,8 +8,8 @@ ghost use Rattle.command_words.specs.Orders.{Spells};
 ghost use Rattle.command_words.specs.Orders.{serve as ServeOrder};
 ghost use Rattle.api_server.specs.Serving.{wanted};
 ghost use Rattle.settings_cmd.specs.Carried.{ServesNot, RunsNothing, AsksNothing};
-ghost use Rattle.settings_cmd.specs.Does.{devices};
-ghost use Rattle.settings_run.specs.Headline.{Headline, faults};
+ghost use Rattle.settings_cmd.specs.Does.{devices, faults};
+ghost use Rattle.settings_run.specs.Headline.{Headline};
 
 use command_outcome::tell;
 use outside::{Asker, Disk, Door, Sink};
@@ -36,11 +36,11 @@ pub fn run<D: Disk, S: Asker, N: Door, O: Sink>(
     // The run came to what the words order, done as they order it on any disk; and where the disk tells, and was at one world at the start or had
     // no store, that is a run of the map machine.
     ensures headline { Headline (texts words.now) result
-        (devices (D.told disk.old) (N.state door.old) (N.told door.old) (S.asked spawner.old) (S.runs spawner.old))
-        (devices (D.told disk.new) (N.state door.new) (N.told door.new) (S.asked spawner.new) (S.runs spawner.new))
-        (O.told out.old) (O.told out.new)
-        (faults (D.faults disk.old) (N.faults door.old) (S.faults spawner.old))
-        (faults (D.faults disk.new) (N.faults door.new) (S.faults spawner.new)) }
+        (devices (D.told disk.old) (N.state door.old) (N.told door.old) (S.asked spawner.old) (S.runs spawner.old)
+        (faults (D.faults disk.old) (N.faults door.old) (S.faults spawner.old)))
+        (devices (D.told disk.new) (N.state door.new) (N.told door.new) (S.asked spawner.new) (S.runs spawner.new)
+        (faults (D.faults disk.new) (N.faults door.new) (S.faults spawner.new)))
+        (O.told out.old) (O.told out.new) }
 
     ensures served { (boot : Bool) (slice connections : Option ℕ) → Spells (texts words.now) (ServeOrder boot slice connections)
         → result ≡ 0 → ((N.state door.new).accepted ≡ wanted connections) ⊎ ((N.state door.new).ended ≡ true) }

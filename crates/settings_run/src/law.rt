@@ -1,5 +1,6 @@
 //! The runs of commands.
 ghost use Rattle.settings_run.specs.Laws.{InitsRun, ServesRun, SetsRun, GetsRun, AppliesRun, MigratesRun, GeneratesRun, ProvisionsRun};
+ghost use Rattle.settings_run.specs.Touched.{TouchesWithin, OtherStoresStay};
 
 /// Where the disk is at one world, whose job is idle, each command that opens the store is a run of the machine: of the
 /// opening, and of its requests and turns. At its end the tree is that of the last world. On the way each covered file is paid
@@ -7,7 +8,10 @@ ghost use Rattle.settings_run.specs.Laws.{InitsRun, ServesRun, SetsRun, GetsRun,
 /// crash at the end what recovers to one after which nothing is acknowledged. The programs that were run are those of the events. Where
 /// no call of the disk has failed, the disk is at the last world alone. A `generate` and a `user-data` are the opening and the commit of
 /// what generators or a file give to the opened world, where they give it; a `generate` that answers leaves each live value. An `init`
-/// and a `migrate` that answer are one event each, or none where the store is at the version. It does nothing: its clauses are the law.
+/// and a `migrate` that answer are one event each, or none where the store is at the version.
+///
+/// A run touches no path but its own. What any run may touch is in the folder `store`, or is a file of the manifest. What its
+/// events may touch is in no other data directory than the one to which the links lead. It does nothing: its clauses are the law.
 pub fn laws()
     ensures init { InitsRun }
     ensures serve { ServesRun }
@@ -17,4 +21,6 @@ pub fn laws()
     ensures migrate { MigratesRun }
     ensures generate { GeneratesRun }
     ensures user_data { ProvisionsRun }
+    ensures within { TouchesWithin }
+    ensures other { OtherStoresStay }
 {}

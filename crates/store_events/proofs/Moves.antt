@@ -18,7 +18,8 @@ use Rattle.settings_machine.proofs.PaidLaws.{still_due, migrations_pay}
 use Rattle.machine_disk.specs.Store as disk
 use Rattle.machine_disk.specs.Store.{HasFiles, Recovers}
 use Rattle.machine_disk.specs.Kept.{Folder, DiskAt}
-use Rattle.machine_disk.specs.Ran.{Within, OnTheWay, LeavesPaid}
+use Rattle.machine_disk.specs.Ran.{IsLate, Within, OnTheWay, LeavesPaid}
+use Rattle.machine_disk.proofs.Runs.{disk_moments}
 use Rattle.machine_disk.proofs.Prefixes.{start_paid, one_paid, leaves_paid, whole}
 use Rattle.migrate_chain.specs.Store.{HasStore}
 use Rattle.migrate_chain.specs.Tasks.{Task, Mapped, Refused, AreDone}
@@ -159,28 +160,20 @@ module _ (I : Image) (good : IsGood I) (folder : Folder) (W : World) (to : Versi
   away : IsSettled new → HasMigrated at W.held to transitions migrations (Some log) now (tree_of new)
       → HasMoved I folder W to transitions migrations (Some log) now old new
   away settled has =
-      let is_made : IsMade W to transitions migrations (Some log) now made =
-      made_of I good folder W to transitions migrations (Some log) now p q (Ok answered) old new disk_at migrates (tree_of new) has in
       record {
         events = Moved to made ∷ [];
         form = inr (made, is_made, refl);
-        runs = whole I good folder W (Moved to made ∷ []) old new (N_of made) here (Within (Moved to made ∷ []) [] refl refl refl)
-            (one_paid I W (Moved to made) (λ f covered was. migrations_pay I good W to made f covered))
-            (since_map (λ c. Recovers I W c ⊎ ((other : Held) × IsMade W to transitions migrations (Some log) now other × Recovers I (N_of other) c))
-            (OnTheWay I W W (Moved to made ∷ [])) old new
-            (λ c either. ⊎_elim (λ r. inl r) (λ m. inr (record {
-              first = Moved to made ∷ [];
-              rest = [];
-              whole = refl;
-              recovers =
-                  same_world c m.0 is_made m.1 m.2;
-            })) either)
-            (moments I good folder W to transitions migrations (Some log) now p q (Ok answered) old new disk_at migrates))
+        runs = whole I good folder W (Moved to made ∷ []) old new (N_of made) here late
+            (one_paid I W (Moved to made) (λ f covered was. migrations_pay I good W to made f covered)) way
+            (disk_moments I folder W W (Moved to made) old new (N_of made) disk_at here late way)
             (λ calm. here);
       }
     where
       made : Held
       made = has.moved.made
+
+      is_made : IsMade W to transitions migrations (Some log) now made
+      is_made = made_of I good folder W to transitions migrations (Some log) now p q (Ok answered) old new disk_at migrates (tree_of new) has
 
       store : disk.HasStore (N_of made) (tree_of new)
       store = moved_store I good folder W to transitions migrations (Some log) now p q (Ok answered) old new disk_at migrates (tree_of new) has
@@ -202,6 +195,21 @@ module _ (I : Image) (good : IsGood I) (folder : Folder) (W : World) (to : Versi
           → Recovers I (N_of other) c → Recovers I (N_of made) c
       same_world c other one two r =
           subst (λ (h : Held). Recovers I (N_of h) c) (one_made _ _ W.held log now other made two.carried one.carried) r
+
+      late : IsLate I W W (Moved to made ∷ []) (N_of made)
+      late = Within (Moved to made ∷ []) [] refl refl refl
+
+      way : EachSince (OnTheWay I W W (Moved to made ∷ [])) old new
+      way = since_map (λ c. Recovers I W c ⊎ ((other : Held) × IsMade W to transitions migrations (Some log) now other × Recovers I (N_of other) c))
+          (OnTheWay I W W (Moved to made ∷ [])) old new
+          (λ c either. ⊎_elim (λ r. inl r) (λ m. inr (record {
+            first = Moved to made ∷ [];
+            rest = [];
+            whole = refl;
+            recovers =
+                same_world c m.0 is_made m.1 m.2;
+          })) either)
+          (moments I good folder W to transitions migrations (Some log) now p q (Ok answered) old new disk_at migrates)
 
   moved_well : HasMoved I folder W to transitions migrations (Some log) now old new
   moved_well =

@@ -17,6 +17,7 @@ use Rattle.machine_disk.specs.Store as disk
 use Rattle.machine_disk.specs.Store.{Recovers}
 use Rattle.machine_disk.specs.Kept.{Folder, DiskAt}
 use Rattle.machine_disk.specs.Ran.{Before, OnTheWay}
+use Rattle.machine_disk.proofs.Moments.{none_moments}
 use Rattle.machine_disk.proofs.Prefixes.{none_paid, whole}
 use Rattle.migrate_chain.specs.Store.{HasStore, IsInOther}
 use Rattle.migrate_chain.specs.Migrating.{SinceStart}
@@ -57,15 +58,16 @@ module _ (I : Image) (good : IsGood I) (folder : Folder) (W : World) (old new : 
 
   -- Nothing changed but in the folder of the store, and the store is as it was at every moment.
   pub stayed : SinceStart (disk.HasStore W) old new → HasStayed I folder W old new
-  stayed since = whole I good folder W [] old new W here (Before refl refl) (none_paid I W) moments (λ calm. here) where
-    here : DiskAt I folder W W new
-    here =
-        let now : EachImage (λ c. IsImage old c ⊎ disk.HasStore W c) new = since_now (λ c. IsImage old c ⊎ disk.HasStore W c) old new since in
-        stays_at I folder W old new touches disk_at (old_store (tree_of new) (now (tree_of new) (tree_is_image new))) (λ c left. old_store c (now c left))
+  stayed since = whole I good folder W [] old new W here (Before refl refl) (none_paid I W) moments
+      (none_moments I W W old new disk_at.store disk_at.etc moments) (λ calm. here) where
+        here : DiskAt I folder W W new
+        here =
+            let now : EachImage (λ c. IsImage old c ⊎ disk.HasStore W c) new = since_now (λ c. IsImage old c ⊎ disk.HasStore W c) old new since in
+            stays_at I folder W old new touches disk_at (old_store (tree_of new) (now (tree_of new) (tree_is_image new))) (λ c left. old_store c (now c left))
 
-    moments : EachSince (OnTheWay I W W []) old new
-    moments = since_map (λ c. (IsImage old c ⊎ disk.HasStore W c) × HasLeft I W c) (OnTheWay I W W []) old new (λ c both. inl (recovers c both))
-        (since_both (λ c. IsImage old c ⊎ disk.HasStore W c) (HasLeft I W) old new since (due_left I folder W old new touches disk_at))
+        moments : EachSince (OnTheWay I W W []) old new
+        moments = since_map (λ c. (IsImage old c ⊎ disk.HasStore W c) × HasLeft I W c) (OnTheWay I W W []) old new (λ c both. inl (recovers c both))
+            (since_both (λ c. IsImage old c ⊎ disk.HasStore W c) (HasLeft I W) old new since (due_left I folder W old new touches disk_at))
 
   abbrev place : Place
   place = place_in W (tree_of old) disk_at.store

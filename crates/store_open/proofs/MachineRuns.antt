@@ -68,7 +68,7 @@ module _ (I : Image) (folder : Folder) (W V : World) (old new : History) (disk_a
 
   kept_at : (directory : Names) → IsOnlyRecovered directory old new → IsKeptAt I folder W V old new
   kept_at directory only = let now : Recovered I folder W V (led_to directory only) old new = only_recovered directory only in
-      record { disk = now.disk; moments = now.moments }
+      record { disk = now.disk; moments = now.moments; touches = now.touches }
 
   refusal_keeps : (boot : Bool) (e : OpenError) → IsRefusal e → Opens boot (Err e) old new → IsKeptAt I folder W V old new
   refusal_keeps boot refused.Failed is opens = absurd is

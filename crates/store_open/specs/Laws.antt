@@ -14,6 +14,7 @@ use Rattle.settings_machine.specs.Opening.{opened_held}
 use Rattle.settings_machine.specs.Paid.{IsGood}
 use Rattle.settings_machine.specs.Seen.{Holds}
 use Rattle.machine_disk.specs.Kept.{Folder, DiskAt}
+use Rattle.machine_disk.specs.Touched.{TouchesOwn}
 use Rattle.machine_disk.specs.Ran.{OnTheWay, OpensTo, OpensNot}
 use Rattle.store_open.specs.World as stored
 use Rattle.store_open.specs.World.{HasWorld}
@@ -51,10 +52,11 @@ ImagesAreGood = (folder : Folder) (model : Model) (manifest : Manifest) (templat
 abbrev pub IsMachineStep : Type 0
 IsMachineStep = (I : Image) (image : own.Image) → HoldsImage I image → (boot : Bool) (held : Held) → opened boot image held ≡ opened_held I held boot
 
--- The disk is at W alone, and nothing else was on the way.
+-- The disk is at W alone, nothing else was on the way, and nothing but the data directory was touched.
 pub record IsKeptAt (I : Image) (folder : Folder) (W V : World) (old new : History) : Type 0 where
   pub disk : DiskAt I folder W W new
   pub moments : EachSince (OnTheWay I W V []) old new
+  pub touches : TouchesOwn I [] old new
 
 -- What an opening makes of the machine's run: it succeeded, and what was read is the image; or the disk or memory failed it; or the
 -- store is of format 1 or ill typed, and all that was done is that its journal was carried out. No other refusal comes.

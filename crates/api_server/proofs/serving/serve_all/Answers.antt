@@ -6,7 +6,7 @@ use Rattle.api_server.proofs.serving.serve_all.Goals as goal
 
 pub loop-number-init : goal.loop-number-init
 loop-number-init g c = record {
-  serves = moves_stay (λ h. rounds_none c.args.slice c.args.core.now _ _ h);
+  serves = moves_stay (λ h. rounds_none c.args.slice c.args.core.now _ _ _ _ h);
   sound = c.requires.sound;
   idle = c.requires.idle;
   accepted = c.requires.unused;
@@ -25,7 +25,8 @@ loop-number-preserved g c =
     record {
       serves = moves_then
           (λ old between new all next.
-          rounds_more c.in-Ok-true.field-0 c.in-Ok-true.field-0-test c.args.slice c.args.core.now c.loop-number.core c.serve_one.new.core _ _ _ _ _ _ _ _ _ old
+          rounds_more c.in-Ok-true.field-0 c.in-Ok-true.field-0-test c.args.slice c.args.core.now c.loop-number.core c.serve_one.new.core _ _ _ _ _ _ _ _ _ _
+          old
           between new
           c.in-Ok-true.ensures.opened all next) was.serves one.serves;
       sound = one.sound;

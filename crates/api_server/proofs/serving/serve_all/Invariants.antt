@@ -2,12 +2,15 @@ use Rattle.std.proofs.Common.{◌≡◌, ◌≤◌, false}
 use Rattle.outside.specs.Told.{Moves}
 use Rattle.api_core.specs.Cores.{IsSound}
 use Rattle.api_server.specs.Answered.{ServesAll}
+use Rattle.api_server.specs.Causes.{fault_counts}
 use Rattle.api_server.proofs.serving.serve_all.Given as goal
 
 abbrev pub invariant-loop-number : goal.invariant-loop-number
 invariant-loop-number g l = record {
   serves : Moves (g.D.Disk.told l.initial.disk) (g.D.Disk.told l.disk)
-      (ServesAll l.slice l.initial.core l.core (g.N.Door.told l.initial.door) (g.N.Door.told l.door) (g.S.Spawner.runs l.initial.spawner)
+      (ServesAll l.slice l.initial.core l.core (fault_counts (g.D.Disk.faults l.initial.disk) (g.S.Spawner.faults l.initial.spawner))
+      (fault_counts (g.D.Disk.faults l.disk) (g.S.Spawner.faults l.spawner)) (g.N.Door.told l.initial.door) (g.N.Door.told l.door)
+      (g.S.Spawner.runs l.initial.spawner)
       (g.S.Spawner.runs l.spawner));
   sound : IsSound l.core;
   idle : (g.N.Door.state l.door).busy ≡ false;

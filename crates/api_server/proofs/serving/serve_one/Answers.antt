@@ -2,6 +2,7 @@ use Rattle.std.proofs.Common.{sym, Option, List, subst}
 use Rattle.outside.specs.Exchange.{Exchange}
 use Rattle.outside.proofs.Told.{moves_then}
 use Rattle.api_server.specs.Answered.{ServesOne}
+use Rattle.api_server.specs.Causes.{fault_counts}
 use Rattle.api_server.proofs.Followed.{one_round}
 use Rattle.api_server.proofs.serving.serve_one.Goals as goal
 
@@ -9,7 +10,9 @@ pub returns-clause-serves : goal.returns-clause-serves
 returns-clause-serves g c = moves_then
     (λ old between new answers turns.
     subst (λ (told : Option (List Exchange)). ServesOne c.args.slice c.args.core.now c.turns.new.self
-    (g.D.Disk.faults c.args.disk.now) (g.D.Disk.faults c.turns.new.disk) (g.N.Door.told c.args.door.now) told
+    (fault_counts (g.D.Disk.faults c.args.disk.now) (g.S.Spawner.faults c.args.spawner.now))
+    (fault_counts (g.D.Disk.faults c.turns.new.disk) (g.S.Spawner.faults c.turns.new.spawner)) (g.N.Door.told c.args.door.now) told
     (g.S.Spawner.runs c.args.spawner.now) (g.S.Spawner.runs c.turns.new.spawner) old new)
-    (sym c.finish.ensures.same) (one_round _ _ _ _ _ _ _ _ _ _ _ old between new answers c.turns.ensures.disk_faults.later turns))
+    (sym c.finish.ensures.same) (one_round _ _ _ _ _ _ _ _ _ _ _ _ _ old between new answers c.answer_one.ensures.disk_faults c.turns.ensures.disk_faults
+    c.turns.ensures.spawner_faults turns))
     c.answer_one.ensures.answers c.turns.ensures.turns

@@ -1,10 +1,11 @@
-use Rattle.std.proofs.Common.{Result, Ok, Err, false, refl, ap, subst}
+use Rattle.std.proofs.Common.{ℕ, Result, Ok, Err, false, refl, sym, ap, subst}
 use Rattle.outside.proofs.Told.{moves_map}
 use Rattle.outside.specs.Told.{Moves}
 use Rattle.store_open.specs.Opening.{Opens}
 use Rattle.store_open.specs.declared.opened.Opened.{Opened}
 use Rattle.store_open.specs.declared.open_error.OpenError.{OpenError}
 use Rattle.command_outcome.specs.declared.refusal.Refusal.{Refusal}
+use Rattle.api_server.specs.Causes.{fault_counts}
 use Rattle.settings_cmd.proofs.Servings.{serves_store}
 use Rattle.settings_cmd.proofs.serving.serve_store.Goals as goal
 
@@ -18,8 +19,9 @@ returns-in-Ok-clause-served g c = record {
   follows = (
     c.ended.ensures,
     moves_map
-        (λ old new serves. serves_store c.args.boot c.args.slice c.serve-fine.result c.in-Ok.store c.new-core.result c.serve-fine.new.core _ _ _ _ old new
-        c.new-core.ensures.state c.new-core.ensures.image serves)
+        (λ old new serves. serves_store c.args.boot c.args.slice c.serve-fine.result c.in-Ok.store c.new-core.result c.serve-fine.new.core
+        _ _ _ _ _ _ _ old new c.new-core.ensures.state c.new-core.ensures.image serves
+        (ap (λ (d : ℕ). fault_counts d (g.S.Spawner.faults c.args.spawner.now)) (sym c.in-Ok.ensures.cause.kept)))
         c.serve-fine.ensures.serves,
   );
 }

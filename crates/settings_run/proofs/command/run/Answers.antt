@@ -7,7 +7,7 @@ use Rattle.settings_run.proofs.command.run.Goals as goal
 
 pub returns-clause-headline : goal.returns-clause-headline
 returns-clause-headline g c =
-    headline _ c.carry_out-outcome.result _ _ c.carry_out-outcome.ensures.unrun c.carry_out-outcome.ensures.does c.tell.result _ _ _ _ c.tell.ensures.ends
+    headline _ c.carry_out-outcome.result _ _ c.carry_out-outcome.ensures.unrun c.carry_out-outcome.ensures.does c.tell.result _ _ c.tell.ensures.ends
     (record {
       memory = c.tell.ensures.memory;
       disk = c.carry_out-outcome.ensures.disk_fault;

@@ -1,6 +1,7 @@
 use Rattle.settings_run.proofs.CommandRuns.{sets_run, applies_run, serves_run, gets_run}
 use Rattle.settings_run.proofs.MoveRuns.{inits_run, migrates_run}
 use Rattle.settings_run.proofs.Pairs.{generates_run, provisions_run}
+use Rattle.settings_run.proofs.Touched.{touches_within, other_stores_stay}
 use Rattle.settings_run.proofs.law.laws.Goals as goal
 
 pub returns : goal.returns
@@ -14,4 +15,6 @@ returns c = record {
   generate =
       generates_run;
   user_data = provisions_run;
+  within = touches_within;
+  other = other_stores_stay;
 }
