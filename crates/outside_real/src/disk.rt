@@ -11,16 +11,19 @@ use std::rt::Files;
 /// A disk over the files below a folder, to which nobody else writes.
 ///
 /// A file lies at its own path, and a link as a file at the same path below `.links`. A new file is made in `.work`,
-/// synced, and renamed over the old one. A folder is no node: one without files gives way to a file, and below `store`
-/// and `.links` a folder goes with the last file in it.
+/// synced, and renamed over the old one; a file that is there is written over by `write`, without losing its blocks. A folder is no node: one
+/// without files gives way to a file, below `.links` a folder goes with the last file in it, and below `store` up to 64 stay until `tidy`.
+///
+/// A file that is removed from `store` is kept in `.work`, at most 128 of 64 KiB at most. Once a sync has put its removal on the disk it serves for
+/// the next new file of `store`.
 ///
 /// The first call takes the lock on the folder, which is held as long as the disk lives. Where another program holds it,
 /// each call is a fault and nothing is read or changed; `wait_for_lock` lets the first one wait for it. On a file system that is
 /// read-only the lock is taken without being made.
 ///
 /// `sync` flushes each file that was written in place and each folder whose entries changed since the last sync that
-/// answered Ok, each once. The first one also flushes all files and folders of `store`, `etc` and `.links`, as an
-/// earlier program may have left them. The bytes of a file that was written in place are kept until it is on the disk:
+/// answered Ok, each once. While something isn't flushed, `.work/unsettled` is there. Where an earlier program has left it, the first sync
+/// flushes all files and folders of `store`, `etc` and `.links` too. The bytes of a file that was written in place are kept until it is on the disk:
 /// where its sync fails, reads answer them and the next sync writes them anew. Where the sync of a folder fails, or of a
 /// file whose bytes aren't kept, each later call is a fault.
 ///
@@ -52,6 +55,11 @@ where
     /// No call takes the lock on the folder: for who reads alone what no program writes.
     pub fn take_no_lock(&mut self) {
         self.folder.hold.take_none();
+    }
+
+    /// Removes the empty folders below `store`, as far as it can: for the end of a program, since until then they stay.
+    pub fn tidy(&mut self) {
+        let _ = self.folder.prune_left(0);
     }
 
     /// Whether another program held the lock on the folder at the last call.

@@ -4,31 +4,35 @@ use crate::failure::Failure;
 use crate::folders::Folders;
 use crate::hold::Hold;
 use crate::limits::check_size;
-use crate::nodes::Nodes;
-use crate::places::{Kind, Standing, is_own, place_of, remove_file, what_stands};
+use crate::mark::{Mark, UNSETTLED};
+use crate::places::{Kind, Standing, is_own, place_of, remove_file, what_stands, write_over};
+use crate::spares::Spares;
 use crate::unsynced::Unsynced;
 use crate::walk::Walk;
 use crate::work::{Lock, make_new, place_in_work};
 use outside::Path;
 use std::alloc::AllocError;
-use std::fs::{self, OpenFile};
-use std::io::{self, ErrorKind, Write};
+use std::fs;
+use std::io::{self, ErrorKind};
 use std::rt::Files;
+
+/// How many folders below `store` may stay empty.
+const MOST_LEFT: usize = 64;
 
 /// The files below a folder, and the places that changed since the last sync that answered Ok. Each error is the
 /// system's, or `OutOfMemory`.
 #[derive(Drop)]
 pub struct Folder<R: Files + AllocGlobal + Clone + Drop> {
-    rt: R,
-    root: String,
+    pub(crate) rt: R,
+    pub(crate) root: String,
     /// The hold on the folder.
     pub hold: Hold<R>,
     // By what the last call failed, where it isn't at its own path.
     strayed: Option<Strayed>,
-    folders: Folders,
-    unsynced: Unsynced,
-    // Whether what earlier programs may have left is among what is to be synced, or on the disk.
-    settled: bool,
+    pub(crate) folders: Folders,
+    pub(crate) unsynced: Unsynced,
+    mark: Mark,
+    spares: Spares,
 }
 
 impl<R: Files + AllocGlobal + Clone + Drop> Folder<R>
@@ -44,7 +48,8 @@ where
             strayed: None,
             folders: Folders::new(alloc),
             unsynced: Unsynced::new(alloc),
-            settled: false,
+            mark: Mark::new(),
+            spares: Spares::new(alloc),
             rt,
         })
     }
@@ -58,14 +63,14 @@ where
     }
 
     // The call failed by this one, at this place.
-    fn stray(&mut self, call: &'static str, place: Option<String>) {
+    pub(crate) fn stray(&mut self, call: &'static str, place: Option<String>) {
         if let Some(place) = place {
             self.strayed = Some(Strayed { call, place });
         }
     }
 
     // Begins a call: takes the lock, if it isn't taken. An error after a failed sync of what can't be written anew.
-    fn begin(&mut self) -> io::Result<()> {
+    pub(crate) fn begin(&mut self) -> io::Result<()> {
         if self.unsynced.is_broken() {
             return Err(io::Error::from(ErrorKind::Other));
         }
@@ -78,14 +83,27 @@ where
         answer
     }
 
+    // A change is to begin: the mark is there from now on.
+    fn begin_change(&mut self) -> io::Result<()> {
+        self.mark.set(&self.rt, self.root.as_str())
+    }
+
+    // Where it was the mark by which the call failed, its place is kept.
+    fn stray_mark<T>(&mut self, answer: &io::Result<T>) {
+        if answer.is_err() {
+            let place = place_in_work(self.rt.alloc(), self.root.as_str(), UNSETTLED).ok();
+            self.stray("write", place);
+        }
+    }
+
     // The place of the first names of the path.
-    fn first_names(&self, kind: Kind, path: &Path, count: usize) -> io::Result<String> {
+    pub(crate) fn first_names(&self, kind: Kind, path: &Path, count: usize) -> io::Result<String> {
         let place = place_of(self.rt.alloc(), self.root.as_str(), kind, path, count)?;
         Ok(place)
     }
 
     // The place of the path, which is none of the adapters' own.
-    fn place(&self, kind: Kind, path: &Path) -> io::Result<String> {
+    pub(crate) fn place(&self, kind: Kind, path: &Path) -> io::Result<String> {
         match path.names().first() {
             Some(name) if is_own(name.as_slice()) => {
                 Err(io::Error::from(ErrorKind::InvalidFilename))
@@ -95,12 +113,12 @@ where
     }
 
     // The folder that the path lies in.
-    fn folder(&self, kind: Kind, path: &Path) -> io::Result<String> {
+    pub(crate) fn folder(&self, kind: Kind, path: &Path) -> io::Result<String> {
         self.first_names(kind, path, path.names().len().saturating_sub(1))
     }
 
     // Whether the folders that the path lies in are there, none of them by a symbolic link.
-    fn has_folders(&mut self, kind: Kind, path: &Path) -> io::Result<bool> {
+    pub(crate) fn has_folders(&mut self, kind: Kind, path: &Path) -> io::Result<bool> {
         let folder = self.folder(kind, path)?;
         if self.folders.is_known(&folder) {
             return Ok(true);
@@ -185,7 +203,7 @@ where
             Standing::File => Ok(true),
             Standing::Folder if !path.names().is_empty() => {
                 self.note_folder(kind, path)?;
-                self.remove_folders(place)?;
+                self.folders.remove_all(&self.rt, place)?;
                 Ok(false)
             }
             Standing::Nothing => Ok(false),
@@ -193,47 +211,22 @@ where
         }
     }
 
-    // Takes away the folder and those below it. An error where there is more in them.
-    fn remove_folders(&mut self, place: String) -> io::Result<()> {
-        let mut walk = Walk::new(self.rt.alloc());
-        walk.add(&self.rt, place)?;
-        walk.go(&self.rt)?;
-        if walk.has_others || !walk.files.is_empty() {
-            return Err(io::Error::from(ErrorKind::IsADirectory));
+    // A file in `.work` with these bytes, on the disk: for a file of the store it may be a spare. Answers its place.
+    fn make(&mut self, kind: Kind, path: &Path, bytes: &[u8]) -> io::Result<String> {
+        check_size(bytes.len())?;
+        if kind.is_stored(path) {
+            return self.spares.make(&self.rt, self.root.as_str(), bytes);
         }
-        for _ in 0..usize::MAX {
-            let Some(folder) = walk.folders.pop() else {
-                break;
-            };
-            self.folders.forget(&folder);
-            fs::remove_dir(&self.rt, folder.as_str())?;
-        }
-        Ok(())
-    }
-
-    // Takes away the folders that the path lies in and in which nothing is left, from the last one up to those that
-    // last. The folder above such a one is to be synced.
-    fn prune(&mut self, kind: Kind, path: &Path) -> io::Result<()> {
-        for count in (kind.lasting(path)..path.names().len()).rev() {
-            let folder = self.first_names(kind, path, count)?;
-            let above = self.first_names(kind, path, count.saturating_sub(1))?;
-            let copy = String::from_str(self.rt.alloc(), above.as_str())?;
-            let is_new = self.unsynced.note(copy)?;
-            if !self.folders.remove_empty(&self.rt, folder)? {
-                if is_new {
-                    self.unsynced.forget(&above);
-                }
-                break;
-            }
-        }
-        Ok(())
+        let (place, _) = make_new(&self.rt, self.root.as_str(), bytes)?;
+        Ok(place)
     }
 
     /// Makes the path a node of this kind, by a rename of a new file that is on the disk.
     pub fn put(&mut self, kind: Kind, path: &Path, bytes: &[u8]) -> io::Result<()> {
         self.begin()?;
         let place = self.place(kind, path)?;
-        let new = make_new(&self.rt, self.root.as_str(), bytes)?;
+        self.begin_change()?;
+        let new = self.make(kind, path, bytes)?;
         self.make_way(kind, path)?;
         // Noted first, so that a failure in between is synced too.
         self.note_folder(kind, path)?;
@@ -251,13 +244,22 @@ where
         Ok(())
     }
 
-    // Takes away the node of this kind, if there is one, and the folders that it leaves empty.
+    // Removes the file of the node at the path: one of the store may be kept as a spare.
+    fn remove_node(&mut self, kind: Kind, path: &Path, place: &str) -> io::Result<()> {
+        if kind.is_stored(path) {
+            return self.spares.remove(&self.rt, self.root.as_str(), place);
+        }
+        remove_file(&self.rt, place)
+    }
+
+    // Takes away the node of this kind, if there is one.
     fn take(&mut self, kind: Kind, path: &Path) -> io::Result<()> {
         if let Some(place) = self.node(kind, path)? {
+            self.begin_change()?;
             self.note_folder(kind, path)?;
-            remove_file(&self.rt, place.as_str())?;
+            self.remove_node(kind, path, place.as_str())?;
             self.unsynced.forget(&place);
-            self.prune(kind, path)?;
+            self.leave(kind, path)?;
         }
         Ok(())
     }
@@ -274,8 +276,8 @@ where
         check_size(bytes.len())?;
         let copy = String::from_str(self.rt.alloc(), place.as_str())?;
         self.unsynced.begin(copy)?;
-        let mut file = fs::create(&self.rt, place.as_str())?;
-        file.write_all(bytes)
+        write_over(&self.rt, place.as_str(), bytes)?;
+        Ok(())
     }
 
     // Writes the file at the path, and keeps its bytes.
@@ -287,11 +289,23 @@ where
         Ok(())
     }
 
+    // Where a new file of the store is to be, a spare may be laid, with any bytes.
+    fn lay_spare(&mut self, path: &Path) -> io::Result<()> {
+        let place = self.place(Kind::File, path)?;
+        if Kind::File.is_stored(path) {
+            self.spares
+                .lay(&self.rt, self.root.as_str(), place.as_str())?;
+        }
+        Ok(())
+    }
+
     /// Makes the path a file with these bytes, in place.
     pub fn write(&mut self, path: &Path, bytes: &[u8]) -> io::Result<()> {
         self.begin()?;
+        self.begin_change()?;
         if !self.make_way(Kind::File, path)? {
             self.note_folder(Kind::File, path)?;
+            self.lay_spare(path)?;
         }
         self.write_kept(path, bytes)?;
         self.take(Kind::Link, path)
@@ -309,16 +323,29 @@ where
         Ok(())
     }
 
-    fn put_down(&mut self) -> io::Result<()> {
-        if !self.settled {
+    // What earlier programs may have left is from now on among what is to be synced.
+    fn settle(&mut self) -> io::Result<()> {
+        let answer = self.mark.is_left(&self.rt, self.root.as_str());
+        self.stray_mark(&answer);
+        if answer? {
             self.note_all()?;
-            self.settled = true;
+            self.mark.take_over();
         }
-        let answer = self.unsynced.sync(&self.rt);
-        if answer.is_err() {
+        Ok(())
+    }
+
+    // Flushes all that is to be synced. The mark goes after that.
+    fn put_down(&mut self) -> io::Result<()> {
+        self.settle()?;
+        self.prune_left(MOST_LEFT)?;
+        if let Err(e) = self.unsynced.sync(&self.rt) {
             let place = self.unsynced.failed.take();
             self.stray("fsync", place);
+            return Err(e);
         }
+        self.spares.settle();
+        let answer = self.mark.clear(&self.rt, self.root.as_str());
+        self.stray_mark(&answer);
         answer
     }
 
@@ -327,55 +354,5 @@ where
     pub fn sync(&mut self) -> io::Result<()> {
         self.begin()?;
         self.put_down()
-    }
-
-    // Whether there is a folder where a node of this kind at the path would be. A symbolic link there is an error.
-    fn is_folder(&mut self, kind: Kind, path: &Path) -> io::Result<bool> {
-        let place = self.place(kind, path)?;
-        if !self.has_folders(kind, path)? {
-            return Ok(false);
-        }
-        self.folders.stands(&self.rt, place)
-    }
-
-    // Adds what lies directly in the folder.
-    fn list_folder(&mut self, kind: Kind, folder: &Path, nodes: &mut Nodes) -> io::Result<()> {
-        let place = self.first_names(kind, folder, folder.names().len())?;
-        nodes.add_entries(&self.rt, folder, place.as_str())?;
-        self.folders.set(place)?;
-        Ok(())
-    }
-
-    // Adds the nodes of this kind below the path.
-    fn list_kind(&mut self, kind: Kind, path: &Path, nodes: &mut Nodes) -> io::Result<()> {
-        if !self.is_folder(kind, path)? {
-            return Ok(());
-        }
-        nodes.add_folder(path.copy()?)?;
-        // A folder that others fill meanwhile may never be listed to its end.
-        for _ in 0..u64::MAX {
-            let Some(folder) = nodes.next_folder() else {
-                break;
-            };
-            self.list_folder(kind, &folder, nodes)?;
-        }
-        Ok(())
-    }
-
-    // Adds the nodes of both kinds below the path.
-    fn list_kinds(&mut self, path: &Path, nodes: &mut Nodes) -> io::Result<()> {
-        self.list_kind(Kind::File, path, nodes)?;
-        self.list_kind(Kind::Link, path, nodes)
-    }
-
-    /// The paths of all nodes strictly below the path, rising. A name that is none of a path is an error.
-    pub fn list(&mut self, path: &Path) -> io::Result<Vec<Path>> {
-        self.begin()?;
-        let mut nodes = Nodes::new(self.rt.alloc());
-        if let Err(e) = self.list_kinds(path, &mut nodes) {
-            self.stray("list", nodes.failed.take());
-            return Err(e);
-        }
-        Ok(nodes.rising(self.rt.alloc())?)
     }
 }

@@ -87,28 +87,30 @@ impl Nodes {
         answer
     }
 
-    // Adds each of the folder, which is at the place.
+    // Adds each of the folder, which is at the place, and answers whether there is any.
     fn add_each<R: Files + AllocGlobal + Clone + Drop>(
         &mut self,
         rt: &R,
         folder: &Path,
         place: &str,
-    ) -> io::Result<()> {
+    ) -> io::Result<bool> {
+        let mut is_empty = true;
         for entry in fs::read_dir(rt, place)? {
             let entry = entry?;
             let name = entry.file_name().as_bytes();
             self.add_entry(rt, folder, name, entry.path().as_str())?;
+            is_empty = false;
         }
-        Ok(())
+        Ok(!is_empty)
     }
 
-    /// Adds what lies directly in the folder, which is at the place.
+    /// Adds what lies directly in the folder, which is at the place, and answers whether there is anything.
     pub fn add_entries<R: Files + AllocGlobal + Clone + Drop>(
         &mut self,
         rt: &R,
         folder: &Path,
         place: &str,
-    ) -> io::Result<()> {
+    ) -> io::Result<bool> {
         let answer = self.add_each(rt, folder, place);
         if answer.is_err() && self.failed.is_none() {
             self.failed = String::from_str(rt.alloc(), place).ok();

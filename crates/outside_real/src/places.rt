@@ -1,8 +1,8 @@
 //! Where the nodes of a disk lie below a real folder.
 use outside::Path;
 use std::alloc::{AllocError, Global};
-use std::fs;
-use std::io::{self, ErrorKind};
+use std::fs::{self, OpenFile, OpenOptions};
+use std::io::{self, ErrorKind, Write};
 use std::rt::Files;
 
 /// Files lie at their own paths, and links as files at the same paths below a folder of their own.
@@ -19,7 +19,7 @@ impl Kind {
     fn folder(self) -> &'static str {
         match self {
             Kind::File => "",
-            Kind::Link => "/.links",
+            Kind::Link => LINKS,
         }
     }
 
@@ -31,21 +31,24 @@ impl Kind {
         }
     }
 
-    /// How many of the first folders of a path stay once they are empty. Below `store` and `.links` no folder does.
-    pub fn lasting(self, path: &Path) -> usize {
-        match (self, path.names().first()) {
-            (Kind::Link, _) => 1,
-            (Kind::File, Some(name)) if name.as_slice() == b"store".as_slice() => 2,
-            _ => usize::MAX,
-        }
+    /// Whether the node is one of the store itself: a file below `store`.
+    pub fn is_stored(self, path: &Path) -> bool {
+        self == Kind::File
+            && matches!(path.names().first(), Some(name) if name.as_slice() == b"store".as_slice())
     }
 }
 
 /// The socket below the root.
 pub const SOCKET: &str = "/api.sock";
 
+/// The folders below the root from which empty folders are removed.
+pub const STORE: &str = "/store";
+
+/// The same, of links.
+pub const LINKS: &str = "/.links";
+
 /// The folders below the root in which an earlier program may have left what is not on the disk yet.
-pub const KEPT: [&str; 3] = ["/store", "/etc", "/.links"];
+pub const KEPT: [&str; 3] = [STORE, "/etc", LINKS];
 
 /// Whether the name of something directly below the root is the adapters' own, so that no node lies there.
 pub fn is_own(name: &[u8]) -> bool {
@@ -109,6 +112,21 @@ pub fn what_stands(files: &impl Files, place: &str) -> io::Result<Standing> {
     }
 }
 
+/// Writes the bytes into the file at the place, which is made where it is missing, and answers the open file. Its blocks are written over, so that
+/// the system frees none: what is left of a longer file is cut off last.
+pub fn write_over<R: Files>(files: &R, place: &str, bytes: &[u8]) -> io::Result<R::File> {
+    let mut file = OpenOptions::new()
+        .write(true)
+        .create(true)
+        .open(files, place)?;
+    file.write_all(bytes)?;
+    let count = bytes.len() as u64;
+    if count < file.metadata()?.len() {
+        file.set_len(count)?;
+    }
+    Ok(file)
+}
+
 /// Removes the file at the place, if there is one.
 pub fn remove_file(files: &impl Files, place: &str) -> io::Result<()> {
     match fs::remove_file(files, place) {
@@ -118,7 +136,7 @@ pub fn remove_file(files: &impl Files, place: &str) -> io::Result<()> {
 }
 
 /// Removes the folder at the place, if there is one, and answers whether it could. False where something is in it, or
-/// where another file system begins there.
+/// where another file system begins there, or the file system is read-only.
 pub fn remove_empty(files: &impl Files, place: &str) -> io::Result<bool> {
     match fs::remove_dir(files, place) {
         Ok(()) => Ok(true),
@@ -126,7 +144,10 @@ pub fn remove_empty(files: &impl Files, place: &str) -> io::Result<bool> {
         Err(e)
             if matches!(
                 e.kind(),
-                ErrorKind::DirectoryNotEmpty | ErrorKind::AlreadyExists | ErrorKind::ResourceBusy
+                ErrorKind::DirectoryNotEmpty
+                    | ErrorKind::AlreadyExists
+                    | ErrorKind::ResourceBusy
+                    | ErrorKind::ReadOnlyFilesystem
             ) => { Ok(false) }
         Err(e) => Err(e),
     }

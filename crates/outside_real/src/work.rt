@@ -1,5 +1,4 @@
 //! The folder `.work`, and the locks in it.
-use crate::limits::check_size;
 use crate::places::{Standing, look, remove_file};
 use std::alloc::{AllocError, Global};
 use std::fs::{self, DirBuilder, File, OpenFile, OpenOptions};
@@ -32,7 +31,8 @@ impl Lock for File {
     }
 }
 
-fn refused() -> io::Error {
+/// Something in `.work` that isn't as these adapters make it.
+pub fn refused() -> io::Error {
     io::Error::from(ErrorKind::PermissionDenied)
 }
 
@@ -80,14 +80,17 @@ fn create_anew<R: Files>(files: &R, place: &str) -> io::Result<R::File> {
         .open(files, place)
 }
 
-/// A new file in `.work` with these bytes, on the disk. Answers its place.
-pub fn make_new<R: Files + AllocGlobal>(rt: &R, root: &str, bytes: &[u8]) -> io::Result<String> {
+/// A new file in `.work` with these bytes, on the disk. Answers its place and its mode.
+pub fn make_new<R: Files + AllocGlobal>(
+    rt: &R,
+    root: &str,
+    bytes: &[u8],
+) -> io::Result<(String, u32)> {
     let place = place_in_work(rt.alloc(), root, "new")?;
-    check_size(bytes.len())?;
     let mut file = create_anew(rt, place.as_str())?;
     file.write_all(bytes)?;
     file.sync_all()?;
-    Ok(place)
+    Ok((place, file.metadata()?.mode()))
 }
 
 // The file of the lock of this name in `.work`, which is made where it is missing.

@@ -100,6 +100,7 @@ fn status_of(rt: &HostRuntime) -> io::Result<u8> {
     // the socket is bound by the first accept, which `serve` alone asks for
     let mut door = RealDoor::new(rt.clone()?, ".", WholeRequests::new(alloc))?;
     let status = run(alloc, &words, &mut disk, &mut spawner, &mut door, &mut out);
+    disk.tidy();
     door.drain();
     match status {
         MISUSED => {
