@@ -18,8 +18,8 @@ _settingsctl() {
     local word=${COMP_WORDS[COMP_CWORD]}
     local targets='/settings /services /configuration-files /metadata/affected-services /os /tx /tx/list /tx/commit /tx/apply /tx/commit_and_apply /job'
     case $COMP_CWORD in
-        1) COMPREPLY=($(compgen -W 'GET PATCH POST DELETE --help --version' -- "$word")) ;;
-        2) COMPREPLY=($(compgen -W "$targets" -- "$word")) ;;
+        1) COMPREPLY=($(compgen -W 'get pending drop transactions commit apply wait GET PATCH POST DELETE -C --help --version' -- "$word")) ;;
+        2) [[ ${COMP_WORDS[1]} == [A-Z]* ]] && COMPREPLY=($(compgen -W "$targets" -- "$word")) ;;
     esac
 }
 

@@ -10,5 +10,5 @@ complete -c settings -n '__fish_seen_subcommand_from user-data' -F
 
 set -l targets /settings /services /configuration-files /metadata/affected-services /os /tx /tx/list /tx/commit /tx/apply /tx/commit_and_apply /job
 complete -c settingsctl -f
-complete -c settingsctl -n 'test (count (commandline -opc)) -eq 1' -a 'GET PATCH POST DELETE --help --version'
+complete -c settingsctl -n 'test (count (commandline -opc)) -eq 1' -a 'get pending drop transactions commit apply wait GET PATCH POST DELETE -C --help --version'
 complete -c settingsctl -n 'test (count (commandline -opc)) -eq 2' -a "$targets"

@@ -1,4 +1,5 @@
 pub mod Asking
+pub mod Carried
 pub mod Sendings
 pub mod Hearings
 pub mod Checked

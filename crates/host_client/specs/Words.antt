@@ -1,4 +1,4 @@
--- What the words of the command line ask for.
+-- The words METHOD, TARGET and BODY.
 use Rattle.std.specs.Prelude.{◌≡◌, ℕ, true, List, [], ◌∷◌, Option, Some, None}
 use Rattle.host_client.specs.Question.{is_question}
 
@@ -11,7 +11,3 @@ words_of method target (Some body) = method ∷ target ∷ body ∷ []
 pub record AsksFor (words : List (List ℕ)) (method target : List ℕ) (body : Option (List ℕ)) : Type 0 where
   pub spelled : words ≡ words_of method target body
   pub sound : is_question method target body ≡ true
-
--- The words are those of no question that can be asked.
-pub record AsksNothing (words : List (List ℕ)) : Type 0 where
-  pub nothing : (method target : List ℕ) (body : Option (List ℕ)) → AsksFor words method target body → ⊥

@@ -43,14 +43,15 @@ fn are_digits(value: &[u8]) -> bool
     value.iter().all(|b| b.is_ascii_digit())
 }
 
-fn is_number(value: &[u8]) -> bool
+/// Whether it is one or more digits.
+pub(crate) fn is_number(value: &[u8]) -> bool
     ensures { result ≡ is_number value.now }
 {
     !value.is_empty() && are_digits(value)
 }
 
-// The number that the digits spell, if it is below 2 to the 64.
-fn number_of(digits: &[u8]) -> Option<usize>
+/// The number that the digits spell, if it is below 2 to the 64.
+pub(crate) fn number_of(digits: &[u8]) -> Option<usize>
     requires { IsTrue (is_number digits.now) }
     ensures { MatchOption result (2 ^ 64 ≤ digits_value 10 digits.now) (λ n. n ≡ digits_value 10 digits.now) }
 {

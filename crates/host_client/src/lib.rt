@@ -1,20 +1,27 @@
-//! A client of the server of settings: one question over a link with its reply, and the program `settingsctl` as one
-//! call.
+//! A client of the server of settings: one question over a link with its reply, the questions that a verb asks, one after
+//! another, and the program `settingsctl` as one call.
 //!
-//! It shares nothing with the server but the grammar of HTTP (RFC 9112), as `httparse` states it.
+//! It shares nothing with the server but the grammars of HTTP (RFC 9112), as `httparse` states it, and of JSON, as
+//! `serde_json` states it.
 #![tactic(auto)]
 
 mod client;
+mod command;
 mod exchange;
 mod exchange_error;
+mod job;
 mod length;
-mod output;
+mod next;
 mod question;
 mod reply;
 mod reply_error;
-mod words;
+mod step;
+mod stop;
+mod target;
+mod turns;
 
 pub use client::run_client;
+pub use command::{is_verb, most_questions};
 pub use exchange::ask;
 pub use exchange_error::AskError;
 pub use question::{is_question, question_text};

@@ -24,6 +24,6 @@ pub use link::Link;
 pub use name::{Name, is_name};
 pub use path::Path;
 pub use path_error::PathError;
-pub use saying::{say, say_line};
+pub use saying::say;
 pub use sink::Sink;
 pub use spawner::{Answer, AskErr, Asker, Spawner};

@@ -1,5 +1,5 @@
 //! Texts are written to a sink.
-ghost use Rattle.std.specs.Prelude.{◌≡◌, ◌∷◌, ◌++◌, [], OnOk};
+ghost use Rattle.std.specs.Prelude.{OnOk};
 ghost use Rattle.outside.specs.Told.{Moves};
 ghost use Rattle.outside.specs.Faults.{HasCause};
 ghost use Rattle.outside.specs.Said.{IsSaid, IsSaidInPart};
@@ -19,15 +19,4 @@ pub fn say<O: Sink>(out: &mut O, bytes: &[u8]) -> Result<(), Failed>
         rest = &rest[taken..];
     }
     Ok(())
-}
-
-/// Writes the bytes and a line feed. It fails as `say` does.
-#[tactic(auto, using(crate::proofs::Sayings::sayings))]
-pub fn say_line<O: Sink>(out: &mut O, bytes: &[u8]) -> Result<(), Failed>
-    ensures said { OnOk result (Moves (O.told out.old) (O.told out.new) (IsSaid (bytes.now ++ 10 ∷ []))) }
-    ensures in_part { Moves (O.told out.old) (O.told out.new) (IsSaidInPart (bytes.now ++ 10 ∷ [])) }
-    ensures cause { HasCause (O.faults out.old) (O.faults out.new) result }
-{
-    say(out, bytes)?;
-    say(out, b"\n")
 }

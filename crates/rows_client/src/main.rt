@@ -3,8 +3,9 @@
 //! - `server` lets the server answer what it is given, from here on.
 //! - `$ A|B` runs the client with the words between the bars, over that server or one that answers what the lines below give: its status in brackets, where
 //!   that is not 0, the line `nothing sent`, where that is so, and what it printed. `sent` tells what the last run sent.
-//! - `fail connect N`, `fail read N` and `fail write N` let the call of the link with this number fail in the next run, and `fail output N` lets the output
-//!   take so many bytes and then fail.
+//! - `then` lets the server answer what it is given to one more question of the next run.
+//! - `fail connect N`, `fail read N` and `fail write N` let the call of the first link with this number fail in the next run, with `N LINK` that of another
+//!   link, and `fail output N` lets the output take so many bytes and then fail.
 //! - `reply` tells the status and the body of the reply that it is given, or that it is none.
 #![tactic(auto)]
 
@@ -46,6 +47,7 @@ impl Subject for Rows {
         match word {
             "reply" => shown = reply(alloc, given.input())?,
             "server" => self.client.answer = given.input().to_vec(alloc)?,
+            "then" => self.client.further.push(given.input().to_vec(alloc)?)?,
             "sent" => shown.extend_from_slice(&self.client.sent)?,
             "fail" => self.client.fail(given.words()?)?,
             "$" => shown = self.client.run(alloc, given.words()?, given.lines)?,

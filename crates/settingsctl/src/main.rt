@@ -1,16 +1,20 @@
-//! The program `settingsctl`: it asks the server in the working folder one question, METHOD TARGET [BODY], and prints
-//! the answer.
+//! The program `settingsctl`: it asks the server in a folder one question, METHOD TARGET [BODY], or what a verb says, and
+//! prints the answer.
 #![tactic(auto)]
 
+mod paced;
 mod usage;
 
+use crate::paced::PacedLink;
 use crate::usage::PAGE;
-use host_client::run_client;
+use host_client::{is_verb, most_questions, run_client};
 use outside_real::{RealLink, RealSink, words_of};
 use program_version::VERSION;
 use std::alloc::AllocError;
+use std::fs;
 use std::io::{self, Write};
 use std::process::ExitCode;
+use std::time::Duration;
 
 /// The exit status of a program that ran out of memory in making its devices, as that of a run.
 const OUT_OF_MEMORY: u8 = 1;
@@ -22,6 +26,15 @@ const MISUSED: u8 = 2;
 const LINK: u8 = 4;
 
 const OUTPUT: u8 = 12;
+
+/// The folder of a host's server.
+const USUAL: &str = "/var/lib/settings";
+
+/// How many questions are asked without a pause between them.
+const AT_ONCE: usize = 2;
+
+/// The links of a run, one for each question.
+type Links = Vec<PacedLink<HostRuntime, RealLink<HostRuntime>>>;
 
 fn main(rt: HostRuntime) -> ExitCode {
     match status_of(&rt) {
@@ -54,6 +67,29 @@ fn tell(rt: &HostRuntime, failure: Result<Option<String>, AllocError>) {
     }
 }
 
+// The folder that is asked, and the words after it: DIR where the words begin with `-C DIR`. By default it is the working folder;
+// for a verb, where that has no socket, the folder of a host's server.
+fn folder_of<'a>(rt: &HostRuntime, words: &'a [String]) -> (&'a str, &'a [String]) {
+    match words {
+        [word, folder, rest @ ..] if word.as_str() == "-C" => (folder.as_str(), rest),
+        [word, ..] if is_verb(word.as_str()) && fs::metadata(rt, "api.sock").is_err() => {
+            (USUAL, words)
+        }
+        _ => (".", words),
+    }
+}
+
+// As many links as the words may ask questions, with a second before each but the first two.
+fn links_of(rt: &HostRuntime, folder: &str, count: usize) -> io::Result<Links> {
+    let mut links = Vec::new(rt.alloc());
+    for i in 0..count {
+        let pause = Duration::from_secs(if i < AT_ONCE { 0 } else { 1 });
+        let link = RealLink::new(rt.clone()?, folder)?;
+        links.push(PacedLink::new(rt.clone()?, link, pause))?;
+    }
+    Ok(links)
+}
+
 // The status of the run. Where standard output is closed nothing is asked: the socket would take its place, and get what is printed.
 // Standard error says what failed, and where the words ask no question, how they are spelled.
 fn status_of(rt: &HostRuntime) -> io::Result<u8> {
@@ -66,13 +102,18 @@ fn status_of(rt: &HostRuntime) -> io::Result<u8> {
     if let Some(status) = told(rt, &words) {
         return Ok(status);
     }
-    let mut link = RealLink::new(rt.clone()?, ".")?;
-    let status = run_client(alloc, &words, &mut link, &mut out);
+    let (folder, words) = folder_of(rt, &words);
+    let mut links = links_of(rt, folder, most_questions(words))?;
+    let status = run_client(alloc, words, &mut links, &mut out);
     match status {
         MISUSED => {
             let _ = eprint!(rt; "{PAGE}");
         }
-        LINK => tell(rt, link.last_failure()),
+        LINK => {
+            for paced in &links {
+                tell(rt, paced.link().last_failure());
+            }
+        }
         OUTPUT => tell(rt, out.last_failure()),
         _ => {}
     }

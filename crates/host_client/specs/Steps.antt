@@ -1,0 +1,142 @@
+-- What an order does, as a function of the replies so far: the next question, or the end with its exit status and its output.
+use Rattle.std.specs.Prelude.{◌≡◌, ℕ, Bool, true, ◌&&◌, ◌==◌, ◌-◌, nat_le, if◌then◌else◌, List, [], ◌∷◌, ◌++◌, length, codes, decimal}
+use Rattle.std.specs.Prelude.{Option, Some, None, slice_get}
+use Rattle.std.specs.List.{flat_map, list_any}
+use Rattle.std.specs.Str.{bytes_eq}
+use Rattle.percent_encoding.specs.Percent.{percent_encode}
+use Rattle.host_client.specs.Question.{is_question}
+use Rattle.host_client.specs.Orders.{Order, plain, get, pending, discard, transactions, commit, apply, wait}
+use Rattle.host_client.specs.Jobs.{job_of, cause_status}
+use Rattle.host_client.specs.declared.job.Job.{Job}
+use Rattle.host_client.specs.declared.job.Job.TheVariants.{Running, Done, Owed, Failed, Unknown}
+use Rattle.host_client.specs.declared.reply.Got.{Got}
+use Rattle.host_client.specs.declared.step.Question.{Question}
+use Rattle.host_client.specs.declared.step.Ending.{Ending}
+use Rattle.host_client.specs.declared.step.Step.{Step}
+use Rattle.host_client.specs.declared.step.Step.TheVariants.{Ask, End}
+use Rattle.host_client.specs.declared.target.TheConstants.{ESCAPED}
+
+-- ---- questions
+
+-- A question without a body.
+abbrev pub question : List ℕ → List ℕ → Question
+question method target = record { method = method; target = target; body = None }
+
+-- Bytes of a query, with `%` escapes for all but letters, digits, `-`, `.` and `_` of ASCII.
+abbrev pub escaped : List ℕ → List ℕ
+escaped bytes = percent_encode ESCAPED bytes
+
+-- The settings at these keys; all of them where there is no key.
+abbrev pub settings_target : List (List ℕ) → List ℕ
+settings_target [] = codes "/settings"
+settings_target (key ∷ keys) = codes "/settings?keys=" ++ escaped key ++ flat_map (λ other. codes "," ++ escaped other) keys
+
+-- What is pending.
+abbrev pub pending_target : Option (List ℕ) → List ℕ
+pending_target None = codes "/tx"
+pending_target (Some tx) = codes "/tx?tx=" ++ escaped tx
+
+-- The settings at a key and below it.
+abbrev pub below_question : List ℕ → Question
+below_question key = question (codes "GET") (codes "/settings?prefix=" ++ escaped key)
+
+-- How the job goes.
+abbrev pub job_question : Question
+job_question = question (codes "GET") (codes "/job")
+
+-- What is asked first.
+abbrev pub first_question : Order → Question
+first_question (plain method target body) = record { method = method; target = target; body = body }
+first_question (get keys) = question (codes "GET") (settings_target keys)
+first_question (pending tx) = question (codes "GET") (pending_target tx)
+first_question (discard tx) = question (codes "DELETE") (codes "/tx?tx=" ++ escaped tx)
+first_question transactions = question (codes "GET") (codes "/tx/list")
+first_question (commit tx) = question (codes "POST") (codes "/tx/commit_and_apply?tx=" ++ escaped tx)
+first_question apply = question (codes "POST") (codes "/tx/apply")
+first_question (wait seconds) = job_question
+
+-- ---- ends
+
+-- The bytes and a line feed.
+abbrev pub line_of : List ℕ → List ℕ
+line_of bytes = bytes ++ codes "\n"
+
+-- The line of a body, nothing for an empty one.
+abbrev pub body_line : List ℕ → List ℕ
+body_line [] = []
+body_line (b ∷ bytes) = line_of (b ∷ bytes)
+
+-- The line of a reply with another status than 200 to 299.
+abbrev pub refused_line : ℕ → List ℕ → List ℕ
+refused_line status body = codes "settingsctl: refused " ++ decimal status ++ codes " " ++ line_of body
+
+-- A status of 200 to 299.
+abbrev pub is_success : ℕ → Bool
+is_success status = nat_le 200 status && nat_le status 299
+
+-- This exit status and these bytes.
+abbrev pub ended : ℕ → List ℕ → Step
+ended status line = End (record { status = status; line = line })
+
+-- The question is asked; a usage error where it can't be (it is too long).
+abbrev pub asking : Question → Step
+asking q = if is_question q.method q.target q.body then Ask q else ended 2 (codes "settingsctl: usage\n")
+
+-- The body of a success; the status and the body of a refusal, after what was to be printed before.
+abbrev pub refused_by : List ℕ → Got → Step
+refused_by front reply = ended 13 (front ++ refused_line reply.status reply.body)
+
+abbrev pub ended_by : Got → Step
+ended_by reply = if is_success reply.status then ended 0 (body_line reply.body) else refused_by [] reply
+
+-- ---- after the first reply
+
+-- One key without a value of its own has settings below it, or nothing is there and its refusal stays.
+abbrev pub after_below : Got → Got → Step
+after_below reply below = if is_success below.status && bytes_eq below.body (codes "{}") then ended_by reply else ended_by below
+
+abbrev pub next_below : List ℕ → Got → List Got → Step
+next_below key reply [] = asking (below_question key)
+next_below key reply (below ∷ replies) = after_below reply below
+
+abbrev pub after_get : List (List ℕ) → Got → List Got → Step
+after_get (key ∷ []) reply replies = if reply.status == 404 then next_below key reply replies else ended_by reply
+after_get _ reply replies = ended_by reply
+
+-- By the job: it is asked again while it runs. The bytes are printed first at the end.
+abbrev pub by_job : List ℕ → Job → Step
+by_job front Running = asking job_question
+by_job front Done = ended 0 front
+by_job front Owed = ended 10 (front ++ codes "settingsctl: owed\n")
+by_job front (Failed cause) = ended (cause_status cause) (front ++ codes "settingsctl: " ++ cause ++ codes "\n")
+by_job front Unknown = ended 21 (front ++ codes "settingsctl: bad reply\n")
+
+-- By the last reply to `GET /job`, if there is one yet.
+abbrev pub by_last : List ℕ → Option Got → Step
+by_last front None = asking job_question
+by_last front (Some reply) = if is_success reply.status then by_job front (job_of reply.body) else refused_by front reply
+
+-- The last reply of some.
+abbrev pub last_of : List Got → Option Got
+last_of replies = slice_get replies (length replies - 1)
+
+-- A change was refused, or it was made and its job is waited for.
+abbrev pub after_change : Got → List Got → Step
+after_change reply replies = if is_success reply.status then by_last (body_line reply.body) (last_of replies) else refused_by [] reply
+
+abbrev pub follow : Order → Got → List Got → Step
+follow (get keys) reply replies = after_get keys reply replies
+follow (commit tx) reply replies = after_change reply replies
+follow apply reply replies = after_change reply replies
+follow (wait seconds) reply replies = by_last [] (last_of (reply ∷ replies))
+follow _ reply replies = ended_by reply
+
+-- What comes after these replies.
+abbrev pub next : Order → List Got → Step
+next order [] = asking (first_question order)
+next order (reply ∷ replies) = follow order reply replies
+
+-- What is asked can be asked, and a run of questions ends with one of these exit statuses.
+abbrev pub IsSound : Step → Type 0
+IsSound (Ask q) = is_question q.method q.target q.body ≡ true
+IsSound (End ending) = list_any (λ status. status == ending.status) (0 ∷ 1 ∷ 2 ∷ 3 ∷ 5 ∷ 10 ∷ 13 ∷ 21 ∷ []) ≡ true
