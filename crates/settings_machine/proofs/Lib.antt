@@ -16,3 +16,9 @@ pub mod Answering
 pub mod Rendering
 pub mod Jobly
 pub mod Refusals
+pub mod Apartness
+pub mod Reopening
+pub mod Settled
+pub mod Calming
+pub mod Newest
+pub mod Touching

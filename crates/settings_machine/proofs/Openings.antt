@@ -26,7 +26,7 @@ use Rattle.settings_machine.proofs.Reached.{of_keys, keys_of}
 
 -- ---- values after an opening
 
-abbrev first_some : Option Scalar → Option Scalar → Option Scalar
+abbrev pub first_some : Option Scalar → Option Scalar → Option Scalar
 first_some None other = other
 first_some (Some v) other = Some v
 
@@ -59,7 +59,7 @@ get-filled (e ∷ es) m q =
         ap (λ (o : Option Scalar). first_some o (find key_cmp q es)) (get-insert key_total m e.0 e.1 q ∙ ap (λ b. cond b (Some e.1) (get m q)) tie)
 
 -- What is at a key after an opening.
-abbrev opened_at : Values → Values → Key → Option Scalar
+abbrev pub opened_at : Values → Values → Key → Option Scalar
 opened_at defaults live q = if is_of_image q then get defaults q else first_some (get live q) (get defaults q)
 
 pub get-opened : (defaults live : Values) (q : Key) → get (opened_values defaults live) q ≡ opened_at defaults live q

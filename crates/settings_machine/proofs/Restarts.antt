@@ -8,7 +8,7 @@ use Rattle.json_trees.specs.declared.pending.Pending.{Pending}
 use Rattle.outside.specs.Spawner.{Run}
 use Rattle.settings_tree.specs.declared.entry.Owed.{Owed}
 use Rattle.settings_tree.specs.declared.entry.Owed.TheVariants as owed
-use Rattle.metadata_links.specs.Links.{commands_of}
+use Rattle.metadata_links.specs.Links.{commands_of, files_of}
 use Rattle.template_eval.specs.Rendered.{Rendered}
 use Rattle.settings_machine.specs.declared.cause.Cause.{Cause}
 use Rattle.settings_machine.specs.declared.cause.Cause.TheVariants as cause
@@ -19,7 +19,8 @@ use Rattle.settings_machine.specs.Requests.{Patch, Services, ConfigurationFiles,
 use Rattle.settings_machine.specs.Requests.{Commit, Apply, CommitAndApply, JobNow}
 use Rattle.settings_machine.specs.Step.{Outcome, Answered, WithoutMemory, Unopened, Faulted, Answer, Fine}
 use Rattle.settings_machine.specs.Step.{NoRoom, FileFault, NoSpawn, SyncFault, OwedFault, noting, failing}
-use Rattle.settings_machine.specs.Step.{patch_next, committed_world, commit_next, begun, asked_for, applied, commit_and_apply_next, answered, request_next}
+use Rattle.settings_machine.specs.Step.{patch_next, committed_world, commit_next, begun, asked_for, applied, commit_and_apply_next}
+use Rattle.settings_machine.specs.Step.{answered, request_next}
 use Rattle.settings_machine.specs.Step.{wrote, file_turn, Command, ended, command_turn, last_turn, after_files_turn, work_turn, job_turn, turn_next, opened}
 use Rattle.settings_machine.specs.Events.{Event, Opening, Succeeded, Failing, Opened, Asked, Unread, Turned, Began, Moved, opening_next, next, after}
 use Rattle.settings_machine.specs.Jobs.{Going, Done, Broken, Course, run_at, has_none, run_of, is_last, ending_of, followed, begun_by, courses_by, next_courses}
@@ -54,8 +55,8 @@ module _ (I : Image) where
   pub data Leads (j : Job) (o : Owed) : Job → Type 0 where
     Rests : Leads j o Idle
     Fails : (c : Cause) → Leads j o (Failed c)
-    Begins : is_running j ≡ false → (w : Work) → w.commands ≡ commands_of I.manifest o → Leads j o (Running w)
-    GoesOn : (v w : Work) → j ≡ Running v → w.commands ≡ v.commands → Leads j o (Running w)
+    Begins : is_running j ≡ false → (w : Work) → w.commands ≡ commands_of I.manifest o → w.files ≡ files_of I.manifest o → Leads j o (Running w)
+    GoesOn : (v w : Work) → j ≡ Running v → w.commands ≡ v.commands → w.files ≡ v.files → Leads j o (Running w)
 
   broken : (w : Work) (cs : List Course) → IsHistoryOf I (Running w) cs → HaveEnded I (followed true [] Broken cs)
   broken w [] history = absurd history
@@ -90,24 +91,24 @@ module _ (I : Image) where
   led Idle (Failed d) o cs leads history = history
   led (Failed c) (Failed d) o cs leads history = history
   led (Running v) (Failed d) o cs leads history = broken v cs history
-  led Idle (Running x) o cs (Begins rests w all) history = first w o cs all history
-  led Idle (Running x) o cs (GoesOn v w is same) history = absurd (cc is)
-  led (Failed c) (Running x) o cs (Begins rests w all) history = first w o cs all history
-  led (Failed c) (Running x) o cs (GoesOn v w is same) history = absurd (cc is)
-  led (Running v) (Running x) o cs (Begins rests w all) history = absurd (cc rests)
-  led (Running v) (Running x) o cs (GoesOn u w is same) history =
+  led Idle (Running x) o cs (Begins rests w all files) history = first w o cs all history
+  led Idle (Running x) o cs (GoesOn v w is same files) history = absurd (cc is)
+  led (Failed c) (Running x) o cs (Begins rests w all files) history = first w o cs all history
+  led (Failed c) (Running x) o cs (GoesOn v w is same files) history = absurd (cc is)
+  led (Running v) (Running x) o cs (Begins rests w all files) history = absurd (cc rests)
+  led (Running v) (Running x) o cs (GoesOn u w is same files) history =
       let one : v ≡ u = cc in
       going_on v w cs (same ∙ ap (λ (x : Work). x.commands) (sym one)) history
 
-  same_leads : (j : Job) (o : Owed) → Leads j o j
+  pub same_leads : (j : Job) (o : Owed) → Leads j o j
   same_leads Idle o = Rests
   same_leads (Failed c) o = Fails c
-  same_leads (Running w) o = GoesOn w w refl refl
+  same_leads (Running w) o = GoesOn w w refl refl refl
 
   noting_leads : (j : Job) (keys : List Key) (o : Owed) → Leads j o (noting j keys)
   noting_leads Idle keys o = Rests
   noting_leads (Failed c) keys o = Fails c
-  noting_leads (Running w) keys o = GoesOn w _ refl refl
+  noting_leads (Running w) keys o = GoesOn w _ refl refl refl
 
   failing_leads : (j : Job) (c : Cause) (o : Owed) → Leads j o (failing j c)
   failing_leads Idle c o = Rests
@@ -115,9 +116,9 @@ module _ (I : Image) where
   failing_leads (Running w) c o = Fails c
 
   asked_leads : (j : Job) (o : Owed) → Leads j o (asked_for I o j)
-  asked_leads Idle o = Begins refl _ refl
-  asked_leads (Failed c) o = Begins refl _ refl
-  asked_leads (Running w) o = GoesOn w _ refl refl
+  asked_leads Idle o = Begins refl _ refl refl
+  asked_leads (Failed c) o = Begins refl _ refl refl
+  asked_leads (Running w) o = GoesOn w _ refl refl refl
 
   applied_leads : (W : World) → Leads W.job W.held.owed (applied I W).job
   applied_leads W = by (owes_none W.held.owed) where
@@ -127,9 +128,9 @@ module _ (I : Image) where
 
   -- Apply on the world of a commit: the job that noted is asked for again, or begins.
   noted_asked : (j : Job) (keys : List Key) (o : Owed) → Leads j o (asked_for I o (noting j keys))
-  noted_asked Idle keys o = Begins refl _ refl
-  noted_asked (Failed c) keys o = Begins refl _ refl
-  noted_asked (Running w) keys o = GoesOn w _ refl refl
+  noted_asked Idle keys o = Begins refl _ refl refl
+  noted_asked (Failed c) keys o = Begins refl _ refl refl
+  noted_asked (Running w) keys o = GoesOn w _ refl refl refl
 
   patch_leads : (W : World) (tx : List ℕ) (pairs : List (Key × Pending)) (o : Option Wanted)
       → Leads W.job (patch_next W tx pairs o).world.held.owed (patch_next W tx pairs o).world.job
@@ -167,7 +168,7 @@ module _ (I : Image) where
   answered_leads W (CommitAndApply tx) = commit_and_apply_leads W tx (get W.held.pending tx)
   answered_leads W JobNow = same_leads W.job _
 
-  request_leads : (W : World) (q : Request) (o : Outcome) → Leads W.job (request_next I W q o).world.held.owed (request_next I W q o).world.job
+  pub request_leads : (W : World) (q : Request) (o : Outcome) → Leads W.job (request_next I W q o).world.held.owed (request_next I W q o).world.job
   unfolding request_next
   request_leads W q Answered = answered_leads W q
   request_leads W q WithoutMemory = same_leads W.job _
@@ -178,7 +179,7 @@ module _ (I : Image) where
   unfolding opened
   opened_leads W boot = noting_leads W.job _ _
 
-  opening_leads : (W : World) (boot : Bool) (o : Opening) → Leads W.job (opening_next I W boot o).held.owed (opening_next I W boot o).job
+  pub opening_leads : (W : World) (boot : Bool) (o : Opening) → Leads W.job (opening_next I W boot o).held.owed (opening_next I W boot o).job
   opening_leads W boot Succeeded = opened_leads W boot
   opening_leads W boot (Failing taken) = by taken where
     by : (b : Bool) → Leads W.job (if b then opened I W boot else W).held.owed (if b then opened I W boot else W).job

@@ -2,6 +2,11 @@
 ghost use Rattle.settings_machine.specs.Laws.{FitStays, FilesStayPaid, NothingOwedIsCurrent, OpeningsFit};
 ghost use Rattle.settings_machine.specs.Laws.{OpeningsPay, BeginningsPay, NewStoresAreKept, MigrationsPay, CrashesPay};
 ghost use Rattle.settings_machine.specs.Jobs.{JobsRunInOrder};
+ghost use Rattle.settings_machine.specs.Apart.{OthersLeaveIt, TransactionsAreApart};
+ghost use Rattle.settings_machine.specs.Reopened.{OpeningsKeepSettings, OpeningTwiceIsOnce};
+ghost use Rattle.settings_machine.specs.Settling.{IdleOwesNothing};
+ghost use Rattle.settings_machine.specs.Calm.{CalmJobsEnd, CalmAppliesPay};
+ghost use Rattle.settings_machine.specs.Touched.{JobsTouchTheirFiles, FilesComeFirst};
 
 /// The laws of the machine. It does nothing: its clauses are what holds of every image that can be read.
 ///
@@ -12,7 +17,14 @@ ghost use Rattle.settings_machine.specs.Jobs.{JobsRunInOrder};
 /// configuration files but some that are due, leaves paid what was.
 ///
 /// Each job runs the commands of what was owed when it began, in order, up to the first that fails, and no other program is
-/// run.
+/// run. It writes the files of what was owed then and touches no other, whatever is committed meanwhile. When it runs a
+/// command, its covered files are what their templates render to, but for those that a change since affects. While nothing
+/// fails a job ends, after a turn for each file, one for each command and one, in a world that the one before says; or it
+/// stops at the first template that refuses. After a request for a job that was answered with success, an idle job owes
+/// nothing, unless keys were committed, or added by an opening, for which no job was asked.
+///
+/// What a transaction has pending is changed by requests on it alone, and depends on nothing else. An opening changes no
+/// live setting and nothing that is pending, and one opening after another is one.
 pub fn laws()
     ensures fit { FitStays }
     ensures files { FilesStayPaid }
@@ -24,4 +36,13 @@ pub fn laws()
     ensures migrations { MigrationsPay }
     ensures crashes { CrashesPay }
     ensures restarts { JobsRunInOrder }
+    ensures others { OthersLeaveIt }
+    ensures apart { TransactionsAreApart }
+    ensures settings { OpeningsKeepSettings }
+    ensures twice { OpeningTwiceIsOnce }
+    ensures idle { IdleOwesNothing }
+    ensures calm { CalmJobsEnd }
+    ensures calm_apply { CalmAppliesPay }
+    ensures touched { JobsTouchTheirFiles }
+    ensures first { FilesComeFirst }
 {}

@@ -1,6 +1,11 @@
 use Rattle.settings_machine.proofs.PaidLaws.{fit_stays, files_stay_paid, nothing_owed_is_current, openings_fit}
 use Rattle.settings_machine.proofs.PaidLaws.{openings_pay, beginnings_pay, new_stores_are_kept, migrations_pay, crashes_pay}
 use Rattle.settings_machine.proofs.Programs.{jobs_run_in_order}
+use Rattle.settings_machine.proofs.Apartness.{others_leave_it, transactions_are_apart}
+use Rattle.settings_machine.proofs.Reopening.{openings_keep_settings, opening_twice_is_once}
+use Rattle.settings_machine.proofs.Settled.{idle_owes_nothing}
+use Rattle.settings_machine.proofs.Calming.{calm_jobs_end, calm_applies_pay}
+use Rattle.settings_machine.proofs.Touching.{jobs_touch_their_files, files_come_first}
 use Rattle.settings_machine.proofs.law.laws.Goals as goal
 
 pub returns-clause-fit : goal.returns-clause-fit
@@ -32,3 +37,30 @@ returns-clause-restarts c = jobs_run_in_order
 
 pub returns-clause-current : goal.returns-clause-current
 returns-clause-current c = nothing_owed_is_current
+
+pub returns-clause-apart : goal.returns-clause-apart
+returns-clause-apart c = transactions_are_apart
+
+pub returns-clause-settings : goal.returns-clause-settings
+returns-clause-settings c = openings_keep_settings
+
+pub returns-clause-twice : goal.returns-clause-twice
+returns-clause-twice c = opening_twice_is_once
+
+pub returns-clause-idle : goal.returns-clause-idle
+returns-clause-idle c = idle_owes_nothing
+
+pub returns-clause-calm : goal.returns-clause-calm
+returns-clause-calm c = calm_jobs_end
+
+pub returns-clause-touched : goal.returns-clause-touched
+returns-clause-touched c = jobs_touch_their_files
+
+pub returns-clause-first : goal.returns-clause-first
+returns-clause-first c = files_come_first
+
+pub returns-clause-calm_apply : goal.returns-clause-calm_apply
+returns-clause-calm_apply c = calm_applies_pay
+
+pub returns-clause-others : goal.returns-clause-others
+returns-clause-others c = others_leave_it
