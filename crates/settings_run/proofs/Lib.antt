@@ -16,3 +16,11 @@ pub mod Keeping
 pub mod MoveRuns
 pub mod Pairs
 pub mod Served
+pub mod Instants
+pub mod TreeFiles
+pub mod Rests
+pub mod Cuts
+pub mod Lives
+pub mod NewLives
+pub mod LastingFiles
+pub mod PaidOff

@@ -12,7 +12,7 @@ use Rattle.machine_disk.specs.Ran.{LeavesPaid, AtPaidPrefix, RunsTo}
 use Rattle.settings_run.specs.Headline.{StandsPaid, LeavesFiles, FilesArePaid}
 
 -- Where nothing is due the file isn't, so it is current.
-stands_paid : (I : Image) (X : World) (file : List ℕ) → IsPaid I X file → StandsPaid I X file
+pub stands_paid : (I : Image) (X : World) (file : List ℕ) → IsPaid I X file → StandsPaid I X file
 stands_paid I X file paid = record {
   paid = paid;
   current = λ none. ⊎_elim (λ current. current) (λ is. absurd (no_file I file (due I X.held) none is)) paid.now;

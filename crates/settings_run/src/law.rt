@@ -1,6 +1,7 @@
 //! The runs of commands.
 ghost use Rattle.settings_run.specs.Laws.{InitsRun, ServesRun, SetsRun, GetsRun, AppliesRun, MigratesRun, GeneratesRun, ProvisionsRun};
 ghost use Rattle.settings_run.specs.Touched.{TouchesWithin, OtherStoresStay};
+ghost use Rattle.settings_run.specs.Life.{LivesAreRuns, NewLivesAreRuns, FilesLast, PaysAll};
 
 /// Where the disk is at one world, whose job is idle, each command that opens the store is a run of the machine: of the
 /// opening, and of its requests and turns. At its end the tree is that of the last world. On the way each covered file is paid
@@ -11,7 +12,13 @@ ghost use Rattle.settings_run.specs.Touched.{TouchesWithin, OtherStoresStay};
 /// and a `migrate` that answer are one event each, or none where the store is at the version.
 ///
 /// A run touches no path but its own. What any run may touch is in the folder `store`, or is a file of the manifest. What its
-/// events may touch is in no other data directory than the one to which the links lead. It does nothing: its clauses are the law.
+/// events may touch is in no other data directory than the one to which the links lead.
+///
+/// Every life of a host is one list of the machine's events, by what the headline says of each run: those of its runs, one after
+/// another, each cut where the run was killed or a crash came, and no cut loses an event that was acknowledged by then. It begins at
+/// one world, or without a store; images may be laid between two runs. Over one image each covered file that was paid at the start, and
+/// after a boot each, is paid at the end. After exit status 0 of a `set` or an `apply` nothing is owed. It does nothing: its clauses are
+/// the law.
 pub fn laws()
     ensures init { InitsRun }
     ensures serve { ServesRun }
@@ -23,4 +30,8 @@ pub fn laws()
     ensures user_data { ProvisionsRun }
     ensures within { TouchesWithin }
     ensures other { OtherStoresStay }
+    ensures life { LivesAreRuns }
+    ensures new_life { NewLivesAreRuns }
+    ensures files { FilesLast }
+    ensures pays { PaysAll }
 {}
