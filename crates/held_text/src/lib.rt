@@ -1,6 +1,6 @@
 //! The held text: what a store holds as one line of JSON, printed and read back. It is what a program
-//! that migrates a store is given and answers. Lists of keys and what is owed are written by themselves
-//! too, for other texts.
+//! that migrates a store is given and answers. All of it, lists of keys and what is owed are written as
+//! parts of other texts too.
 #![tactic(auto)]
 
 mod held_error;
@@ -9,5 +9,5 @@ mod text;
 mod writing;
 
 pub use held_error::HeldError;
-pub use text::HeldText;
+pub use text::{HeldText, write_held};
 pub use writing::{write_keys, write_owed};

@@ -3,8 +3,10 @@ pub mod Commits
 pub mod Drops
 pub mod Effects
 pub mod Ended
+pub mod Endings
 pub mod Found
 pub mod Named
+pub mod OneChange
 pub mod Patches
 pub mod Present
 pub mod Rows

@@ -118,7 +118,7 @@ same_set m tx (p ∷ pairs) (e ∷ es) is = some_set m tx e es ∙ ap (insert m 
     ∙ sym (some_set m tx p pairs)
 
 -- What a transaction has after pairs are laid over one.
-inner-set : (m : Pendings) (tx t : List ℕ) (es : Pairs) → inner (fold (λ n e. with_value n tx e.0 e.1) m es) t ≡ cond (eq_by_cmp bytes_cmp t tx)
+pub inner-set : (m : Pendings) (tx t : List ℕ) (es : Pairs) → inner (fold (λ n e. with_value n tx e.0 e.1) m es) t ≡ cond (eq_by_cmp bytes_cmp t tx)
     (put_all (inner m tx) es) (inner m t)
 inner-set m tx t [] = by (eq_by_cmp bytes_cmp t tx) refl where
   by : (b : Bool) → eq_by_cmp bytes_cmp t tx ≡ b → inner m t ≡ cond b (inner m tx) (inner m t)

@@ -12,7 +12,7 @@ use Rattle.settings_tree.specs.declared.entry.Entry.{Entry}
 use Rattle.settings_tree.specs.declared.entry.Entry.TheVariants.{LiveSet, LiveGone, PendSet, PendGone, OwedSet, WeakIs}
 use Rattle.settings_tree.specs.declared.held.Held.{Held}
 use Rattle.pending_tx.specs.Changes.{Tells}
-use Rattle.pending_tx.specs.Transactions.{last_of, changes_of, changed_keys, keys_of, owing}
+use Rattle.pending_tx.specs.Transactions.{last_of, owing}
 
 -- The entry that lays what is pending for a key over its live value.
 abbrev pub live_entry : List (List ℕ) → Pending → Entry
@@ -36,14 +36,18 @@ pend_entry h tx k v = if is_new h tx k v then PendSet tx k v ∷ [] else []
 abbrev pub patch_entries : Held → List ℕ → List (List (List ℕ) × Pending) → List Entry
 patch_entries h tx pairs = map (λ e. PendSet tx e.0 e.1) (filter (λ e. is_new h tx e.0 e.1) (entries (last_of pairs)))
 
--- What a commit adds to some entries: those for the live values, those that end the transaction, and one for the owed and one for the weak keys where
+-- The entries that take its keys from the transaction that ends, none where none ends.
+abbrev pub ended_by : Option (List ℕ) → List (List (List ℕ)) → List Entry
+ended_by None keys = []
+ended_by (Some tx) keys = map (λ k. PendGone tx k) keys
+
+-- What a commit adds to some entries: those for the live values, those that end a transaction, and one for the owed and one for the weak keys where
 -- these change.
-pub record CommitAdds (h : Held) (tx : List ℕ) (old new : List Entry) : Type 0 where
+pub record CommitAdds (h : Held) (tx : Option (List ℕ)) (keys changed : List (List (List ℕ))) (changes : List (List (List ℕ) × Pending))
+    (old new : List Entry) : Type 0 where
   pub owed_part : Option Entry
   pub weak_part : Option Entry
-  pub owed : Tells owed_part OwedSet h.owed (owing h.owed (changed_keys h tx))
-  pub weak : Tells weak_part WeakIs h.live.weak (without_keys h.live.weak (keys_of h tx))
-  pub strong : is_some weak_part ≡ list_any (has_key h.live.weak) (keys_of h tx)
-  pub added : new
-      ≡ old ++ (map (λ e. live_entry e.0 e.1) (changes_of h tx) ++ map (λ k. PendGone tx k) (keys_of h tx) ++ option_to_list owed_part
-      ++ option_to_list weak_part)
+  pub owed : Tells owed_part OwedSet h.owed (owing h.owed changed)
+  pub weak : Tells weak_part WeakIs h.live.weak (without_keys h.live.weak keys)
+  pub strong : is_some weak_part ≡ list_any (has_key h.live.weak) keys
+  pub added : new ≡ old ++ (map (λ e. live_entry e.0 e.1) changes ++ ended_by tx keys ++ option_to_list owed_part ++ option_to_list weak_part)

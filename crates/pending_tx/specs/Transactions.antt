@@ -8,7 +8,7 @@ use Rattle.json_trees.specs.declared.scalar.Scalar.{Scalar}
 use Rattle.json_trees.specs.declared.pending.Pending.{Pending}
 use Rattle.json_trees.specs.declared.pending.Pending.TheVariants.{Put, Gone}
 use Rattle.settings_maps.specs.Maps.{inner, value_at, with_value}
-use Rattle.settings_tree.specs.Rule.{Fits}
+use Rattle.settings_tree.specs.Rule.{Fits, IsPrefixFree}
 use Rattle.settings_tree.specs.declared.entry.Owed.{Owed}
 use Rattle.settings_tree.specs.declared.entry.Owed.TheVariants as owed
 use Rattle.settings_tree.specs.declared.held.Held.{Held}
@@ -28,13 +28,21 @@ differs (Put v) None = true
 differs (Put v) (Some live) = not (scalar_eq v live)
 differs Gone live = is_some live
 
+-- What of these values and removals differs from the live values, rising by key.
+abbrev pub changes_in : Held → FinMap key_cmp Pending → List (List (List ℕ) × Pending)
+changes_in h m = filter (λ e. differs e.1 (get h.live.values e.0)) (entries m)
+
+-- The keys of what differs, rising.
+abbrev pub changed_in : Held → FinMap key_cmp Pending → List (List (List ℕ))
+changed_in h m = map (λ e. e.0) (changes_in h m)
+
 -- What the transaction has pending that differs from the live values, rising by key.
 abbrev pub changes_of : Held → List ℕ → List (List (List ℕ) × Pending)
-changes_of h tx = filter (λ e. differs e.1 (get h.live.values e.0)) (entries (pending_of h tx))
+changes_of h tx = changes_in h (pending_of h tx)
 
 -- The keys of what differs, rising.
 abbrev pub changed_keys : Held → List ℕ → List (List (List ℕ))
-changed_keys h tx = map (λ e. e.0) (changes_of h tx)
+changed_keys h tx = changed_in h (pending_of h tx)
 
 -- The values with a pending value laid over them, or a removed key taken from them.
 abbrev pub with_pending : FinMap key_cmp Scalar → List (List ℕ) → Pending → FinMap key_cmp Scalar
@@ -46,18 +54,20 @@ abbrev pub owing : Owed → List (List (List ℕ)) → Owed
 owing owed.All keys = owed.All
 owing (owed.Keys before) keys = owed.Keys (joined before keys)
 
--- What is held after a commit: each pending value is laid over the live values and each removed key
--- taken from them, all keys of the transaction are strong, the keys of what differed are owed, and
--- the transaction is gone.
-abbrev pub committed : Held → List ℕ → Held
-committed h tx = record h {
+-- What is held once values and removals are laid over the live values: each value is put there and each removed key taken away,
+-- all their keys are strong, and the keys of what differed are owed.
+abbrev pub overlaid : Held → FinMap key_cmp Pending → Held
+overlaid h m = record h {
   live = record h.live {
-    values = fold (λ m e. with_pending m e.0 e.1) h.live.values (entries (pending_of h tx));
-    weak = without_keys h.live.weak (keys_of h tx);
+    values = fold (λ v e. with_pending v e.0 e.1) h.live.values (entries m);
+    weak = without_keys h.live.weak (keys m);
   };
-  pending = remove h.pending tx;
-  owed = owing h.owed (changed_keys h tx);
+  owed = owing h.owed (changed_in h m);
 }
+
+-- What is held after a commit: what the transaction has pending is laid over the live values, and the transaction is gone.
+abbrev pub committed : Held → List ℕ → Held
+committed h tx = record (overlaid h (pending_of h tx)) { pending = remove h.pending tx }
 
 -- What is held after a transaction is dropped.
 abbrev pub dropped : Held → List ℕ → Held
@@ -70,6 +80,15 @@ patched h tx pairs = record h { pending = fold (λ m e. with_value m tx e.0 e.1)
 -- What the last pair of each key gives it.
 abbrev pub last_of : List (List (List ℕ) × Pending) → FinMap key_cmp Pending
 last_of pairs = fold (λ m e. insert m e.0 e.1) empty pairs
+
+-- What is held after the pairs are laid over the live values at once; of several pairs of a key the last one counts.
+abbrev pub set_at_once : Held → List (List (List ℕ) × Pending) → Held
+set_at_once h pairs = overlaid h (last_of pairs)
+
+-- Each key that is set overlaps no other live key, and no other that is set.
+pub record FitOver (h : Held) (m : FinMap key_cmp Pending) : Type 0 where
+  pub fits : (k : List (List ℕ)) (v : Scalar) → get m k ≡ Some (Put v) → Fits h.live.values k
+  pub free : IsPrefixFree m
 
 -- Each key that the transaction sets overlaps no other live key.
 pub record FitLive (h : Held) (tx : List ℕ) : Type 0 where

@@ -1,22 +1,22 @@
 //! The commit of a transaction.
 ghost use Rattle.std.specs.Prelude.{◌≡◌, ◌++◌, IfOk, OnOk, None, Err, not};
 ghost use Rattle.std.specs.List.{list_any};
-ghost use Rattle.std.specs.Option.{option_to_list};
+ghost use Rattle.std.specs.Option.{option_copied, option_to_list};
 ghost use Rattle.std.specs.FinMap.{get};
 ghost use Rattle.settings_tree.specs.Change.{TheWeak, is_unnamed};
 ghost use Rattle.settings_tree.specs.Laid.{laid, KeepsPrefixRule, NamesWeak, TellsWeak};
 ghost use Rattle.settings_tree.specs.Content.{IsContent};
 ghost use Rattle.pending_tx.specs.Changes.{NamesOnlyChanges};
-ghost use Rattle.pending_tx.specs.Entries.{CommitAdds};
+ghost use Rattle.pending_tx.specs.Entries.{ended_by, CommitAdds};
 ghost use Rattle.settings_maps.specs.KeyList.{has_key};
-ghost use Rattle.pending_tx.specs.Transactions.{changed_keys, changes_of, committed, keys_of, FitLive};
+ghost use Rattle.pending_tx.specs.Transactions.{changed_keys, committed, keys_of, FitLive};
 ghost use Rattle.pending_tx.specs.declared.answers.CommitError.TheVariants.{NoPending};
 
 use crate::answers::{Commit, CommitError};
 use crate::ending::end;
-use crate::live_changes::{changed_keys, changes_of, set_live};
+use crate::live_changes::{changes_in, keys_in, set_live};
 use crate::owing::{owed_entry, weak_entry};
-use crate::reading::{has_tx, keys_of};
+use crate::reading::{has_tx, keys_of, pending};
 use key_names::Key;
 use settings_tree::{Change, Entry, Held, KeyList, Pending, TxName};
 use std::alloc::{AllocError, Global};
@@ -30,24 +30,31 @@ fn push_some(entries: &mut Vec<Entry>, entry: Option<Entry>) -> Result<(), Alloc
     Ok(())
 }
 
-// Adds the entries of the commit: those that lay the changes over the live values and end the
-// transaction, and one for the owed and one for the weak keys where these change.
-fn push_commit(
+fn end_some(entries: &mut Vec<Entry>, tx: Option<&TxName>, keys: &KeyList) -> Result<(), AllocError>
+    ensures { OnOk result (entries.new.items ≡ entries.old.items ++ ended_by (option_copied tx.entry) keys.now) }
+{
+    match tx {
+        Some(tx) => end(entries, tx, keys),
+        None => Ok(()),
+    }
+}
+
+/// Adds the entries of a commit: those that lay the changes over the live values, those that take the
+/// keys from the transaction that ends, if one does, and one for the owed and one for the weak keys
+/// where these change. The only error is out of memory.
+pub(crate) fn push_commit(
     entries: &mut Vec<Entry>,
     held: &Held,
-    tx: &TxName,
+    tx: Option<&TxName>,
     keys: &KeyList,
     changed: &KeyList,
     changes: Vec<(Key, Pending)>,
 ) -> Result<(), AllocError>
-    requires keys { keys.now ≡ keys_of held.now tx.now }
-    requires changed { changed.now ≡ changed_keys held.now tx.now }
-    requires changes { changes.items ≡ changes_of held.now tx.now }
-    ensures added { OnOk result (CommitAdds held.now tx.now entries.old.items entries.new.items) }
+    ensures added { OnOk result (CommitAdds held.now (option_copied tx.entry) keys.now changed.now changes.items entries.old.items entries.new.items) }
     ensures valid { OnOk result (IsContent held.now.live) }
 {
     set_live(entries, changes)?;
-    end(entries, tx, keys)?;
+    end_some(entries, tx, keys)?;
     push_some(entries, owed_entry(&held.owed, changed)?)?;
     push_some(entries, weak_entry(held.live.weak(), keys)?)
 }
@@ -64,10 +71,10 @@ fn commit_pending(alloc: Global, held: &Held, tx: &TxName) -> Result<Commit, All
     ensures changes { IfOk result (λ c. NamesOnlyChanges held.now c.change) }
 {
     let keys = keys_of(alloc, held, tx)?;
-    let changes = changes_of(alloc, held, tx)?;
-    let changed = changed_keys(alloc, &changes)?;
+    let changes = changes_in(held, pending(alloc, held, tx)?);
+    let changed = keys_in(alloc, &changes)?;
     let mut entries = Vec::new(alloc);
-    push_commit(&mut entries, held, tx, &keys, &changed, changes)?;
+    push_commit(&mut entries, held, Some(tx), &keys, &changed, changes)?;
     let change = Change::of(entries);
     Ok(Commit {
         keys,

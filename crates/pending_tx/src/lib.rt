@@ -6,13 +6,18 @@ mod answers;
 mod committing;
 mod dropping;
 mod ending;
+mod laying;
 mod live_changes;
 mod owing;
+mod pairs;
 mod patching;
 mod reading;
+mod setting;
 
 pub use answers::{Commit, CommitError, Dropped};
 pub use committing::commit;
 pub use dropping::drop_tx;
+pub use laying::live_after;
 pub use patching::patch;
 pub use reading::{list, pending};
+pub use setting::set;

@@ -1,12 +1,13 @@
-//! What a commit changes in the live values.
-ghost use Rattle.std.specs.Prelude.{◌≡◌, ◌++◌, IfOk, OnOk, map};
+//! What values and removals change in the live values.
+ghost use Rattle.std.specs.Prelude.{◌≡◌, ◌++◌, IfOk, OnOk, filter, map};
+ghost use Rattle.std.specs.FinMap.{get};
 ghost use Rattle.std.specs.Option.{option_copied};
 ghost use Rattle.settings_maps.specs.KeyList.{IsRising};
 ghost use Rattle.pending_tx.specs.Entries.{live_entry};
-ghost use Rattle.pending_tx.specs.Transactions.{changes_of, differs};
+ghost use Rattle.pending_tx.specs.Transactions.{differs};
 
 use key_names::Key;
-use settings_tree::{Entry, Held, KeyList, Pending, Scalar, TxName};
+use settings_tree::{Entry, Held, KeyList, Pending, Scalar};
 use std::alloc::{AllocError, Global};
 
 // Whether laying what is pending over the live value changes it.
@@ -21,33 +22,23 @@ fn differs(pending: &Pending, live: Option<&Scalar>) -> bool
     }
 }
 
-/// Copies of what the transaction has pending that changes a live value, rising by key. It takes a
-/// logarithmic step for each key of the transaction.
-pub(crate) fn changes_of(
-    alloc: Global,
-    held: &Held,
-    tx: &TxName,
-) -> Result<Vec<(Key, Pending)>, AllocError>
-    ensures { IfOk result (λ changes. changes.items ≡ changes_of held.now tx.now) }
+/// Those of the values and removals that change a live value, in their order. It takes a logarithmic
+/// step for each and no memory.
+pub(crate) fn changes_in(held: &Held, pairs: Vec<(Key, Pending)>) -> Vec<(Key, Pending)>
+    ensures { result.items ≡ filter (λ e. differs e.1 (get held.now.live.values e.0)) pairs.items }
 {
-    let mut changes = Vec::new(alloc);
-    let mut after = None;
-    while let Some((key, value)) = held.pending.next_key(tx, after) {
-        if differs(value, held.live.value(key)) {
-            changes.push((key.copy()?, value.copy()?))?;
-        }
-        after = Some(key);
-    }
-    Ok(changes)
+    let mut changes = pairs;
+    changes.retain(|pair| differs(&pair.1, held.live.value(&pair.0)));
+    changes
 }
 
-/// Copies of the keys of what a transaction changes.
-pub(crate) fn changed_keys(alloc: Global, changes: &[(Key, Pending)]) -> Result<KeyList, AllocError>
-    requires { IsRising (map (λ e. e.0) changes.now) }
-    ensures { IfOk result (λ keys. keys ≡ map (λ e. e.0) changes.now) }
+/// Copies of the keys of values and removals.
+pub(crate) fn keys_in(alloc: Global, pairs: &[(Key, Pending)]) -> Result<KeyList, AllocError>
+    requires { IsRising (map (λ e. e.0) pairs.now) }
+    ensures { IfOk result (λ keys. keys ≡ map (λ e. e.0) pairs.now) }
 {
     let mut keys = Vec::new(alloc);
-    for (key, _) in changes {
+    for (key, _) in pairs {
         keys.push(key.copy()?)?;
     }
     Ok(KeyList::of(keys))

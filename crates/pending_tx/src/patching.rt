@@ -3,23 +3,12 @@ ghost use Rattle.std.specs.Prelude.{◌≡◌, ◌++◌, IfOk, OnOk};
 ghost use Rattle.settings_tree.specs.Laid.{laid, KeepsPrefixRule, NamesWeak, TellsWeak};
 ghost use Rattle.pending_tx.specs.Changes.{NamesOnlyChanges};
 ghost use Rattle.pending_tx.specs.Entries.{patch_entries, pend_entry};
-ghost use Rattle.pending_tx.specs.Transactions.{last_of, patched, pending_of, FitPairs};
+ghost use Rattle.pending_tx.specs.Transactions.{patched, pending_of, FitPairs};
 
+use crate::pairs::last_of;
 use key_names::Key;
-use settings_maps::KeyMap;
 use settings_tree::{Change, Entry, Held, Pending, TxName};
 use std::alloc::{AllocError, Global};
-
-// What the last pair of each key gives it.
-fn last_of(alloc: Global, pairs: &[(Key, Pending)]) -> Result<KeyMap<Pending>, AllocError>
-    ensures { IfOk result (λ last. last ≡ last_of pairs.now) }
-{
-    let mut last = KeyMap::new(alloc);
-    for (key, value) in pairs {
-        last.put(key.copy()?, value.copy()?)?;
-    }
-    Ok(last)
-}
 
 // Adds the entry that sets the key in the transaction, where it isn't set so.
 fn set_pending(
