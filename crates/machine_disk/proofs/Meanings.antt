@@ -1,5 +1,5 @@
 -- A tree has the stored parts of one world, and the core holds them where the store is ready.
-use Rattle.std.proofs.Common.{◌≡◌, inl, None, refl, sym, subst}
+use Rattle.std.proofs.Common.{◌≡◌, inl, false, None, refl, sym, subst}
 use Rattle.outside.specs.Names.{Names}
 use Rattle.outside.specs.Tree.{Tree}
 use Rattle.outside.specs.History.{History, tree_of}
@@ -13,7 +13,8 @@ use Rattle.version_links.specs.declared.version.Version.{Version}
 use Rattle.version_links.specs.declared.chain.Place.{Place}
 use Rattle.version_links.proofs.Chains.{resolves_one}
 use Rattle.settings_tree.specs.declared.held.Held.{Held}
-use Rattle.settings_machine.specs.World.{World}
+use Rattle.settings_machine.specs.World.{Image, World}
+use Rattle.machine_disk.specs.Kept.{Folder, CoreState, Kept}
 use Rattle.machine_disk.specs.Store.{HasStore, IsReadyAt}
 use Rattle.machine_disk.specs.Laws.{HasOneStore, CoresHold}
 
@@ -57,3 +58,10 @@ pub core_holds : CoresHold
 core_holds I folder W V h state kept calm =
     let c : IsCores W state.place state.held = cores W state.place state.held h kept.disk.store (kept.core.ready calm) in
     c.held_is
+
+-- And the store at the core's place is of the world's version.
+pub core_version : (I : Image) (folder : Folder) (W V : World) (h : History) (state : CoreState) → Kept I folder W V h state → state.faulted ≡ false
+    → W.version ≡ state.place.version
+core_version I folder W V h state kept calm =
+    let c : IsCores W state.place state.held = cores W state.place state.held h kept.disk.store (kept.core.ready calm) in
+    c.version

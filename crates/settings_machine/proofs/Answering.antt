@@ -8,7 +8,7 @@ use Rattle.json_trees.specs.declared.pending.Pending.{Pending}
 use Rattle.settings_tree.specs.declared.entry.Owed.{Owed}
 use Rattle.settings_tree.specs.declared.entry.Owed.TheVariants as owed
 use Rattle.settings_tree.specs.declared.held.Held.{Held}
-use Rattle.pending_tx.specs.Transactions.{committed, changed_keys, owing}
+use Rattle.pending_tx.specs.Transactions.{pending_of, last_of, overlaid, committed, changed_in, owing}
 use Rattle.metadata_links.specs.Links.{files_of}
 use Rattle.settings_machine.specs.declared.cause.Cause.TheVariants as cause
 use Rattle.settings_machine.specs.World.{Key, Among, Image, World, due}
@@ -16,10 +16,13 @@ use Rattle.settings_machine.specs.Typed.{Wanted, first_wanted}
 use Rattle.settings_machine.specs.Requests.{Request, Root, OsNames, Settings, SettingsAt, SettingsBelow}
 use Rattle.settings_machine.specs.Requests.{Patch, Services, ConfigurationFiles, Affected, Pends, DropTx, TxList}
 use Rattle.settings_machine.specs.Requests.{Commit, Apply, CommitAndApply, JobNow}
+use Rattle.settings_machine.specs.Requests.{Set, ApplyAll, Guarded, Plan, PlanFile, Store}
 use Rattle.settings_machine.specs.Step.{Outcome, Answered, WithoutMemory, Unopened, Faulted}
-use Rattle.settings_machine.specs.Step.{failing, patch_next, commit_next, commit_and_apply_next, answered, request_next}
+use Rattle.settings_machine.specs.Step.{failing, patch_next, commit_next, commit_and_apply_next, set_next, changed_by}
+use Rattle.settings_machine.specs.Step.{answered, request_next}
 use Rattle.settings_machine.specs.Paid.{IsDuePath}
-use Rattle.settings_machine.proofs.Reached.{owing_old}
+use Rattle.settings_machine.proofs.Guards.{guarded_one}
+use Rattle.settings_machine.proofs.Reached.{owed_all, owing_old}
 
 -- N has the version, the format and the configuration files of W, and what is due in W is due in N.
 pub record Keeps (I : Image) (W N : World) : Type 0 where
@@ -40,11 +43,23 @@ module _ (I : Image) where
     same = sym (ap (λ (t : List ℕ). if bytes_eq t I.text then k.owed else owed.All) image ∙ ap (λ (x : Owed). if bytes_eq h.image I.text then x else owed.All)
         o)
 
-  commit_due : (h : Held) (tx : List ℕ) (path : Names) → IsDuePath I h path → IsDuePath I (committed h tx) path
-  commit_due h tx path due' = record { file = due'.file; due = by (bytes_eq h.image I.text) due'.due; path_is = due'.path_is } where
+  overlaid_due : (h : Held) (m : FinMap key_cmp Pending) (path : Names) → IsDuePath I h path → IsDuePath I (overlaid h m) path
+  overlaid_due h m path due' = record { file = due'.file; due = by (bytes_eq h.image I.text) due'.due; path_is = due'.path_is } where
     by : (b : Bool) → Among (files_of I.manifest (if b then h.owed else owed.All)) due'.file
-        → Among (files_of I.manifest (if b then owing h.owed (changed_keys h tx) else owed.All)) due'.file
-    by true at = owing_old I.manifest h.owed (changed_keys h tx) due'.file at
+        → Among (files_of I.manifest (if b then owing h.owed (changed_in h m) else owed.All)) due'.file
+    by true at = owing_old I.manifest h.owed (changed_in h m) due'.file at
+    by false at = at
+
+  commit_due : (h : Held) (tx : List ℕ) (path : Names) → IsDuePath I h path → IsDuePath I (committed h tx) path
+  commit_due h tx path due' =
+      let then' : IsDuePath I (overlaid h (pending_of h tx)) path = overlaid_due h (pending_of h tx) path due' in
+      record { file = then'.file; due = then'.due; path_is = then'.path_is }
+
+  all_due : (h : Held) (path : Names) → IsDuePath I h path → IsDuePath I (record h { owed = owed.All }) path
+  all_due h path due' = record { file = due'.file; due = by (bytes_eq h.image I.text) due'.due; path_is = due'.path_is } where
+    by : (b : Bool) → Among (files_of I.manifest (if b then h.owed else owed.All)) due'.file
+        → Among (files_of I.manifest (if b then owed.All else owed.All)) due'.file
+    by true at = owed_all I.manifest h.owed due'.file at
     by false at = at
 
   keeps_all : (W N : World) → N.version ≡ W.version → N.format ≡ W.format → N.etc ≡ W.etc → N.held.image ≡ W.held.image → N.held.owed ≡ W.held.owed
@@ -72,6 +87,10 @@ module _ (I : Image) where
   commit_and_apply_keeps W tx None = stays_all W
   commit_and_apply_keeps W tx (Some p) = record { version = refl; format = refl; etc = refl; due = commit_due W.held tx }
 
+  set_keeps : (W : World) (pairs : List (Key × Pending)) (o : Option Wanted) → Keeps I W (set_next I W pairs o).world
+  set_keeps W pairs None = record { version = refl; format = refl; etc = refl; due = overlaid_due W.held (last_of pairs) }
+  set_keeps W pairs (Some wanted) = stays_all W
+
   pub answered_keeps : (W : World) (q : Request) → Keeps I W (answered I W q).world
   answered_keeps W Root = stays_all W
   answered_keeps W OsNames = stays_all W
@@ -89,6 +108,12 @@ module _ (I : Image) where
   answered_keeps W Apply = keeps_all W (answered I W Apply).world refl refl refl refl refl
   answered_keeps W (CommitAndApply tx) = commit_and_apply_keeps W tx (get W.held.pending tx)
   answered_keeps W JobNow = stays_all W
+  answered_keeps W (Set pairs) = set_keeps W pairs (first_wanted I.types pairs)
+  answered_keeps W ApplyAll = record { version = refl; format = refl; etc = refl; due = all_due W.held }
+  answered_keeps W (Guarded q) = guarded_one I (Keeps I W) W (changed_by W q) (answered I W q) (stays_all W) (answered_keeps W q)
+  answered_keeps W (Plan tx) = stays_all W
+  answered_keeps W (PlanFile file tx) = stays_all W
+  answered_keeps W Store = stays_all W
 
   -- A request that was answered, or taken at a fault.
   pub request_keeps : (W : World) (q : Request) (o : Outcome) → Keeps I W (request_next I W q o).world

@@ -15,13 +15,16 @@ use Rattle.settings_machine.specs.World.{Key, Image, World, Work, Job, Idle, Fai
 use Rattle.settings_machine.specs.Typed.{Wanted, first_wanted}
 use Rattle.settings_machine.specs.Requests.{Request, Root, OsNames, Settings, SettingsAt, SettingsBelow}
 use Rattle.settings_machine.specs.Requests.{Patch, Services, ConfigurationFiles, Affected, Pends, DropTx, TxList}
+use Rattle.settings_machine.specs.Requests.{Set, ApplyAll, Guarded, Plan, PlanFile, Store}
 use Rattle.settings_machine.specs.Requests.{Commit, Apply, CommitAndApply, JobNow, Said, PendingTreeOf}
 use Rattle.settings_machine.specs.Step.{Outcome, Answered, WithoutMemory, Unopened, Faulted, Answer, Fine, NoRoom, FileFault, NoSpawn, SyncFault, OwedFault}
 use Rattle.settings_machine.specs.Step.{patch_next, commit_next, commit_and_apply_next, answered, request_next}
 use Rattle.settings_machine.specs.Step.{wrote, Command, command_turn, last_turn, after_files_turn, work_turn, job_turn, turn_next, opened}
 use Rattle.settings_machine.specs.Events.{Event, Opening, Succeeded, Failing, Opened, Asked, Unread, Turned, Began, Moved, opening_next, next, after}
-use Rattle.settings_machine.specs.Apart.{is_on, is_event_on, events_on, OthersLeaveIt, TransactionsAreApart}
+use Rattle.settings_machine.specs.Apart.{is_on, is_event_on, events_on, is_guarded, is_guarded_event, OthersLeaveIt, TransactionsAreApart}
+use Rattle.settings_machine.specs.Step.{set_next, changed_by}
 use Rattle.settings_machine.proofs.Elements.{name_tied}
+use Rattle.settings_machine.proofs.Guards.{guarded_one}
 use Rattle.std.specs.List.{list_any}
 use Rattle.std.proofs.lemmas.Bool.{or_parts}
 
@@ -143,6 +146,16 @@ module _ (I : Image) (tx : List ℕ) where
   answered_other W Apply else' = refl
   answered_other W (CommitAndApply t) else' = commit_and_apply_other W t (get W.held.pending t) else'
   answered_other W JobNow else' = refl
+  answered_other W (Set pairs) else' = by (first_wanted I.types pairs) where
+    by : (o : Option Wanted) → pending_in (set_next I W pairs o).world ≡ pending_in W
+    by None = refl
+    by (Some wanted) = refl
+  answered_other W ApplyAll else' = refl
+  answered_other W (Guarded q) else' =
+      guarded_one I (λ (X : World). pending_in X ≡ pending_in W) W (changed_by W q) (answered I W q) refl (answered_other W q else')
+  answered_other W (Plan t) else' = refl
+  answered_other W (PlanFile file t) else' = refl
+  answered_other W Store else' = refl
 
   request_other : (W : World) (q : Request) (o : Outcome) → is_on tx q ≡ false → pending_in (request_next I W q o).world ≡ pending_in W
   unfolding request_next
@@ -189,46 +202,52 @@ module _ (I : Image) (tx : List ℕ) where
     named : (t : List ℕ) → bytes_eq t tx ≡ true → tx ≡ t
     named t is = sym ((bytes_eq-Decides t tx).0 is)
 
-    answered_own : (q : Request) → is_on tx q ≡ true → AreAlike q
-    answered_own Root is = absurd (cc is)
-    answered_own OsNames is = absurd (cc is)
-    answered_own Settings is = absurd (cc is)
-    answered_own (SettingsAt list) is = absurd (cc is)
-    answered_own (SettingsBelow key) is = absurd (cc is)
-    answered_own (Patch t pairs) is = subst (λ (u : List ℕ). AreAlike (Patch u pairs)) (named t is) (patch_own pairs (first_wanted I.types pairs))
-    answered_own (Services names) is = absurd (cc is)
-    answered_own (ConfigurationFiles names) is = absurd (cc is)
-    answered_own (Affected list) is = absurd (cc is)
-    answered_own (Pends t) is = absurd (cc is)
-    answered_own (DropTx t) is = subst (λ (u : List ℕ). AreAlike (DropTx u)) (named t is) removed_own
-    answered_own TxList is = absurd (cc is)
-    answered_own (Commit t) is = subst (λ (u : List ℕ). AreAlike (Commit u)) (named t is)
+    answered_own : (q : Request) → is_on tx q ≡ true → is_guarded q ≡ false → AreAlike q
+    answered_own Root is plain = absurd (cc is)
+    answered_own OsNames is plain = absurd (cc is)
+    answered_own Settings is plain = absurd (cc is)
+    answered_own (SettingsAt list) is plain = absurd (cc is)
+    answered_own (SettingsBelow key) is plain = absurd (cc is)
+    answered_own (Patch t pairs) is plain = subst (λ (u : List ℕ). AreAlike (Patch u pairs)) (named t is) (patch_own pairs (first_wanted I.types pairs))
+    answered_own (Services names) is plain = absurd (cc is)
+    answered_own (ConfigurationFiles names) is plain = absurd (cc is)
+    answered_own (Affected list) is plain = absurd (cc is)
+    answered_own (Pends t) is plain = absurd (cc is)
+    answered_own (DropTx t) is plain = subst (λ (u : List ℕ). AreAlike (DropTx u)) (named t is) removed_own
+    answered_own TxList is plain = absurd (cc is)
+    answered_own (Commit t) is plain = subst (λ (u : List ℕ). AreAlike (Commit u)) (named t is)
         (commit_own (pending_in W) ∙ ap (λ (o : Option (FinMap key_cmp Pending)). pending_in (commit_next X tx o).world) same)
-    answered_own Apply is = absurd (cc is)
-    answered_own (CommitAndApply t) is = subst (λ (u : List ℕ). AreAlike (CommitAndApply u)) (named t is)
+    answered_own Apply is plain = absurd (cc is)
+    answered_own (CommitAndApply t) is plain = subst (λ (u : List ℕ). AreAlike (CommitAndApply u)) (named t is)
         (commit_and_apply_own (pending_in W) ∙ ap (λ (o : Option (FinMap key_cmp Pending)). pending_in (commit_and_apply_next I X tx o).world) same)
-    answered_own JobNow is = absurd (cc is)
+    answered_own JobNow is plain = absurd (cc is)
+    answered_own (Set pairs) is plain = absurd (cc is)
+    answered_own ApplyAll is plain = absurd (cc is)
+    answered_own (Guarded q) is plain = absurd (cc plain)
+    answered_own (Plan t) is plain = absurd (cc is)
+    answered_own (PlanFile file t) is plain = absurd (cc is)
+    answered_own Store is plain = absurd (cc is)
 
-    request_own : (q : Request) (o : Outcome) → is_on tx q ≡ true
+    request_own : (q : Request) (o : Outcome) → is_on tx q ≡ true → is_guarded q ≡ false
         → pending_in (request_next I W q o).world ≡ pending_in (request_next I X q o).world
     unfolding request_next
-    request_own q Answered is = answered_own q is
-    request_own q WithoutMemory is = same
-    request_own q (Unopened at) is = same
-    request_own q (Faulted taken) is = by taken where
+    request_own q Answered is plain = answered_own q is plain
+    request_own q WithoutMemory is plain = same
+    request_own q (Unopened at) is plain = same
+    request_own q (Faulted taken) is plain = by taken where
       by : (b : Bool) → get (if b then (answered I W q).world.held else W.held).pending tx
           ≡ get (if b then (answered I X q).world.held else X.held).pending tx
-      by true = answered_own q is
+      by true = answered_own q is plain
       by false = same
 
     -- An event that is on the transaction.
-    next_own : (e : Event) → is_event_on tx e ≡ true → pending_in (next I W e) ≡ pending_in (next I X e)
-    next_own (Opened boot o) is = absurd (cc is)
-    next_own (Asked q o) is = request_own q o is
-    next_own Unread is = absurd (cc is)
-    next_own (Turned a) is = absurd (cc is)
-    next_own (Began version) is = refl
-    next_own (Moved version held) is = refl
+    next_own : (e : Event) → is_event_on tx e ≡ true → is_guarded_event e ≡ false → pending_in (next I W e) ≡ pending_in (next I X e)
+    next_own (Opened boot o) is plain = absurd (cc is)
+    next_own (Asked q o) is plain = request_own q o is plain
+    next_own Unread is plain = absurd (cc is)
+    next_own (Turned a) is plain = absurd (cc is)
+    next_own (Began version) is plain = refl
+    next_own (Moved version held) is plain = refl
 
     reply_same : (o : Outcome) → (request_next I W (Pends tx) o).reply ≡ (request_next I X (Pends tx) o).reply
     unfolding request_next
@@ -243,18 +262,20 @@ module _ (I : Image) (tx : List ℕ) where
   abbrev AreAlikeAfter : World → List Event → World → List Event → Type 0
   AreAlikeAfter W es X fs = pending_in (after I W es) ≡ pending_in (after I X fs)
 
-  after_same : (W X : World) → pending_in W ≡ pending_in X → (events : List Event) → AreAlikeAfter W events X (events_on tx events)
-  after_same W X same [] = same
-  after_same W X same (e ∷ es) = by (is_event_on tx e) refl
-      (λ is. after_same (next I W e) (next I X e) (next_own W X same e is) es)
-      (λ else'. after_same (next I W e) X (next_other W e else' ∙ same) es)
+  after_same : (W X : World) → pending_in W ≡ pending_in X → (events : List Event) → list_any is_guarded_event (events_on tx events) ≡ false
+      → AreAlikeAfter W events X (events_on tx events)
+  after_same W X same [] plain = same
+  after_same W X same (e ∷ es) plain = by (is_event_on tx e) refl plain
+      (λ is first rest. after_same (next I W e) (next I X e) (next_own W X same e is first) es rest)
+      (λ else' rest. after_same (next I W e) X (next_other W e else' ∙ same) es rest)
     where
-      by : (b : Bool) → is_event_on tx e ≡ b
-          → (is_event_on tx e ≡ true → AreAlikeAfter (next I W e) es (next I X e) (events_on tx es))
-          → (is_event_on tx e ≡ false → AreAlikeAfter (next I W e) es X (events_on tx es))
+      by : (b : Bool) → is_event_on tx e ≡ b → list_any is_guarded_event (cond b (e ∷ events_on tx es) (events_on tx es)) ≡ false
+          → (is_event_on tx e ≡ true → is_guarded_event e ≡ false → list_any is_guarded_event (events_on tx es) ≡ false
+          → AreAlikeAfter (next I W e) es (next I X e) (events_on tx es))
+          → (is_event_on tx e ≡ false → list_any is_guarded_event (events_on tx es) ≡ false → AreAlikeAfter (next I W e) es X (events_on tx es))
           → AreAlikeAfter (next I W e) es X (cond b (e ∷ events_on tx es) (events_on tx es))
-      by true is own other = own is
-      by false is own other = other is
+      by true is plain' own other = let both = or_parts (is_guarded_event e) (list_any is_guarded_event (events_on tx es)) plain' in own is both.0 both.1
+      by false is plain' own other = other is plain'
 
   after_others : (W : World) (events : List Event) → list_any (is_event_on tx) events ≡ false → pending_in (after I W events) ≡ pending_in W
   after_others W [] none = refl
@@ -268,6 +289,6 @@ others_leave_it I tx W events none =
     record { pending = there; reply = reply_same I tx (after I W events) W there }
 
 pub transactions_are_apart : TransactionsAreApart
-transactions_are_apart I tx W X same events =
-    let there = after_same I tx W X same events in
+transactions_are_apart I tx W X same events plain =
+    let there = after_same I tx W X same events plain in
     record { pending = there; reply = reply_same I tx (after I W events) (after I X (events_on tx events)) there }

@@ -3,7 +3,8 @@ use Rattle.std.proofs.Common.{arith, ◌≡◌, ◌<◌, inl, inr, ⊎_elim, ℕ
 use Rattle.std.proofs.Common.{IsSome, refl, sym, ◌∙◌, ap, subst}
 use Rattle.std.proofs.lemmas.Bool.{cases_Bool}
 use Rattle.std.proofs.lemmas.List.{append-nil}
-use Rattle.std.specs.FinMap.{get}
+use Rattle.std.specs.FinMap.{get, empty, get-empty}
+use Rattle.key_names.specs.Order.{key_cmp}
 use Rattle.key_names.specs.Key.{is_prefix}
 use Rattle.json_trees.specs.declared.pending.Pending.{Pending}
 use Rattle.json_trees.specs.declared.pending.Pending.TheVariants.{Put, Gone}
@@ -11,13 +12,13 @@ use Rattle.json_trees.specs.declared.scalar.Scalar.{Scalar}
 use Rattle.settings_tree.specs.Content.{settings_key}
 use Rattle.settings_tree.specs.Rule.{Fits}
 use Rattle.settings_tree.specs.declared.held.Held.{Held}
-use Rattle.pending_tx.specs.Transactions.{pending_of, FitLive, FitPairs}
+use Rattle.pending_tx.specs.Transactions.{pending_of, last_of, FitLive, FitOver, FitPairs}
 use Rattle.typed_settings.specs.Row.{IsKnown, IsTyped, IsPrefixFree}
 use Rattle.typed_settings.specs.declared.row.Row.{Row}
 use Rattle.settings_machine.specs.World.{Key, Among}
 use Rattle.settings_machine.specs.Typed.{first_wanted, is_of_image, IsTaken, MayPend, IsTypedHeld}
 use Rattle.settings_machine.proofs.Openings.{image_apart}
-use Rattle.settings_machine.proofs.Typing.{all_may}
+use Rattle.settings_machine.proofs.Typing.{all_may, last_may}
 use Rattle.key_names.proofs.Prefixes.{behind}
 
 -- An element at an index is among a list.
@@ -96,3 +97,18 @@ module _ (table : List Row) (free : IsPrefixFree table) where
     } where
       known : (e : Key × Pending) → Among pairs e → IsKnown table e.0
       known e at = let m : MayPend table e.0 e.1 = all_may table pairs none e at in taken_known e.0 e.1 m.taken
+
+    -- The last ones of each key fit the live values and one another.
+    pub fit_over : (pairs : List (Key × Pending)) → first_wanted table pairs ≡ None → FitOver h (last_of pairs)
+    fit_over pairs none = record {
+      fits = λ k v is. let m : MayPend table k (Put v) = may k (Put v) is in known_fits k m.setting (taken_known k (Put v) m.taken);
+      free = record { alone = λ k q has other begins. known_apart k q (last_known k has) (last_known q other) begins };
+    } where
+      may : (k : Key) (p : Pending) → get (last_of pairs) k ≡ Some p → MayPend table k p
+      may = last_may table pairs empty (all_may table pairs none) (λ q p e. absurd (cc (get-empty {X = Pending} key_cmp q, e)))
+
+      last_known : (q : Key) → IsSome (get (last_of pairs) q) → IsKnown table q
+      last_known q has = by (get (last_of pairs) q) refl has where
+        by : (o : Option Pending) → get (last_of pairs) q ≡ o → IsSome o → IsKnown table q
+        by None is has' = absurd (cc has')
+        by (Some p) is has' = let m : MayPend table q p = may q p is in taken_known q p m.taken

@@ -5,6 +5,7 @@ pub mod Manifests
 pub mod Typing
 pub mod Matching
 pub mod Fitting
+pub mod Guards
 pub mod Openings
 pub mod Paying
 pub mod Lasting
@@ -22,3 +23,10 @@ pub mod Settled
 pub mod Calming
 pub mod Newest
 pub mod Touching
+pub mod Plannings
+pub mod Refusing
+pub mod AtOnce
+pub mod Guarding
+pub mod Changed
+pub mod Written
+pub mod Planned

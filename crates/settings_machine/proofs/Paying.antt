@@ -9,13 +9,13 @@ use Rattle.json_trees.specs.EqualLaws.{scalar_eq-Decides}
 use Rattle.json_trees.specs.declared.pending.Pending.{Pending}
 use Rattle.json_trees.specs.declared.pending.Pending.TheVariants.{Put, Gone}
 use Rattle.json_trees.specs.declared.scalar.Scalar.{Scalar}
-use Rattle.settings_maps.specs.Maps.{value_at}
 use Rattle.settings_tree.specs.declared.entry.Owed.{Owed}
 use Rattle.settings_tree.specs.declared.entry.Owed.TheVariants as owed
 use Rattle.settings_tree.specs.declared.held.Held.{Held}
 use Rattle.settings_maps.specs.KeyList.{has_key, joined}
-use Rattle.pending_tx.specs.Transactions.{pending_of, changes_of, changed_keys, differs, committed, dropped, patched, owing}
-use Rattle.pending_tx.proofs.Commits.{over, value-committed}
+use Rattle.pending_tx.specs.Transactions.{last_of, changes_in, changed_in, changed_keys, differs, overlaid, dropped}
+use Rattle.pending_tx.specs.Transactions.{patched, owing, pending_of}
+use Rattle.pending_tx.proofs.Commits.{over, value-overlaid}
 use Rattle.metadata_links.specs.Links.{files_of}
 use Rattle.settings_machine.specs.declared.cause.Cause.{Cause}
 use Rattle.settings_machine.specs.declared.cause.Cause.TheVariants as cause
@@ -24,26 +24,29 @@ use Rattle.settings_machine.specs.Typed.{Wanted, first_wanted, IsTypedHeld}
 use Rattle.settings_machine.specs.Requests.{Request, Root, OsNames, Settings, SettingsAt, SettingsBelow}
 use Rattle.settings_machine.specs.Requests.{Patch, Services, ConfigurationFiles, Affected, Pends, DropTx, TxList}
 use Rattle.settings_machine.specs.Requests.{Commit, Apply, CommitAndApply, JobNow}
+use Rattle.settings_machine.specs.Requests.{Set, ApplyAll, Guarded, Plan, PlanFile, Store}
 use Rattle.settings_machine.specs.Step.{Outcome, Answered, WithoutMemory, Unopened, Faulted, with_held}
 use Rattle.settings_machine.specs.Step.{with_job, noting, failing, patch_next, committed_world}
 use Rattle.settings_machine.specs.Step.{commit_next, begun, asked_for, applied, commit_and_apply_next, answered}
+use Rattle.settings_machine.specs.Step.{set_world, set_next, owing_all, changed_by}
 use Rattle.settings_machine.specs.Step.{request_next}
 use Rattle.settings_machine.specs.Covered.{IsCovered}
 use Rattle.settings_machine.proofs.Coverage.{DifferOnlyAt, seen}
 use Rattle.settings_machine.specs.Paid.{IsCurrent, IsWithin, RunningOwes, RunningPays, IsFit}
 use Rattle.settings_machine.proofs.Elements.{among_map, filter_among, among_key, entry_among}
 use Rattle.settings_machine.proofs.Reached.{owed_all, owing_old, owing_new, within_owing}
-use Rattle.settings_machine.proofs.Typing.{patched_typed, dropped_typed, committed_typed}
+use Rattle.settings_machine.proofs.Guards.{guarded_one}
+use Rattle.settings_machine.proofs.Typing.{patched_typed, dropped_typed, committed_typed, set_typed}
 
 -- ---- what a commit changes
 
--- A key that a commit doesn't change has its old value.
-commit_differs : (h : Held) (tx : List ℕ) → DifferOnlyAt (changed_keys h tx) h.live (committed h tx).live
-commit_differs h tx = record { same = λ q none. by q none (value_at h.pending tx q) refl ∙ sym (value-committed h tx q) } where
-  changed : (q : Key) (p : Pending) → value_at h.pending tx q ≡ Some p → differs p (get h.live.values q) ≡ true → has_key (changed_keys h tx) q ≡ true
-  changed q p is d = among_key (changed_keys h tx) q (among_map (λ (x : Key × Pending). x.0) (changes_of h tx) (q, p)
-      (filter_among (λ (x : Key × Pending). differs x.1 (get h.live.values x.0)) (entries (pending_of h tx)) (q, p)
-      (entry_among key_cmp-IsAntisymmetric (pending_of h tx) q p is) d))
+-- A key that values and removals don't change has its old value.
+pub overlaid_differs : (h : Held) (m : FinMap key_cmp Pending) → DifferOnlyAt (changed_in h m) h.live (overlaid h m).live
+overlaid_differs h m = record { same = λ q none. by q none (get m q) refl ∙ sym (value-overlaid h m q) } where
+  changed : (q : Key) (p : Pending) → get m q ≡ Some p → differs p (get h.live.values q) ≡ true → has_key (changed_in h m) q ≡ true
+  changed q p is d = among_key (changed_in h m) q (among_map (λ (x : Key × Pending). x.0) (changes_in h m) (q, p)
+      (filter_among (λ (x : Key × Pending). differs x.1 (get h.live.values x.0)) (entries m) (q, p)
+      (entry_among key_cmp-IsAntisymmetric m q p is) d))
 
   same_value : (v l : Scalar) → not (scalar_eq v l) ≡ false → Some l ≡ Some v
   same_value v l e = ap (λ (x : Scalar). Some x) (sym ((scalar_eq-Decides v l).0 (not-false (scalar_eq v l) e)))
@@ -54,8 +57,8 @@ commit_differs h tx = record { same = λ q none. by q none (value_at h.pending t
   kept Gone None e = refl
   kept Gone (Some l) e = absurd (cc e)
 
-  by : (q : Key) → has_key (changed_keys h tx) q ≡ false → (o : Option Pending) → value_at h.pending tx q ≡ o
-      → get h.live.values q ≡ over (value_at h.pending tx q) (get h.live.values q)
+  by : (q : Key) → has_key (changed_in h m) q ≡ false → (o : Option Pending) → get m q ≡ o
+      → get h.live.values q ≡ over (get m q) (get h.live.values q)
   by q none None is = ap (λ (o : Option Pending). over o (get h.live.values q)) (sym is)
   by q none (Some p) is =
       kept p (get h.live.values q) (⊎_elim (λ yes'. absurd (cc (none, changed q p is yes'))) (λ no'. no') (cases_Bool (differs p (get h.live.values q))))
@@ -113,6 +116,10 @@ module _ (I : Image) where
   commit_and_apply_etc W tx None = refl
   commit_and_apply_etc W tx (Some p) = refl
 
+  set_etc : (W : World) (pairs : List (Key × Pending)) (o : Option Wanted) → (set_next I W pairs o).world.etc ≡ W.etc
+  set_etc W pairs None = refl
+  set_etc W pairs (Some wanted) = refl
+
   -- A request leaves the configuration files alone.
   pub answered_etc : (W : World) (q : Request) → (answered I W q).world.etc ≡ W.etc
   answered_etc W Root = refl
@@ -131,6 +138,12 @@ module _ (I : Image) where
   answered_etc W Apply = refl
   answered_etc W (CommitAndApply tx) = commit_and_apply_etc W tx (get W.held.pending tx)
   answered_etc W JobNow = refl
+  answered_etc W (Set pairs) = set_etc W pairs (first_wanted I.types pairs)
+  answered_etc W ApplyAll = refl
+  answered_etc W (Guarded q) = guarded_one I (λ (X : World). X.etc ≡ W.etc) W (changed_by W q) (answered I W q) refl (answered_etc W q)
+  answered_etc W (Plan tx) = refl
+  answered_etc W (PlanFile file tx) = refl
+  answered_etc W Store = refl
 
 -- ---- worlds that are fit, with some files that are paid
 
@@ -270,7 +283,7 @@ module _ (I : Image) (S : List ℕ → Type 0) (are_covered : (f : List ℕ) →
   commit_good : (W : World) (tx : List ℕ) → Good W → Good (committed_world W tx)
   commit_good W tx good =
       let notes : Notes W (committed_world W tx) (changed_keys W.held tx) (changed_keys W.held tx) = record {
-        differ = commit_differs W.held tx;
+        differ = overlaid_differs W.held (pending_of W.held tx);
         narrow = λ f at. at;
         etc = refl;
         more = owing_more I (changed_keys W.held tx) W.held.owed;
@@ -282,7 +295,47 @@ module _ (I : Image) (S : List ℕ → Type 0) (are_covered : (f : List ℕ) →
         pays = noted_pays W (committed_world W tx) (changed_keys W.held tx) (changed_keys W.held tx) notes W.job good.pays;
       })
 
+  set_good : (W : World) (pairs : List (Key × Pending)) → first_wanted I.types pairs ≡ None → Good W → Good (set_world W pairs)
+  set_good W pairs none good =
+      let notes : Notes W (set_world W pairs) (changed_in W.held (last_of pairs)) (changed_in W.held (last_of pairs)) = record {
+        differ = overlaid_differs W.held (last_of pairs);
+        narrow = λ f at. at;
+        etc = refl;
+        more = owing_more I (changed_in W.held (last_of pairs)) W.held.owed;
+      } in
+      is_good (set_world W pairs) (set_typed I.types W.held good.fit.typed pairs none) good.fit.image
+      (noted_files W (set_world W pairs) (changed_in W.held (last_of pairs)) (changed_in W.held (last_of pairs)) notes good.files)
+      (record {
+        owes = noted_owes W (set_world W pairs) (changed_in W.held (last_of pairs)) (changed_in W.held (last_of pairs)) notes W.job good.fit.job;
+        pays = noted_pays W (set_world W pairs) (changed_in W.held (last_of pairs)) (changed_in W.held (last_of pairs)) notes W.job good.pays;
+      })
+
+  -- ---- all is owed
+
+  all_owed_good : (W : World) → Good W → Good (owing_all W)
+  all_owed_good W good = is_good (owing_all W) (record { settings = good.fit.typed.settings; pending = good.fit.typed.pending }) good.fit.image
+      (record {
+        each = λ f some. ⊎_elim
+            (λ current. inl (same_current I W (owing_all W) f refl refl current))
+            (λ due'. inr (owed_all I.manifest W.held.owed f due'))
+            (good.files.each f some);
+      })
+      (by W.job (good_job W good))
+    where
+      by : (j : Job) → JobGood W j → JobGood (owing_all W) j
+      by Idle job = idle_good (owing_all W)
+      by (Failed c) job = failed_good (owing_all W) c
+      by (Running w) job = record {
+        owes = record { to_do = λ f at. owed_all I.manifest W.held.owed f (job.owes.to_do f at); since = tt };
+        pays = λ f some. ⊎_elim (λ current. inl (same_current I W (owing_all W) f refl refl current)) (λ later. inr later) (job.pays f some);
+      }
+
   -- ---- requests
+
+  set_next_good : (W : World) (pairs : List (Key × Pending)) (o : Option Wanted) → first_wanted I.types pairs ≡ o → Good W
+      → Good (set_next I W pairs o).world
+  set_next_good W pairs None none good = applied_good (set_world W pairs) (set_good W pairs none good)
+  set_next_good W pairs (Some wanted) is good = good
 
   patch_good : (W : World) (tx : List ℕ) (pairs : List (Key × Pending)) (o : Option Wanted) → first_wanted I.types pairs ≡ o → Good W
       → Good (patch_next W tx pairs o).world
@@ -314,6 +367,12 @@ module _ (I : Image) (S : List ℕ → Type 0) (are_covered : (f : List ℕ) →
   answered_good W Apply good = applied_good W good
   answered_good W (CommitAndApply tx) good = commit_and_apply_good W tx (get W.held.pending tx) good
   answered_good W JobNow good = good
+  answered_good W (Set pairs) good = set_next_good W pairs (first_wanted I.types pairs) refl good
+  answered_good W ApplyAll good = applied_good (owing_all W) (all_owed_good W good)
+  answered_good W (Guarded q) good = guarded_one I Good W (changed_by W q) (answered I W q) good (answered_good W q good)
+  answered_good W (Plan tx) good = good
+  answered_good W (PlanFile file tx) good = good
+  answered_good W Store good = good
 
   pub request_good : (W : World) (q : Request) (o : Outcome) → Good W → Good (request_next I W q o).world
   unfolding request_next

@@ -13,12 +13,14 @@ use Rattle.settings_machine.specs.Typed.{Wanted, first_wanted}
 use Rattle.settings_machine.specs.Requests.{Request, Root, OsNames, Settings, SettingsAt, SettingsBelow}
 use Rattle.settings_machine.specs.Requests.{Patch, Services, ConfigurationFiles, Affected, Pends, DropTx, TxList}
 use Rattle.settings_machine.specs.Requests.{Commit, Apply, CommitAndApply, JobNow}
+use Rattle.settings_machine.specs.Requests.{Set, ApplyAll, Guarded, Plan, PlanFile, Store}
 use Rattle.settings_machine.specs.Step.{Outcome, Answered, WithoutMemory, Unopened, Faulted, Answer, Fine, NoRoom, FileFault, NoSpawn, SyncFault, OwedFault}
-use Rattle.settings_machine.specs.Step.{patch_next, commit_next, commit_and_apply_next, answered, request_next}
+use Rattle.settings_machine.specs.Step.{patch_next, commit_next, commit_and_apply_next, set_next, changed_by, answered, request_next}
 use Rattle.settings_machine.specs.Step.{wrote, Command, after_files_turn, work_turn, job_turn, turn_next, opened}
 use Rattle.settings_machine.specs.Events.{Event, Opening, Succeeded, Failing, Opened, Asked, Unread, Turned, Began, Moved, opening_next, next, after}
 use Rattle.settings_machine.specs.Jobs.{Ending, Course, run_at, run_of, is_last, ending_of, followed, begun_by, next_courses}
 use Rattle.settings_machine.specs.Jobs.{courses, runs_in, IsHistoryOf, JobsRunInOrder}
+use Rattle.settings_machine.proofs.Guards.{guarded_one}
 use Rattle.settings_machine.proofs.Restarts.{next_history, after_history}
 
 module _ (I : Image) where
@@ -53,6 +55,16 @@ module _ (I : Image) where
     by None = refl
     by (Some p) = refl
   answered_runs W JobNow = refl
+  answered_runs W (Set pairs) = by (first_wanted I.types pairs) where
+    by : (o : Option Wanted) → (set_next I W pairs o).world.runs ≡ W.runs
+    by None = refl
+    by (Some wanted) = refl
+  answered_runs W ApplyAll = refl
+  answered_runs W (Guarded q) =
+      guarded_one I (λ (X : World). X.runs ≡ W.runs) W (changed_by W q) (answered I W q) refl (answered_runs W q)
+  answered_runs W (Plan tx) = refl
+  answered_runs W (PlanFile file tx) = refl
+  answered_runs W Store = refl
 
   pub request_runs : (W : World) (q : Request) (o : Outcome) → (request_next I W q o).world.runs ≡ W.runs
   unfolding request_next

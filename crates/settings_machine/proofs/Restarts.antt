@@ -17,14 +17,16 @@ use Rattle.settings_machine.specs.Typed.{Wanted, first_wanted}
 use Rattle.settings_machine.specs.Requests.{Request, Root, OsNames, Settings, SettingsAt, SettingsBelow}
 use Rattle.settings_machine.specs.Requests.{Patch, Services, ConfigurationFiles, Affected, Pends, DropTx, TxList}
 use Rattle.settings_machine.specs.Requests.{Commit, Apply, CommitAndApply, JobNow}
+use Rattle.settings_machine.specs.Requests.{Set, ApplyAll, Guarded, Plan, PlanFile, Store}
 use Rattle.settings_machine.specs.Step.{Outcome, Answered, WithoutMemory, Unopened, Faulted, Answer, Fine}
 use Rattle.settings_machine.specs.Step.{NoRoom, FileFault, NoSpawn, SyncFault, OwedFault, noting, failing}
-use Rattle.settings_machine.specs.Step.{patch_next, committed_world, commit_next, begun, asked_for, applied, commit_and_apply_next}
-use Rattle.settings_machine.specs.Step.{answered, request_next}
+use Rattle.settings_machine.specs.Step.{patch_next, committed_world, commit_next, begun, asked_for, applied, commit_and_apply_next, set_world}
+use Rattle.settings_machine.specs.Step.{set_next, changed_by, answered, request_next}
 use Rattle.settings_machine.specs.Step.{wrote, file_turn, Command, ended, command_turn, last_turn, after_files_turn, work_turn, job_turn, turn_next, opened}
 use Rattle.settings_machine.specs.Events.{Event, Opening, Succeeded, Failing, Opened, Asked, Unread, Turned, Began, Moved, opening_next, next, after}
 use Rattle.settings_machine.specs.Jobs.{Going, Done, Broken, Course, run_at, has_none, run_of, is_last, ending_of, followed, begun_by, courses_by, next_courses}
 use Rattle.settings_machine.specs.Jobs.{courses, RunsAll, RunsInOrder, HaveEnded, IsHistoryOf}
+use Rattle.settings_machine.proofs.Guards.{guarded_one}
 
 -- ---- runs of commands
 
@@ -150,6 +152,15 @@ module _ (I : Image) where
     by true = Rests
     by false = noted_asked W.job _ _
 
+  set_leads : (W : World) (pairs : List (Key × Pending)) (o : Option Wanted)
+      → Leads W.job (set_next I W pairs o).world.held.owed (set_next I W pairs o).world.job
+  set_leads W pairs None = by (owes_none (set_world W pairs).held.owed) where
+    by : (b : Bool)
+        → Leads W.job (set_world W pairs).held.owed (if b then Idle else asked_for I (set_world W pairs).held.owed (set_world W pairs).job)
+    by true = Rests
+    by false = noted_asked W.job _ _
+  set_leads W pairs (Some wanted) = same_leads W.job _
+
   answered_leads : (W : World) (q : Request) → Leads W.job (answered I W q).world.held.owed (answered I W q).world.job
   answered_leads W Root = same_leads W.job _
   answered_leads W OsNames = same_leads W.job _
@@ -167,6 +178,13 @@ module _ (I : Image) where
   answered_leads W Apply = applied_leads W
   answered_leads W (CommitAndApply tx) = commit_and_apply_leads W tx (get W.held.pending tx)
   answered_leads W JobNow = same_leads W.job _
+  answered_leads W (Set pairs) = set_leads W pairs (first_wanted I.types pairs)
+  answered_leads W ApplyAll = asked_leads W.job owed.All
+  answered_leads W (Guarded q) =
+      guarded_one I (λ (X : World). Leads W.job X.held.owed X.job) W (changed_by W q) (answered I W q) (same_leads W.job _) (answered_leads W q)
+  answered_leads W (Plan tx) = same_leads W.job _
+  answered_leads W (PlanFile file tx) = same_leads W.job _
+  answered_leads W Store = same_leads W.job _
 
   pub request_leads : (W : World) (q : Request) (o : Outcome) → Leads W.job (request_next I W q o).world.held.owed (request_next I W q o).world.job
   unfolding request_next

@@ -15,11 +15,16 @@ use Rattle.settings_machine.specs.World.{Key, Image, World, Work, Job, Idle, Fai
 use Rattle.settings_machine.specs.Typed.{Wanted, first_wanted}
 use Rattle.settings_machine.specs.Requests.{Request, Root, OsNames, Settings, SettingsAt, SettingsBelow}
 use Rattle.settings_machine.specs.Requests.{Patch, Services, ConfigurationFiles, Affected, Pends, DropTx, TxList}
-use Rattle.settings_machine.specs.Requests.{Commit, Apply, CommitAndApply, JobNow, is_success}
+use Rattle.settings_machine.specs.Requests.{Commit, Apply, CommitAndApply, JobNow, Set, ApplyAll, Guarded, Plan, PlanFile, Store, is_success}
 use Rattle.settings_machine.specs.Step.{Outcome, Answered, WithoutMemory, Unopened, Faulted, Answer, Fine, NoRoom, FileFault, NoSpawn, SyncFault, OwedFault}
 use Rattle.settings_machine.specs.Step.{failing, patch_next, committed_world, begun, asked_for, applied, commit_and_apply_next, answered, request_next}
 use Rattle.settings_machine.specs.Step.{wrote, file_turn, Command, ended, command_turn, last_turn, after_files_turn, work_turn, job_turn, turn_next}
 use Rattle.settings_machine.specs.Events.{Event, Opened, Asked, Unread, Turned, Began, Moved, next, after}
+use Rattle.settings_machine.specs.Plans.{first_refusing}
+use Rattle.settings_machine.specs.Step.{Next, set_world, set_next, owing_all, changed_by, unless_refusing, guarded_next}
+use Rattle.settings_machine.proofs.Guards.{guarded_one}
+use Rattle.metadata_links.specs.Links.{files_of}
+use Rattle.template_eval.specs.declared.render_error.RenderError.{RenderError}
 use Rattle.settings_machine.specs.Settling.{is_applying, commits_alone, leaves_owed, IdleOwesNothing}
 
 -- An idle job owes nothing, and a running one will not when it is idle: it was asked for again, or it noted nothing.
@@ -45,6 +50,26 @@ module _ (I : Image) where
     by true none = none
     by false some = asked_settles W.held.owed W.job
 
+  guarded_first : (W : World) (changed : List Key) (n : Next) → (is_success n.reply ≡ true → WillSettle n.world)
+      → is_success (guarded_next I W changed n).reply ≡ true → WillSettle (guarded_next I W changed n).world
+  guarded_first W changed n settles well = by (is_success n.reply) refl well where
+    unless : (o : Option (List ℕ × RenderError)) → is_success n.reply ≡ true → is_success (unless_refusing W n o).reply ≡ true
+        → WillSettle (unless_refusing W n o).world
+    unless None is well' = settles is
+    unless (Some refusal) is well' = absurd (cc well')
+
+    by : (b : Bool) → is_success n.reply ≡ b
+        → is_success (if b then unless_refusing W n (first_refusing I n.world.held.live (files_of I.manifest (owed.Keys changed))) else n).reply ≡ true
+        → WillSettle (if b then unless_refusing W n (first_refusing I n.world.held.live (files_of I.manifest (owed.Keys changed))) else n).world
+    by true is well' = unless (first_refusing I n.world.held.live (files_of I.manifest (owed.Keys changed))) is well'
+    by false is well' = settles well'
+
+  set_settles : (W : World) (pairs : List (Key × Pending)) (o : Option Wanted) → (is_success (set_next I W pairs o).reply ≡ true ⊎ WillSettle W)
+      → WillSettle (set_next I W pairs o).world
+  set_settles W pairs None either = applied_settles (set_world W pairs)
+  set_settles W pairs (Some wanted) (inl well) = absurd (cc well)
+  set_settles W pairs (Some wanted) (inr settles) = settles
+
   first_settles : (W : World) (q : Request) → is_applying q ≡ true → is_success (answered I W q).reply ≡ true → WillSettle (answered I W q).world
   first_settles W Root applies well = absurd (cc applies)
   first_settles W OsNames applies well = absurd (cc applies)
@@ -65,6 +90,12 @@ module _ (I : Image) where
     by None well' = absurd (cc well')
     by (Some p) well' = applied_settles (committed_world W tx)
   first_settles W JobNow applies well = absurd (cc applies)
+  first_settles W (Set pairs) applies well = set_settles W pairs (first_wanted I.types pairs) (inl well)
+  first_settles W ApplyAll applies well = applied_settles (owing_all W)
+  first_settles W (Guarded q) applies well = guarded_first W (changed_by W q) (answered I W q) (λ well'. first_settles W q applies well') well
+  first_settles W (Plan tx) applies well = absurd (cc applies)
+  first_settles W (PlanFile file tx) applies well = absurd (cc applies)
+  first_settles W Store applies well = absurd (cc applies)
 
   -- ---- other requests
 
@@ -92,6 +123,12 @@ module _ (I : Image) where
     by None = settles
     by (Some p) = applied_settles (committed_world W tx)
   answered_settles W JobNow else' settles = settles
+  answered_settles W (Set pairs) else' settles = set_settles W pairs (first_wanted I.types pairs) (inr settles)
+  answered_settles W ApplyAll else' settles = applied_settles (owing_all W)
+  answered_settles W (Guarded q) else' settles = guarded_one I WillSettle W (changed_by W q) (answered I W q) settles (answered_settles W q else' settles)
+  answered_settles W (Plan tx) else' settles = settles
+  answered_settles W (PlanFile file tx) else' settles = settles
+  answered_settles W Store else' settles = settles
 
   -- A request that commits nothing leaves what is owed.
   same_owed : (W : World) (taken : Bool) (q : Request) → commits_alone q (Faulted taken) ≡ false → (answered I W q).world.held.owed ≡ W.held.owed
@@ -114,6 +151,13 @@ module _ (I : Image) where
   same_owed W taken Apply else' = refl
   same_owed W taken (CommitAndApply tx) else' = absurd (cc else')
   same_owed W taken JobNow else' = refl
+  same_owed W taken (Set pairs) else' = absurd (cc else')
+  same_owed W taken ApplyAll else' = absurd (cc else')
+  same_owed W taken (Guarded q) else' =
+      guarded_one I (λ (X : World). X.held.owed ≡ W.held.owed) W (changed_by W q) (answered I W q) refl (same_owed W taken q else')
+  same_owed W taken (Plan tx) else' = refl
+  same_owed W taken (PlanFile file tx) else' = refl
+  same_owed W taken Store else' = refl
 
   failing_settles : (o p : Owed) (j : Job) (c : Cause) → p ≡ o → Settles o j → Settles p (failing j c)
   failing_settles o p Idle c same settles = ap owes_none same ∙ settles

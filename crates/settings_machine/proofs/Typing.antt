@@ -14,8 +14,8 @@ use Rattle.json_trees.specs.declared.scalar.Scalar.{Scalar}
 use Rattle.settings_maps.specs.Maps.{inner, value_at, with_value}
 use Rattle.settings_tree.specs.Content.{settings_key}
 use Rattle.settings_tree.specs.declared.held.Held.{Held}
-use Rattle.pending_tx.specs.Transactions.{committed, dropped, patched}
-use Rattle.pending_tx.proofs.Commits.{over, value-committed}
+use Rattle.pending_tx.specs.Transactions.{pending_of, last_of, overlaid, committed, dropped, patched, set_at_once}
+use Rattle.pending_tx.proofs.Commits.{over, value-overlaid}
 use Rattle.pending_tx.proofs.Ended.{inner-remove}
 use Rattle.typed_settings.specs.Pattern.{Fits, Matches}
 use Rattle.typed_settings.specs.Row.{HasRow, IsTyped}
@@ -140,6 +140,21 @@ patched_may table tx (pair ∷ pairs) m each before t q p e =
     by : (u : List ℕ) (r : Key) (o : Pending) → (r ≡ pair.0) × (o ≡ pair.1) → MayPend table r o
     by u r o new = subst (λ (k : Key). MayPend table k o) (sym new.0) (subst (λ (x : Pending). MayPend table pair.0 x) (sym new.1) (each pair (inl refl)))
 
+-- What the last pair of a key gives it may pend where each pair may.
+pub last_may : (table : List Row) (pairs : List (Key × Pending)) (m : FinMap key_cmp Pending) → ((e : Key × Pending) → Among pairs e → MayPend table e.0 e.1)
+    → ((q : Key) (p : Pending) → get m q ≡ Some p → MayPend table q p)
+    → (q : Key) (p : Pending) → get (fold (λ n e. insert n e.0 e.1) m pairs) q ≡ Some p → MayPend table q p
+last_may table [] m each before q p e = before q p e
+last_may table (pair ∷ pairs) m each before q p e =
+    last_may table pairs (insert m pair.0 pair.1) (λ x at. each x (inr at))
+    (λ r o f. by r o (eq_by_cmp key_cmp r pair.0) refl (sym (get-insert key_total m pair.0 pair.1 r) ∙ f)) q p e
+  where
+    by : (r : Key) (o : Pending) (b : Bool) → eq_by_cmp key_cmp r pair.0 ≡ b → cond b (Some pair.1) (get m r) ≡ Some o → MayPend table r o
+    by r o true is f =
+        let same : pair.1 ≡ o = cc in
+        subst (λ (k : Key). MayPend table k o) (sym (key_tied r pair.0 is)) (subst (λ (x : Pending). MayPend table pair.0 x) same (each pair (inl refl)))
+    by r o false is f = before r o f
+
 module _ (table : List Row) (h : Held) (typed : IsTypedHeld table h) where
   pub patched_typed : (tx : List ℕ) (pairs : List (Key × Pending)) → first_wanted table pairs ≡ None → IsTypedHeld table (patched h tx pairs)
   unfolding AllMay
@@ -154,17 +169,25 @@ module _ (table : List Row) (h : Held) (typed : IsTypedHeld table h) where
   pub dropped_typed : (tx : List ℕ) → IsTypedHeld table (dropped h tx)
   dropped_typed tx = record { settings = typed.settings; pending = removed_may tx }
 
-  committed_settings : (tx : List ℕ) → HasTypedSettings table (committed h tx).live
-  committed_settings tx = record {
-    typed = λ key value e not_image. by key value not_image (value_at h.pending tx key) refl (sym (value-committed h tx key) ∙ e);
+  overlaid_settings : (m : FinMap key_cmp Pending) → ((key : Key) (p : Pending) → get m key ≡ Some p → MayPend table key p)
+      → HasTypedSettings table (overlaid h m).live
+  overlaid_settings m may = record {
+    typed = λ key value e not_image. by key value not_image (get m key) refl (sym (value-overlaid h m key) ∙ e);
   } where
-    by : (key : Key) (value : Scalar) → is_of_image key ≡ false → (o : Option Pending) → value_at h.pending tx key ≡ o
+    by : (key : Key) (value : Scalar) → is_of_image key ≡ false → (o : Option Pending) → get m key ≡ o
         → over o (get h.live.values key) ≡ Some value → IsTyped table key value
     by key value not_image None is e = typed.settings.typed key value e not_image
     by key value not_image (Some (Put v)) is e =
         let same : v ≡ value = cc in
-        subst (λ (x : Scalar). IsTyped table key x) same (typed.pending tx key (Put v) is).taken
+        subst (λ (x : Scalar). IsTyped table key x) same (may key (Put v) is).taken
     by key value not_image (Some Gone) is e = absurd (cc e)
 
   pub committed_typed : (tx : List ℕ) → IsTypedHeld table (committed h tx)
-  committed_typed tx = record { settings = committed_settings tx; pending = removed_may tx }
+  committed_typed tx = record { settings = overlaid_settings (pending_of h tx) (typed.pending tx); pending = removed_may tx }
+
+  pub set_typed : (pairs : List (Key × Pending)) → first_wanted table pairs ≡ None → IsTypedHeld table (set_at_once h pairs)
+  set_typed pairs none = record {
+    settings = overlaid_settings (last_of pairs)
+        (last_may table pairs empty (all_may table pairs none) (λ q p e. absurd (cc (get-empty {X = Pending} key_cmp q, e))));
+    pending = typed.pending;
+  }

@@ -4,16 +4,17 @@ use Rattle.std.specs.List.{list_any}
 use Rattle.std.specs.FinMap.{get}
 use Rattle.std.specs.Str.{bytes_eq}
 use Rattle.settings_machine.specs.World.{Image, World}
-use Rattle.settings_machine.specs.Requests.{Request, Patch, Pends, DropTx, Commit, CommitAndApply}
+use Rattle.settings_machine.specs.Requests.{Request, Patch, Pends, DropTx, Commit, CommitAndApply, Guarded}
 use Rattle.settings_machine.specs.Step.{Outcome, request_next}
 use Rattle.settings_machine.specs.Events.{Event, Asked, Began, Moved, after}
 
--- Whether the request is a patch, the drop or the commit of the transaction.
+-- Whether the request is a patch, the drop or the commit of the transaction, guarded or not.
 abbrev pub is_on : List ℕ → Request → Bool
 is_on tx (Patch t pairs) = bytes_eq t tx
 is_on tx (DropTx t) = bytes_eq t tx
 is_on tx (Commit t) = bytes_eq t tx
 is_on tx (CommitAndApply t) = bytes_eq t tx
+is_on tx (Guarded q) = is_on tx q
 is_on tx _ = false
 
 -- Whether the event is such a request, or leads to another store.
@@ -37,7 +38,18 @@ abbrev pub OthersLeaveIt : Type 0
 OthersLeaveIt = (I : Image) (tx : List ℕ) (W : World) (events : List Event) → list_any (is_event_on tx) events ≡ false
     → HasSamePending I tx (after I W events) W
 
--- From two worlds in which a transaction has the same pending it has the same, be it after all events or after those on it alone.
+-- Whether the request is a guarded change, which the live settings may refuse.
+abbrev pub is_guarded : Request → Bool
+is_guarded (Guarded q) = true
+is_guarded _ = false
+
+-- Whether the event is such a request.
+abbrev pub is_guarded_event : Event → Bool
+is_guarded_event (Asked q o) = is_guarded q
+is_guarded_event _ = false
+
+-- From two worlds in which a transaction has the same pending it has the same, be it after all events or after those on it alone,
+-- unless one of these is guarded.
 abbrev pub TransactionsAreApart : Type 0
 TransactionsAreApart = (I : Image) (tx : List ℕ) (W X : World) → get W.held.pending tx ≡ get X.held.pending tx → (events : List Event)
-    → HasSamePending I tx (after I W events) (after I X (events_on tx events))
+    → list_any is_guarded_event (events_on tx events) ≡ false → HasSamePending I tx (after I W events) (after I X (events_on tx events))

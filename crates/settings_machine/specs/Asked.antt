@@ -1,8 +1,15 @@
 -- The request that the machine sees: its lists are those of the vectors.
 use Rattle.std.specs.Option.{option_map}
 use Rattle.settings_machine.specs.Requests as machine
+use Rattle.settings_machine.specs.declared.request.Guard.{Guard}
+use Rattle.settings_machine.specs.declared.request.Guard.TheVariants as guard
 use Rattle.settings_machine.specs.declared.request.Request.{Request}
 use Rattle.settings_machine.specs.declared.request.Request.TheVariants as request
+
+-- A change, guarded or not.
+abbrev pub guarded_by : Guard → machine.Request → machine.Request
+guarded_by guard.Off q = q
+guarded_by guard.Render q = machine.Guarded q
 
 abbrev pub request_of : Request → machine.Request
 request_of request.Root = machine.Root
@@ -17,7 +24,12 @@ request_of (request.Affected keys) = machine.Affected keys.items
 request_of (request.Pends tx) = machine.Pends tx
 request_of (request.DropTx tx) = machine.DropTx tx
 request_of request.TxList = machine.TxList
-request_of (request.Commit tx) = machine.Commit tx
+request_of (request.Commit tx guard) = guarded_by guard (machine.Commit tx)
 request_of request.Apply = machine.Apply
-request_of (request.CommitAndApply tx) = machine.CommitAndApply tx
+request_of (request.CommitAndApply tx guard) = guarded_by guard (machine.CommitAndApply tx)
 request_of request.JobNow = machine.JobNow
+request_of (request.Set pairs guard) = guarded_by guard (machine.Set pairs.items)
+request_of request.ApplyAll = machine.ApplyAll
+request_of (request.Plan tx) = machine.Plan tx
+request_of (request.PlanFile file tx) = machine.PlanFile file tx
+request_of request.Store = machine.Store

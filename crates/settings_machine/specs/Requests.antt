@@ -5,11 +5,15 @@ use Rattle.json_trees.specs.declared.pending.Pending.{Pending}
 use Rattle.json_trees.specs.declared.scalar.Scalar.{Scalar}
 use Rattle.settings_tree.specs.declared.entry.Owed.{Owed}
 use Rattle.settings_tree.specs.Content.{settings_key}
+use Rattle.settings_tree.specs.declared.held.Held.{Held}
+use Rattle.outside.specs.Names.{Names}
+use Rattle.template_eval.specs.declared.render_error.RenderError.{RenderError}
+use Rattle.version_links.specs.declared.version.Version.{Version}
 use Rattle.settings_machine.specs.World.{Key, Job, Idle, Failed, Running}
 use Rattle.settings_machine.specs.declared.job.JobStatus.{JobStatus}
 use Rattle.settings_machine.specs.declared.job.JobStatus.TheVariants as standing
 use Rattle.settings_machine.specs.declared.refusal.Refusal.{Refusal}
-use Rattle.settings_machine.specs.declared.refusal.Refusal.TheVariants.{BadType, NoKey, NoName, NoPending}
+use Rattle.settings_machine.specs.declared.refusal.Refusal.TheVariants.{BadType, NoKey, NoName, NoPending, NotRendered}
 
 -- A whole request. A transaction is named by a list of bytes.
 pub data Request : Type 0 where
@@ -41,10 +45,24 @@ pub data Request : Type 0 where
   CommitAndApply : List ℕ → Request
   -- the job, and what is owed
   JobNow : Request
+  -- these pairs are to be live at once, and what is owed is to be paid by a job
+  Set : List (Key × Pending) → Request
+  -- all is to be owed, and to be paid by a job
+  ApplyAll : Request
+  -- the change is to be made unless the template of a file refuses that reads what it changes
+  Guarded : Request → Request
+  -- what a job would do, now or after the commit of a transaction
+  Plan : Option (List ℕ) → Request
+  -- what a configuration file would be, now or after the commit of a transaction
+  PlanFile : List ℕ → Option (List ℕ) → Request
+  -- the version of the store, and all that it holds
+  Store : Request
 
--- Each key of a patch begins with `settings`.
+-- Each key that is patched or set begins with `settings`.
 abbrev pub IsProper : Request → Type 0
 IsProper (Patch tx pairs) = All (λ pair. IsTrue (is_prefix settings_key pair.0)) pairs
+IsProper (Set pairs) = All (λ pair. IsTrue (is_prefix settings_key pair.0)) pairs
+IsProper (Guarded q) = IsProper q
 IsProper _ = ⊤
 
 -- Whether it asks alone, and changes nothing.
@@ -54,6 +72,9 @@ is_reading (DropTx tx) = false
 is_reading (Commit tx) = false
 is_reading Apply = false
 is_reading (CommitAndApply tx) = false
+is_reading (Set pairs) = false
+is_reading ApplyAll = false
+is_reading (Guarded q) = is_reading q
 is_reading _ = true
 
 -- The status of a job, as a client sees it.
@@ -61,6 +82,15 @@ abbrev pub job_status : Job → JobStatus
 job_status Idle = standing.Idle
 job_status (Failed cause) = standing.Failed cause
 job_status (Running work) = standing.Running
+
+-- A plan: the keys whose live values a commit changes, what is owed then, the files that a job of it writes, in its order and each with
+-- its path, the commands that it runs, in order, and the files whose templates refuse, with why.
+pub record Planned : Type 0 where
+  pub changed : List Key
+  pub owed : Owed
+  pub files : List (List ℕ × Names)
+  pub commands : List (List ℕ × (ℕ × List (List ℕ)))
+  pub refused : List (List ℕ × RenderError)
 
 -- What the body of an answer says.
 pub data Body : Type 0 where
@@ -78,6 +108,12 @@ pub data Body : Type 0 where
   NameList : List (List ℕ) → Body
   -- the status of the job, and what is owed
   JobIs : JobStatus → Owed → Body
+  -- a plan
+  PlanIs : Planned → Body
+  -- the bytes of a file
+  FileIs : List ℕ → Body
+  -- the version of the store, and what it holds
+  StoreIs : Version → Held → Body
 
 -- What a request is answered: a body with HTTP status 200, HTTP status 204, a refusal, out of memory, a fault of the disk, or that
 -- the store could not be opened again, for what is there.
@@ -95,6 +131,7 @@ refusal_status (BadType key wanted) = 400
 refusal_status (NoKey key) = 404
 refusal_status (NoName name) = 404
 refusal_status (NoPending tx) = 422
+refusal_status (NotRendered file error) = 422
 
 -- The status of a reply.
 abbrev pub status : Reply → ℕ

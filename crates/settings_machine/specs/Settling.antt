@@ -2,7 +2,7 @@
 use Rattle.std.specs.Prelude.{◌≡◌, Bool, true, false, List, ◌∷◌}
 use Rattle.std.specs.List.{list_any}
 use Rattle.settings_machine.specs.World.{Image, World, Idle, owes_none}
-use Rattle.settings_machine.specs.Requests.{Request, Commit, Apply, CommitAndApply, is_success}
+use Rattle.settings_machine.specs.Requests.{Request, Commit, Apply, CommitAndApply, Set, ApplyAll, Guarded, is_success}
 use Rattle.settings_machine.specs.Step.{Outcome, Answered, Faulted, request_next}
 use Rattle.settings_machine.specs.Events.{Event, Opened, Asked, Unread, Turned, Began, Moved, after}
 
@@ -10,12 +10,18 @@ use Rattle.settings_machine.specs.Events.{Event, Opened, Asked, Unread, Turned, 
 abbrev pub is_applying : Request → Bool
 is_applying Apply = true
 is_applying (CommitAndApply tx) = true
+is_applying (Set pairs) = true
+is_applying ApplyAll = true
+is_applying (Guarded q) = is_applying q
 is_applying _ = false
 
 -- Whether keys may be owed after the request, and it asked for no job that is to pay them.
 abbrev pub commits_alone : Request → Outcome → Bool
 commits_alone (Commit tx) o = true
 commits_alone (CommitAndApply tx) (Faulted taken) = true
+commits_alone (Set pairs) (Faulted taken) = true
+commits_alone ApplyAll (Faulted taken) = true
+commits_alone (Guarded q) o = commits_alone q o
 commits_alone _ o = false
 
 -- Whether keys may be owed after the event for which no job was asked: after such a request, an opening, a beginning and a migration.

@@ -9,17 +9,20 @@ use Rattle.settings_tree.specs.declared.entry.Owed.{Owed}
 use Rattle.settings_tree.specs.declared.entry.Owed.TheVariants as owed
 use Rattle.settings_tree.specs.declared.held.Held.{Held}
 use Rattle.settings_maps.specs.KeyList.{has_key, joined}
-use Rattle.pending_tx.specs.Transactions.{pending_of, keys_of, changed_keys, committed, dropped, patched}
+use Rattle.pending_tx.specs.Transactions.{pending_of, keys_of, changed_keys, committed, dropped, patched, last_of, changed_in, set_at_once}
 use Rattle.metadata_links.specs.Links.{files_of, commands_of}
 use Rattle.template_eval.specs.Rendered.{Rendered}
+use Rattle.template_eval.specs.declared.render_error.RenderError.{RenderError}
 use Rattle.settings_machine.specs.declared.cause.Cause.{Cause}
 use Rattle.settings_machine.specs.declared.cause.Cause.TheVariants as cause
-use Rattle.settings_machine.specs.declared.refusal.Refusal.TheVariants.{BadType, NoPending}
+use Rattle.settings_machine.specs.declared.refusal.Refusal.TheVariants.{BadType, NoPending, NotRendered}
 use Rattle.settings_machine.specs.World.{Key, Image, World, Files, Work, Job, Idle, Failed, Running, owes_none, path_of, rendered}
 use Rattle.settings_machine.specs.Typed.{Wanted, first_wanted}
 use Rattle.settings_machine.specs.Opening.{added_keys, opened_held}
 use Rattle.settings_machine.specs.Requests.{Request, Root, OsNames, Settings, SettingsAt, SettingsBelow, Patch, Services, ConfigurationFiles}
 use Rattle.settings_machine.specs.Requests.{Affected, Pends, DropTx, TxList, Commit, Apply, CommitAndApply, JobNow}
+use Rattle.settings_machine.specs.Requests.{Set, ApplyAll, Guarded, Plan, PlanFile, Store, StoreIs, is_success}
+use Rattle.settings_machine.specs.Plans.{first_refusing, plan_reply, file_reply}
 use Rattle.settings_machine.specs.Requests.{TreeOf, PendingTreeOf, TextsByName, ListsByKey, KeyList, NameList, JobIs, job_status}
 use Rattle.settings_machine.specs.Requests.{Reply, Said, Empty, Refused, NoMemory, DiskFault, NotOpened}
 use Rattle.settings_machine.specs.Answers.{said_unless, settings_of, settings_where, missing_key, below_names, nearest_lists}
@@ -115,6 +118,36 @@ abbrev pub commit_and_apply_next : Image → World → List ℕ → Option (FinM
 commit_and_apply_next I W tx None = stays W (Refused (NoPending tx))
 commit_and_apply_next I W tx (Some pending) = record { world = applied I (committed_world W tx); reply = Said (KeyList (keys_of W.held tx)) }
 
+-- The world after pairs are set at once: a running job notes the keys whose live values are changed.
+abbrev pub set_world : World → List (Key × Pending) → World
+set_world W pairs = record W { held = set_at_once W.held pairs; job = noting W.job (changed_in W.held (last_of pairs)) }
+
+-- The pairs are set at once, unless one of them is refused, and apply on that world; their keys are answered.
+abbrev pub set_next : Image → World → List (Key × Pending) → Option Wanted → Next
+set_next I W pairs None = record { world = applied I (set_world W pairs); reply = Said (KeyList (keys (last_of pairs))) }
+set_next I W pairs (Some wanted) = stays W (Refused (BadType wanted.0 wanted.1))
+
+-- With all owed.
+abbrev pub owing_all : World → World
+owing_all W = with_held W (record W.held { owed = owed.All })
+
+-- The keys whose live values a request changes.
+abbrev pub changed_by : World → Request → List Key
+changed_by W (Commit tx) = changed_keys W.held tx
+changed_by W (CommitAndApply tx) = changed_keys W.held tx
+changed_by W (Set pairs) = changed_in W.held (last_of pairs)
+changed_by W _ = []
+
+-- What was to come next, unless the template of a file refuses.
+abbrev pub unless_refusing : World → Next → Option (List ℕ × RenderError) → Next
+unless_refusing W n None = n
+unless_refusing W n (Some refusal) = stays W (Refused (NotRendered refusal.0 refusal.1))
+
+-- A change that would be made is refused where the template of a file of the keys that it changes refuses on what is then live.
+abbrev pub guarded_next : Image → World → List Key → Next → Next
+guarded_next I W changed n =
+    if is_success n.reply then unless_refusing W n (first_refusing I n.world.held.live (files_of I.manifest (owed.Keys changed))) else n
+
 -- The next world and the reply, where nothing fails.
 abbrev pub answered : Image → World → Request → Next
 answered I W Root = stays W (Said (TreeOf 0 (entries W.held.live.values)))
@@ -133,6 +166,12 @@ answered I W (Commit tx) = commit_next W tx (get W.held.pending tx)
 answered I W Apply = record { world = applied I W; reply = Empty }
 answered I W (CommitAndApply tx) = commit_and_apply_next I W tx (get W.held.pending tx)
 answered I W JobNow = stays W (Said (JobIs (job_status W.job) W.held.owed))
+answered I W (Set pairs) = set_next I W pairs (first_wanted I.types pairs)
+answered I W ApplyAll = record { world = applied I (owing_all W); reply = Empty }
+answered I W (Guarded q) = guarded_next I W (changed_by W q) (answered I W q)
+answered I W (Plan tx) = stays W (plan_reply I W.held tx)
+answered I W (PlanFile file tx) = stays W (file_reply I W.held file tx)
+answered I W Store = stays W (Said (StoreIs W.version W.held))
 
 -- The next world and the reply, with what the outside let the request come to. At a fault what is held is wholly that of
 -- the next world or wholly the old, no job begins, and a running one fails.

@@ -7,6 +7,7 @@ ghost use Rattle.settings_machine.specs.Reopened.{OpeningsKeepSettings, OpeningT
 ghost use Rattle.settings_machine.specs.Settling.{IdleOwesNothing};
 ghost use Rattle.settings_machine.specs.Calm.{CalmJobsEnd, CalmAppliesPay};
 ghost use Rattle.settings_machine.specs.Touched.{JobsTouchTheirFiles, FilesComeFirst};
+ghost use Rattle.settings_machine.specs.PlanLaws.{SetIsOneChange, GuardsHold, PlansComeTrue};
 
 /// The laws of the machine. It does nothing: its clauses are what holds of every image that can be read.
 ///
@@ -23,8 +24,13 @@ ghost use Rattle.settings_machine.specs.Touched.{JobsTouchTheirFiles, FilesComeF
 /// stops at the first template that refuses. After a request for a job that was answered with success, an idle job owes
 /// nothing, unless keys were committed, or added by an opening, for which no job was asked.
 ///
-/// What a transaction has pending is changed by requests on it alone, and depends on nothing else. An opening changes no
-/// live setting and nothing that is pending, and one opening after another is one.
+/// What a transaction has pending is changed by requests on it alone, and depends on nothing else unless a commit of it was
+/// guarded. An opening changes no live setting and nothing that is pending, and one opening after another is one.
+///
+/// To set pairs at once is to begin a transaction with them, and to commit and apply it. A guarded change that succeeds is the
+/// change by itself, and the files of the keys that it changes render then; where the first of them refuses, nothing changes.
+/// A plan that is answered while no job runs comes true: its keys change, its job begins, and while nothing fails it ends with
+/// its files written as they were answered and its commands run, or stops at the first template that the plan has as refusing.
 pub fn laws()
     ensures fit { FitStays }
     ensures files { FilesStayPaid }
@@ -45,4 +51,7 @@ pub fn laws()
     ensures calm_apply { CalmAppliesPay }
     ensures touched { JobsTouchTheirFiles }
     ensures first { FilesComeFirst }
+    ensures one_change { SetIsOneChange }
+    ensures guards { GuardsHold }
+    ensures plans { PlansComeTrue }
 {}

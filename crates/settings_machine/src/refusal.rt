@@ -4,6 +4,7 @@ ghost use Rattle.settings_machine.specs.Requests.{refusal_status};
 
 use key_names::{Key, Text};
 use settings_tree::TxName;
+use template_eval::RenderError;
 
 /// Why the machine refuses a request, which then changes nothing.
 #[derive(Debug, Drop)]
@@ -30,6 +31,13 @@ pub enum Refusal {
         /// The transaction.
         tx: TxName,
     },
+    /// The template of a configuration file refuses.
+    NotRendered {
+        /// The name of the file.
+        file: Text,
+        /// Why it refuses, and where.
+        error: RenderError,
+    },
 }
 
 impl Refusal {
@@ -40,7 +48,7 @@ impl Refusal {
         match self {
             Refusal::BadType { .. } => 400,
             Refusal::NoKey { .. } | Refusal::NoName { .. } => 404,
-            Refusal::NoPending { .. } => 422,
+            Refusal::NoPending { .. } | Refusal::NotRendered { .. } => 422,
         }
     }
 }

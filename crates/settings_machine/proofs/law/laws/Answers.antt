@@ -6,6 +6,9 @@ use Rattle.settings_machine.proofs.Reopening.{openings_keep_settings, opening_tw
 use Rattle.settings_machine.proofs.Settled.{idle_owes_nothing}
 use Rattle.settings_machine.proofs.Calming.{calm_jobs_end, calm_applies_pay}
 use Rattle.settings_machine.proofs.Touching.{jobs_touch_their_files, files_come_first}
+use Rattle.settings_machine.proofs.AtOnce.{set_is_one_change}
+use Rattle.settings_machine.proofs.Guarding.{guards_hold}
+use Rattle.settings_machine.proofs.Planned.{plans_come_true}
 use Rattle.settings_machine.proofs.law.laws.Goals as goal
 
 pub returns-clause-fit : goal.returns-clause-fit
@@ -64,3 +67,12 @@ returns-clause-calm_apply c = calm_applies_pay
 
 pub returns-clause-others : goal.returns-clause-others
 returns-clause-others c = others_leave_it
+
+pub returns-clause-one_change : goal.returns-clause-one_change
+returns-clause-one_change c = set_is_one_change
+
+pub returns-clause-guards : goal.returns-clause-guards
+returns-clause-guards c = guards_hold
+
+pub returns-clause-plans : goal.returns-clause-plans
+returns-clause-plans c = plans_come_true
