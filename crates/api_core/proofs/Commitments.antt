@@ -25,7 +25,7 @@ use Rattle.settings_machine.proofs.PaidLaws.{fit_stays}
 use Rattle.machine_disk.specs.Store.{IsReadyAt}
 use Rattle.machine_disk.specs.Kept.{Folder, CoreState, Kept}
 use Rattle.machine_disk.specs.Ran.{Ran}
-use Rattle.machine_disk.proofs.Meanings.{core_holds}
+use Rattle.machine_disk.proofs.Meanings.{core_holds, core_version}
 use Rattle.machine_disk.proofs.Handling.{ran_answered, ran_faulted}
 use Rattle.machine_disk.proofs.Quiet.{IsAlike, ran_calm}
 use Rattle.store_open.specs.Laws.{HoldsImage}
@@ -48,9 +48,10 @@ module _ (I : Image) (folder : Folder) (W V : World) (old : History) (before : C
   same_world : with_core W before.held before.job ≡ W
   same_world = ap (λ (h : Held). with_core W h before.job) (sym held_is) ∙ ap (λ (j : Job). with_core W W.held j) kept.core.job
 
-  replied_at_core : (q : Request) (answer : Answer) (effect : Effect) → IsPlanned I before.held before.job q answer effect
+  replied_at_core : (q : Request) (answer : Answer) (effect : Effect) → IsPlanned I before.place.version before.held before.job q answer effect
       → (answered I W q).reply ≡ reply_of answer
-  replied_at_core q answer effect planned = ap (λ (X : World). (answered I X q).reply) (sym same_world) ∙ planned.replies W
+  replied_at_core q answer effect planned = ap (λ (X : World). (answered I X q).reply) (sym same_world)
+      ∙ planned.replies W (core_version I folder W V old before kept calm)
 
 module _ (I : Image) (good : IsGood I) (folder : Folder) (W V : World) (old : History) (before : CoreState) (kept : Kept I folder W V old before)
     (calm : before.faulted ≡ false) where
@@ -60,12 +61,12 @@ module _ (I : Image) (good : IsGood I) (folder : Folder) (W V : World) (old : Hi
   world : with_core W before.held before.job ≡ W
   world = same_world I folder W V old before kept calm
 
-  module _ (q : Request) (answer : Answer) (effect : Effect) (planned : IsPlanned I before.held before.job q answer effect) where
+  module _ (q : Request) (answer : Answer) (effect : Effect) (planned : IsPlanned I before.place.version before.held before.job q answer effect) where
     held_at : laid before.held effect.change ≡ (answered I W q).world.held
-    held_at = planned.held_is W ∙ ap (λ (X : World). (answered I X q).world.held) world
+    held_at = planned.held_is W (core_version I folder W V old before kept calm) ∙ ap (λ (X : World). (answered I X q).world.held) world
 
     job_at : job_after effect.next before.job ≡ (answered I W q).world.job
-    job_at = planned.job_is W ∙ ap (λ (X : World). (answered I X q).world.job) world
+    job_at = planned.job_is W (core_version I folder W V old before kept calm) ∙ ap (λ (X : World). (answered I X q).world.job) world
 
     fit_after : IsFit I (next I W (Asked q Answered))
     fit_after = fit_stays I good W kept.fit (Asked q Answered ∷ []) refl
@@ -151,8 +152,8 @@ module _ (c : Core) (q : Request) (calm : c.faulted ≡ false) where
   }
 
   module _ (answer : Answer) (effect : Effect) (planned : Plans c q answer effect) (may : MayCommit c effect) where
-    by_image : (I : Image) → HoldsImage I c.image → IsPlanned I c.held (job_of c.job) q answer effect
-    by_image I image = planned.by_image I image.types_are image.os_is image.manifest_is
+    by_image : (I : Image) → HoldsImage I c.image → IsPlanned I c.place.version c.held (job_of c.job) q answer effect
+    by_image I image = planned.by_image I image.types_are image.os_is image.manifest_is image.templates_are
 
     may_follow : (I : Image) (folder : Folder) (W V : World) (old : History) → Kept I folder W V old (core_state c)
         → (batch : Changes) → batch.dir ≡ c.place.directory → Follows effect.change batch.entries → Stands (files_after batch old) (laid c.held effect.change) 2
@@ -198,5 +199,6 @@ with_job c job same = ap (λ (j : Job). let s : CoreState = record { place = c.p
 pub replies_planned : (c : Core) (q : Request) (answer : Answer) (effect : Effect) → Plans c q answer effect → Replies c q answer
 replies_planned c q answer effect planned = record {
   by_image = λ I image folder W V h kept calm.
-      replied_at_core I folder W V h (core_state c) kept calm q answer effect (planned.by_image I image.types_are image.os_is image.manifest_is);
+      replied_at_core I folder W V h (core_state c) kept calm q answer effect
+      (planned.by_image I image.types_are image.os_is image.manifest_is image.templates_are);
 }

@@ -8,3 +8,5 @@ pub mod Names
 pub mod Nesting
 pub mod Trees
 pub mod NearLists
+pub mod PlanParts
+pub mod Guarded

@@ -2,6 +2,7 @@ pub mod Jobs
 pub mod Prints
 pub mod Cores
 pub mod Plans
+pub mod Planning
 pub mod Carried
 pub mod Reopened
 pub mod Turned

@@ -44,6 +44,6 @@ pub(crate) fn may_print(answer: &Answer) -> bool
 {
     match answer {
         Answer::Said(body) => may_nest(body),
-        Answer::Empty | Answer::Refused(_) => true,
+        Answer::Empty | Answer::File(_) | Answer::Refused(_) => true,
     }
 }

@@ -12,7 +12,7 @@ ghost use Rattle.api_core.specs.Prints.{CanPrint};
 use crate::Core;
 use crate::planned::Planned;
 use crate::printable::may_print;
-use settings_machine::Request;
+use settings_machine::{Guard, Request};
 use settings_tree::Held;
 use std::alloc::{AllocError, Global};
 use typed_settings::Types;
@@ -63,15 +63,32 @@ impl Core {
             Request::Pends { tx } => Ok(self.plan_reading(alloc, self.pending(alloc, tx)?)),
             Request::DropTx { tx } => self.plan_drop(alloc, tx),
             Request::TxList => Ok(self.plan_reading(alloc, self.tx_list(alloc)?)),
-            Request::Commit { tx } => self.plan_commit(alloc, tx),
+            Request::Commit { tx, guard } => match guard {
+                Guard::Off => self.plan_commit(alloc, tx),
+                Guard::Render => self.plan_guarded_commit(alloc, tx),
+            },
             Request::Apply => self.plan_apply(alloc),
-            Request::CommitAndApply { tx } => self.plan_commit_and_apply(alloc, tx),
+            Request::CommitAndApply { tx, guard } => match guard {
+                Guard::Off => self.plan_commit_and_apply(alloc, tx),
+                Guard::Render => self.plan_guarded_commit_and_apply(alloc, tx),
+            },
             Request::JobNow => Ok(self.plan_reading(alloc, self.job_now(alloc)?)),
+            Request::Set { pairs, guard } => match guard {
+                Guard::Off => self.plan_set(alloc, pairs.as_slice()),
+                Guard::Render => self.plan_guarded_set(alloc, pairs.as_slice()),
+            },
+            Request::ApplyAll => self.plan_apply_all(alloc),
+            Request::Plan { tx } => Ok(self.plan_reading(alloc, self.job_plan(alloc, tx)?)),
+            Request::PlanFile { file, tx } => {
+                Ok(self.plan_reading(alloc, self.planned_file(alloc, file, tx)?))
+            }
+            Request::Store => Ok(self.plan_reading(alloc, self.store()?)),
         }
     }
 
     /// What the machine makes of a request: what it answers, and what the request does to the core once it is committed. Nothing
-    /// changes. No call of the disk has failed since the last opening, and each key of a `Patch` begins with `settings`.
+    /// changes. No call of the disk has failed since the last opening, and each key of a `Patch` or a `Set` begins with
+    /// `settings`.
     ///
     /// The only error is out of memory. It takes a logarithmic step or two for each value, key and name that is answered or changed.
     pub fn plan(&self, alloc: Global, request: &Request) -> Result<Planned, AllocError>

@@ -10,16 +10,24 @@ use Rattle.json_trees.specs.Nested.{NestsAs}
 use Rattle.json_trees.specs.Scalar.{scalar_data}
 use Rattle.json_trees.specs.Tree.{pending_data}
 use Rattle.json_trees.specs.Written.{data_tokens}
-use Rattle.held_text.specs.HeldText.{list_data, keys_data, owed_data}
+use Rattle.held_text.specs.HeldText.{list_data, keys_data, owed_data, held_data}
+use Rattle.outside.specs.Names.{Names}
+use Rattle.outside.specs.PathText.{joined}
 use Rattle.settings_tree.specs.declared.entry.Owed.{Owed}
+use Rattle.settings_tree.specs.declared.held.Held.{Held}
+use Rattle.template_eval.specs.declared.render_error.RenderError.{RenderError}
+use Rattle.version_links.specs.Versions.{version_text}
+use Rattle.version_links.specs.declared.version.Version.{Version}
 use Rattle.settings_machine.specs.World.{Key}
 use Rattle.settings_machine.specs.Requests.{Body, TreeOf, PendingTreeOf, TextsByName, ListsByKey, KeyList, NameList, JobIs}
+use Rattle.settings_machine.specs.Requests.{Planned, PlanIs, FileIs, StoreIs}
 use Rattle.settings_machine.specs.declared.cause.Cause.{Cause}
 use Rattle.settings_machine.specs.declared.cause.Cause.TheVariants as cause
 use Rattle.settings_machine.specs.declared.job.JobStatus.{JobStatus}
 use Rattle.settings_machine.specs.declared.job.JobStatus.TheVariants as status
 use Rattle.settings_machine.specs.declared.refusal.Refusal.{Refusal}
 use Rattle.settings_machine.specs.declared.refusal.Refusal.TheVariants as refusal
+use Rattle.machine_answers.specs.RenderWords.{render_word, render_path}
 
 -- ---- lists, and values by name
 
@@ -64,6 +72,34 @@ job_entries status.Idle owed = standing (codes "idle") owed
 job_entries (status.Failed c) owed = failure c owed
 job_entries status.Running owed = standing (codes "running") owed
 
+-- ---- plans and stores
+
+-- A command is the list of its service and its words.
+abbrev pub command_data : List ℕ × (ℕ × List (List ℕ)) → Data
+command_data command = names_data (command.0 ∷ command.1.1)
+
+-- A file is the list of its name and its path, which begins with a slash.
+abbrev pub file_data : List ℕ × Names → Data
+file_data file = names_data (file.0 ∷ (47 ∷ joined file.1) ∷ [])
+
+-- A file whose template refuses is the list of its name, the word for why, and the path in the template.
+abbrev pub refused_data : List ℕ × RenderError → Data
+refused_data file = names_data (file.0 ∷ render_word file.1 ∷ render_path file.1 ∷ [])
+
+-- What a job would do.
+abbrev pub plan_entries : Planned → List (List ℕ × Data)
+plan_entries plan =
+    (codes "changed", keys_data plan.changed)
+    ∷ (codes "commands", list_data (map command_data plan.commands))
+    ∷ (codes "files", list_data (map file_data plan.files))
+    ∷ (codes "owed", owed_data plan.owed)
+    ∷ (codes "refused", list_data (map refused_data plan.refused))
+    ∷ []
+
+-- The held text, and the version of the store.
+abbrev pub store_entries : Version → Held → List (List ℕ × Data)
+store_entries version held = (codes "held", held_data held) ∷ (codes "version", string (version_text version)) ∷ []
+
 -- ---- refusals
 
 -- What kind of refusal it is, and where.
@@ -73,6 +109,8 @@ refusal_entries (refusal.BadType key wanted) = (codes "error", string (codes "ty
 refusal_entries (refusal.NoKey key) = (codes "error", string (codes "key")) ∷ (codes "key", string (printed key)) ∷ []
 refusal_entries (refusal.NoName name) = (codes "error", string (codes "name")) ∷ (codes "name", string name) ∷ []
 refusal_entries (refusal.NoPending tx) = (codes "error", string (codes "no-pending")) ∷ (codes "tx", string tx) ∷ []
+refusal_entries (refusal.NotRendered file error) = (codes "error", string (codes "render")) ∷ (codes "file", string file)
+    ∷ (codes "kind", string (render_word error)) ∷ (codes "path", string (render_path error)) ∷ []
 
 -- The text that reports it to a client.
 abbrev pub refusal_text : Refusal → List ℕ
@@ -80,7 +118,7 @@ refusal_text r = compact_text (object (members_of (refusal_entries r)))
 
 -- ---- bodies
 
--- The text is that of the body: a tree has exactly these leaves, and any other body is one compact text.
+-- The text is that of the body: a tree has exactly these leaves, a file is its bytes, and any other body is one compact text.
 abbrev pub IsTextOf : Body → List ℕ → Type 0
 IsTextOf (TreeOf skip pairs) text = NestsAs scalar_data skip pairs text
 IsTextOf (PendingTreeOf skip pairs) text = NestsAs pending_data skip pairs text
@@ -89,6 +127,9 @@ IsTextOf (ListsByKey lists) text = text ≡ compact_text (object (members_of (ma
 IsTextOf (KeyList keys) text = text ≡ compact_text (keys_data keys)
 IsTextOf (NameList names) text = text ≡ compact_text (names_data names)
 IsTextOf (JobIs standing owed) text = text ≡ compact_text (object (members_of (job_entries standing owed)))
+IsTextOf (PlanIs plan) text = text ≡ compact_text (object (members_of (plan_entries plan)))
+IsTextOf (FileIs bytes) text = text ≡ bytes
+IsTextOf (StoreIs version held) text = text ≡ compact_text (object (members_of (store_entries version held)))
 
 -- ---- for private clauses
 

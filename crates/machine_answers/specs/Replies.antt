@@ -4,6 +4,7 @@ use Rattle.std.specs.Map.{keys_of}
 use Rattle.json_trees.specs.Apart.{AreApart}
 use Rattle.json_trees.specs.Nested.{ShareFirst}
 use Rattle.settings_machine.specs.World.{Key}
+use Rattle.settings_machine.specs.PlanSeen.{planned_of}
 use Rattle.settings_machine.specs.Requests as machine
 use Rattle.machine_answers.specs.declared.answer.Answer.{Answer}
 use Rattle.machine_answers.specs.declared.answer.Answer.TheVariants as answer
@@ -19,10 +20,13 @@ body_of (body.Lists lists) = machine.ListsByKey (map (λ e. (e.0, e.1.items)) li
 body_of (body.Keys keys) = machine.KeyList keys
 body_of (body.Names names) = machine.NameList names.items
 body_of (body.Job status owed) = machine.JobIs status owed
+body_of (body.Plan plan) = machine.PlanIs (planned_of plan)
+body_of (body.Store version held) = machine.StoreIs version held
 
 -- The reply that a value is.
 abbrev pub reply_of : Answer → machine.Reply
 reply_of (answer.Said said) = machine.Said (body_of said)
+reply_of (answer.File bytes) = machine.Said (machine.FileIs bytes)
 reply_of answer.Empty = machine.Empty
 reply_of (answer.Refused refusal) = machine.Refused refusal
 

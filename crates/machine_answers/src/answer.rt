@@ -6,14 +6,17 @@ ghost use Rattle.machine_answers.specs.Replies.{body_of, MayNest};
 use crate::job_body::job_text;
 use crate::lists::{keys_text, names_text};
 use crate::objects::{lists_text, texts_text};
+use crate::plan_body::plan_text;
+use crate::store_body::store_text;
 use json_trees::{nest, nest_pending};
-use key_names::{Key, Text};
-use settings_machine::{JobStatus, Refusal};
-use settings_tree::{KeyList, Owed, Pending, Scalar, TxName};
+use key_names::{Bytes, Key, Text};
+use settings_machine::{JobStatus, Plan, Refusal};
+use settings_tree::{Held, KeyList, Owed, Pending, Scalar, TxName};
 use std::alloc::{AllocError, Global};
+use version_links::Version;
 
 /// What an answer tells.
-#[derive(Debug, Drop)]
+#[derive(Drop)]
 pub enum Body {
     /// The tree of these values, without so many first segments of their keys.
     Values {
@@ -39,13 +42,24 @@ pub enum Body {
         /// What is owed.
         owed: Owed,
     },
+    /// A plan.
+    Plan(Plan),
+    /// The version of the store, and what it holds.
+    Store {
+        /// The version.
+        version: Version,
+        /// What is held.
+        held: Held,
+    },
 }
 
 /// What the machine answers to a request, where memory and the disk serve.
-#[derive(Debug, Drop)]
+#[derive(Drop)]
 pub enum Answer {
     /// It tells this.
     Said(Body),
+    /// It is a file with these bytes.
+    File(Bytes),
     /// It was done; there is nothing to tell.
     Empty,
     /// It was refused, and nothing changes.
@@ -68,6 +82,8 @@ impl Body {
             Body::Keys(keys) => keys_text(alloc, keys),
             Body::Names(names) => names_text(alloc, names.as_slice()),
             Body::Job { status, owed } => job_text(alloc, status, owed),
+            Body::Plan(plan) => plan_text(alloc, plan),
+            Body::Store { version, held } => store_text(alloc, *version, held),
         }
     }
 }

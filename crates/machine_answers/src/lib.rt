@@ -5,8 +5,12 @@ mod answer;
 mod job_body;
 mod lists;
 mod objects;
+mod plan_body;
 mod refusal_body;
+mod render_words;
+mod store_body;
 
 pub use answer::{Answer, Body};
 pub use job_body::job_text;
 pub use refusal_body::refusal_text;
+pub use render_words::{render_path, render_word};

@@ -5,6 +5,7 @@ ghost use Rattle.serde_json.specs.Data.{object};
 ghost use Rattle.held_text.specs.HeldRules.{Wrote, WroteMembers};
 ghost use Rattle.machine_answers.specs.Bodies.{members_of, refusal_entries, refusal_text};
 
+use crate::render_words::{render_path, render_word};
 use json::Writer;
 use json_trees::text_of;
 use key_names::Text;
@@ -64,6 +65,17 @@ fn write_members(writer: &mut Writer, refusal: &Refusal) -> Result<(), AllocErro
             write_no_pending(writer, tx)?;
             writer.end_object()
         }
+        Refusal::NotRendered { file, error } => {
+            write_pair(writer, "error", "render", "file", file.as_str())?;
+            write_pair(
+                writer,
+                "kind",
+                render_word(error),
+                "path",
+                render_path(error),
+            )?;
+            writer.end_object()
+        }
     }
 }
 
@@ -75,7 +87,8 @@ fn write_refusal(writer: &mut Writer, refusal: &Refusal) -> Result<(), AllocErro
 }
 
 /// The text that reports a refusal to a client: an object of compact JSON (RFC 8259) whose names rise. Its `error` is `type`,
-/// `key`, `name` or `no-pending`, and the other members tell where, and for a type what is wanted. The only error is out of memory.
+/// `key`, `name`, `no-pending` or `render`, and the other members tell where, for a type what is wanted, and for a template why it
+/// refuses. The only error is out of memory.
 pub fn refusal_text(alloc: Global, refusal: &Refusal) -> Result<Text, AllocError>
     ensures { IfOk result (λ text. text ≡ refusal_text refusal.now) }
 {
