@@ -1,6 +1,7 @@
 -- The values that queries give, from what the code saw of them.
 use Rattle.std.proofs.Common.{◌≡◌, ℕ, ◌<◌, ◌≤◌, false, List, [], ◌∷◌, length, map, get_or, Bor, inl}
 use Rattle.std.proofs.Common.{inr, refl, ap, ◌∙◌, arith, Option, Some, None, IfSome, Result, Ok, Err, String, IfOk}
+use Rattle.std.specs.Prelude.{IfNone}
 use Rattle.std.specs.Global.{Global}
 use Rattle.std.specs.List.{list_all}
 use Rattle.std.proofs.lemmas.List.Folds.{list_all-map, list_all_at}
@@ -18,6 +19,11 @@ if_all (Err e) P Q R S more p q s = tt
 pub if_some : {T : Type 0} (o : Option T) (P Q : T → Type 0) → ((v : T) → P v → Q v) → IfSome o P → IfSome o Q
 if_some (Some v) P Q more p = more v p
 if_some None P Q more p = tt
+
+-- what follows where there is no value
+pub if_none : {T : Type 0} (o : Option T) (P Q : Type 0) → (P → Q) → IfNone o P → IfNone o Q
+if_none (Some v) P Q more p = tt
+if_none None P Q more p = more p
 
 -- two texts or more are several pairs
 pub two_texts : (pairs : List (String Global × String Global)) → 2 ≤ length pairs → HasSeveral (texts pairs)

@@ -4,6 +4,8 @@ pub mod Shown
 pub mod Cut
 pub mod Faults
 pub mod Given
+pub mod Kept
+pub mod Parted
 pub mod Planned
 pub mod Bodies
 pub mod Firsts
@@ -18,3 +20,4 @@ pub mod Stays
 pub mod Begins
 pub mod Waiting
 pub mod Said
+pub mod Sent

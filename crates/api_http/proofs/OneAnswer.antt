@@ -1,5 +1,5 @@
 -- The bytes have one answer at most, but for a hopeless head.
-use Rattle.std.proofs.Common.{◌≡◌, ◌+◌, ℕ, List, take, length, Err, inl, inr, refl, sym, ap, ◌∙◌, subst, arith}
+use Rattle.std.proofs.Common.{◌≡◌, ◌+◌, ℕ, IsTrue, List, take, length, Err, inl, inr, refl, sym, ap, ◌∙◌, subst, arith}
 use Rattle.httparse.specs.Grammar.{RequestHead, print_request}
 use Rattle.httparse.proofs.GrammarLemmas.{request_unique}
 use Rattle.json_trees.specs.Tree.{pending_leaf, flattened}
@@ -9,13 +9,13 @@ use Rattle.api_http.specs.declared.reading.Reading.{Reading}
 use Rattle.api_http.specs.declared.reading.Reading.TheVariants.{Whole, NotYet, Refused}
 use Rattle.api_http.specs.declared.refusal.Refusal.{Refusal}
 use Rattle.api_http.specs.declared.route.Route.{Route}
-use Rattle.api_http.specs.declared.route.Route.TheVariants.{Patch}
 use Rattle.api_http.specs.Heads.{IsWholeHead, IsHopeless}
 use Rattle.api_http.specs.Fields.{body_length}
 use Rattle.api_http.specs.Query.{Pair}
+use Rattle.api_http.specs.Routes.{has_tree}
 use Rattle.settings_machine.specs.Asked.{request_of}
 use Rattle.settings_machine.specs.Requests as machine
-use Rattle.api_http.specs.Spelled.{Spells, at_patch}
+use Rattle.api_http.specs.Spelled.{Spells, at_patch, at_set}
 use Rattle.api_http.specs.Requests.{Told, told, pairs_of, route_told, Shows, bad_length}
 use Rattle.api_http.specs.Requests.{no_path, no_method, bad_query, transfer_coded, long_body, place, ShowsFirst}
 use Rattle.api_http.specs.Requests.{Asks, Refuses, too_long, many_lines, in_head, in_body, MayRefuse, Waits, for_head, for_body, IfWhole, IfRefused, IsWhole}
@@ -31,13 +31,12 @@ pub record SameHead (h k : RequestHead) (rest more : List ℕ) : Type 0 where
 pub same_head : (bytes : List ℕ) (h k : RequestHead) (rest more : List ℕ) → IsWholeHead bytes h rest → IsWholeHead bytes k more → SameHead h k rest more
 same_head bytes h k rest more a b = let same = request_unique bytes h k rest more a.reads b.reads in record { head = same.0; behind = same.1 }
 
--- a body that is no tree spells no patch
-pub no_tree_asked : (pairs : List Pair) (body : List ℕ) (e : TreeError) (r : Route) (q : machine.Request) → r ≡ Patch
+-- a body that is to be a tree and is none spells nothing
+pub no_tree_asked : (pairs : List Pair) (body : List ℕ) (e : TreeError) (r : Route) (q : machine.Request) → IsTrue (has_tree r)
     → flattened pending_leaf settings_key body ≡ Err e → Spells pairs body r q → ⊥
-no_tree_asked pairs body e r q is wrong spells = by q (subst (λ x. Spells pairs body x q) is spells)
-  where
-    by : (q : machine.Request) → Spells pairs body Patch q → ⊥
-    by _ (at_patch tx changes _ flat) = let never = sym flat ∙ wrong in cc
+no_tree_asked pairs body e _ _ is wrong (at_patch tx changes _ flat) = let never = sym flat ∙ wrong in cc
+no_tree_asked pairs body e _ _ is wrong (at_set g changes _ flat) = let never = sym flat ∙ wrong in cc
+no_tree_asked pairs body e _ _ is wrong _ = cc
 
 -- ---- refusals of one head
 
@@ -80,14 +79,14 @@ module _ (bytes : List ℕ) where
   asked_not_refused q n _ a (in_head h rest r whole first) =
       let same = same_head bytes h a.head rest a.rest whole a.clean.whole in
       a.clean.clean r (subst (λ k. Shows (told k) r) same.head first.shows)
-  asked_not_refused q n _ a (in_body h rest e clean body route_is wrong) =
+  asked_not_refused q n _ a (in_body h rest r e clean body route_is treed wrong) =
       let same = same_head bytes a.head h a.rest rest a.clean.whole clean.whole in
-      let patch : a.route ≡ Patch = let e = sym a.route_is ∙ ap (λ k. route_told (told k)) same.head ∙ route_is in cc in
+      let route_same : a.route ≡ r = let e = sym a.route_is ∙ ap (λ k. route_told (told k)) same.head ∙ route_is in cc in
       let first : Spells (pairs_of (told h)) (take (body_length (told h).fields) a.rest) a.route q =
       subst (λ k. Spells (pairs_of (told k)) (take (body_length (told k).fields) a.rest) a.route q) same.head a.spells in
       let second : Spells (pairs_of (told h)) (take (body_length (told h).fields) rest) a.route q =
       subst (λ l. Spells (pairs_of (told h)) (take (body_length (told h).fields) l) a.route q) same.behind first in
-      no_tree_asked _ _ e a.route q patch wrong second
+      no_tree_asked _ _ e a.route q (ap has_tree route_same ∙ treed) wrong second
 
   -- and its head is not hopeless
   pub asked_not_hopeless : (q : machine.Request) (n : ℕ) → Asks bytes q n → IsHopeless bytes → ⊥
@@ -109,8 +108,8 @@ module _ (bytes : List ℕ) where
   refused_not_waiting _ (in_head h rest r whole first) (for_head none _ _) = none h rest whole
   refused_not_waiting _ (in_head h rest r whole first) (for_body k more clean _) =
       clean.clean r (subst (λ x. Shows (told x) r) (same_head bytes h k rest more whole clean.whole).head first.shows)
-  refused_not_waiting _ (in_body h rest e clean body _ _) (for_head none _ _) = none h rest clean.whole
-  refused_not_waiting _ (in_body h rest e clean body _ _) (for_body k more clean' short) =
+  refused_not_waiting _ (in_body h rest s e clean body _ _ _) (for_head none _ _) = none h rest clean.whole
+  refused_not_waiting _ (in_body h rest s e clean body _ _ _) (for_body k more clean' short) =
       let same = same_head bytes h k rest more clean.whole clean'.whole in
       omega (arith, short, body, ap (λ x. body_length (told x).fields) same.head, ap length same.behind)
 
@@ -119,22 +118,22 @@ module _ (bytes : List ℕ) where
   one_refusal _ _ (too_long none few long) (too_long _ _ _) = refl
   one_refusal _ _ (too_long none few long) (many_lines _ many) = absurd (omega (arith, few, many))
   one_refusal _ _ (too_long none few long) (in_head h rest r whole _) = absurd (none h rest whole)
-  one_refusal _ _ (too_long none few long) (in_body h rest e clean _ _ _) = absurd (none h rest clean.whole)
+  one_refusal _ _ (too_long none few long) (in_body h rest x e clean _ _ _ _) = absurd (none h rest clean.whole)
   one_refusal _ _ (many_lines none many) (too_long _ few _) = absurd (omega (arith, few, many))
   one_refusal _ _ (many_lines none many) (many_lines _ _) = refl
   one_refusal _ _ (many_lines none many) (in_head h rest r whole _) = absurd (none h rest whole)
-  one_refusal _ _ (many_lines none many) (in_body h rest e clean _ _ _) = absurd (none h rest clean.whole)
+  one_refusal _ _ (many_lines none many) (in_body h rest x e clean _ _ _ _) = absurd (none h rest clean.whole)
   one_refusal _ _ (in_head h rest r whole first) (too_long none _ _) = absurd (none h rest whole)
   one_refusal _ _ (in_head h rest r whole first) (many_lines none _) = absurd (none h rest whole)
   one_refusal _ _ (in_head h rest r whole first) (in_head k more s whole' first') =
       one_first (told k) r s (subst (λ x. ShowsFirst (told x) r) (same_head bytes h k rest more whole whole').head first) first'
-  one_refusal _ _ (in_head h rest r whole first) (in_body k more e clean _ _ _) =
+  one_refusal _ _ (in_head h rest r whole first) (in_body k more x e clean _ _ _ _) =
       absurd (clean.clean r (subst (λ x. Shows (told x) r) (same_head bytes h k rest more whole clean.whole).head first.shows))
-  one_refusal _ _ (in_body h rest e clean _ _ _) (too_long none _ _) = absurd (none h rest clean.whole)
-  one_refusal _ _ (in_body h rest e clean _ _ _) (many_lines none _) = absurd (none h rest clean.whole)
-  one_refusal _ _ (in_body h rest e clean _ _ _) (in_head k more s whole first) =
+  one_refusal _ _ (in_body h rest x e clean _ _ _ _) (too_long none _ _) = absurd (none h rest clean.whole)
+  one_refusal _ _ (in_body h rest x e clean _ _ _ _) (many_lines none _) = absurd (none h rest clean.whole)
+  one_refusal _ _ (in_body h rest x e clean _ _ _ _) (in_head k more s whole first) =
       absurd (clean.clean s (subst (λ x. Shows (told x) s) (same_head bytes k h more rest whole clean.whole).head first.shows))
-  one_refusal _ _ (in_body h rest e clean _ _ _) (in_body _ _ _ _ _ _ _) = refl
+  one_refusal _ _ (in_body h rest x e clean _ _ _ _) (in_body _ _ _ _ _ _ _ _ _) = refl
 
   -- ---- a reading with its evidence is the one answer
 

@@ -1,18 +1,22 @@
 -- A query and a body spell one request at most.
-use Rattle.std.proofs.Common.{◌≡◌, ℕ, List, [], ◌∷◌, length, codes, Option, Some, Result, Ok, refl, sym, ap, ◌∙◌, subst, arith}
+use Rattle.std.proofs.Common.{◌≡◌, ℕ, List, [], ◌∷◌, length, codes, true, false, Option, Some, Result, Ok, refl, sym, ap, ◌∙◌, subst, arith}
 use Rattle.key_names.specs.declared.key_error.KeyError.{KeyError}
 use Rattle.key_names.specs.Spelling.{SpellsKey}
 use Rattle.key_names.specs.Listing.{Lists}
 use Rattle.key_names.proofs.OneReading.{one_key}
 use Rattle.key_names.proofs.OneListing.{listed_read}
 use Rattle.api_http.specs.declared.route.Route.{Route}
-use Rattle.api_http.specs.Query.{Pair, ListsNames}
+use Rattle.api_http.specs.Query.{Pair, others, named as with_name, ListsNames}
 use Rattle.settings_machine.specs.World.{Key}
 use Rattle.settings_machine.specs.Requests as machine
-use Rattle.api_http.specs.Spelled.{NamesTx, named, unnamed, GivesNames, by_names, without_names}
+use Rattle.settings_machine.specs.Asked.{guarded_by}
+use Rattle.settings_machine.specs.declared.request.Guard.{Guard}
+use Rattle.api_http.specs.Spelled.{NamesTx, named, unnamed, MayNameTx, by_tx, without_tx, NamesGuard, checked, unchecked}
+use Rattle.api_http.specs.Spelled.{MayGiveAll, by_all, without_all, GivesNames, by_names, without_names}
 use Rattle.api_http.specs.Spelled.{GivesKeys, GivesKeysOrPrefix, by_keys, by_prefix, by_neither, Spells, at_root}
 use Rattle.api_http.specs.Spelled.{at_os, at_settings, at_patch, at_services, at_files, at_affected}
-use Rattle.api_http.specs.Spelled.{at_pending, at_drop, at_list, at_commit, at_apply, at_commit_and_apply, at_job}
+use Rattle.api_http.specs.Spelled.{at_pending, at_drop, at_list, at_commit, at_apply, at_apply_all, at_commit_and_apply, at_job}
+use Rattle.api_http.specs.Spelled.{at_set, at_plan, at_plan_file, at_store}
 
 first_name : List Pair → List ℕ
 first_name [] = []
@@ -39,6 +43,24 @@ one_tx pairs tx tx' (named a _) (named b _) = one_value pairs _ _ tx tx' a b
 one_tx pairs tx tx' (named a _) (unnamed b _) = absurd (not_both pairs _ a b)
 one_tx pairs tx tx' (unnamed a _) (named b _) = absurd (not_both pairs _ b a)
 one_tx pairs tx tx' (unnamed _ a) (unnamed _ b) = a ∙ sym b
+
+-- a query names one transaction or none
+one_may_tx : (pairs : List Pair) (tx tx' : Option (List ℕ)) → MayNameTx pairs tx → MayNameTx pairs tx' → tx ≡ tx'
+one_may_tx pairs _ _ (by_tx tx a _) (by_tx tx' b _) = ap Some (one_value pairs _ _ tx tx' a b)
+one_may_tx pairs _ _ (by_tx tx a _) (without_tx b) = absurd (not_both pairs _ a b)
+one_may_tx pairs _ _ (without_tx a) (by_tx tx' b _) = absurd (not_both pairs _ b a)
+one_may_tx pairs _ _ (without_tx a) (without_tx b) = refl
+
+-- a query names one check or none
+one_guard : (pairs : List Pair) (g g' : Guard) → NamesGuard pairs g → NamesGuard pairs g' → g ≡ g'
+one_guard pairs _ _ (checked a) (checked b) = refl
+one_guard pairs _ _ (checked a) (unchecked b) = absurd (not_both pairs _ a b)
+one_guard pairs _ _ (unchecked a) (checked b) = absurd (not_both pairs _ b a)
+one_guard pairs _ _ (unchecked a) (unchecked b) = refl
+
+-- a query doesn't both mean all and not
+never_both : (pairs : List Pair) → MayGiveAll pairs true → MayGiveAll pairs false → ⊥
+never_both pairs (by_all a) (without_all b) = not_both pairs _ a b
 
 one_list : (text : List ℕ) (keys keys' : List Key) → Lists text keys → Lists text keys' → keys ≡ keys'
 one_list text keys keys' a b = let read : Result (List Key) KeyError = Ok keys in listed_read {V = List Key} (λ k. k) text read a tt keys' b
@@ -88,7 +110,26 @@ one_request pairs body _ _ _ (at_affected keys a) (at_affected keys' b) = ap mac
 one_request pairs body _ _ _ (at_pending tx a) (at_pending tx' b) = ap machine.Pends (one_tx pairs tx tx' a b)
 one_request pairs body _ _ _ (at_drop tx a) (at_drop tx' b) = ap machine.DropTx (one_tx pairs tx tx' a b)
 one_request pairs body _ _ _ (at_list _) (at_list _) = refl
-one_request pairs body _ _ _ (at_commit tx a) (at_commit tx' b) = ap machine.Commit (one_tx pairs tx tx' a b)
+one_request pairs body _ _ _ (at_commit tx g a w) (at_commit tx' g' b v) =
+    let names = one_tx (others (codes "check") pairs) tx tx' a b in
+    let guards = one_guard (with_name (codes "check") pairs) g g' w v in
+    λ i. guarded_by (guards i) (machine.Commit (names i))
 one_request pairs body _ _ _ (at_apply _) (at_apply _) = refl
-one_request pairs body _ _ _ (at_commit_and_apply tx a) (at_commit_and_apply tx' b) = ap machine.CommitAndApply (one_tx pairs tx tx' a b)
+one_request pairs body _ _ _ (at_apply a) (at_apply_all b) = absurd (never_both pairs b a)
+one_request pairs body _ _ _ (at_apply_all a) (at_apply b) = absurd (never_both pairs a b)
+one_request pairs body _ _ _ (at_apply_all _) (at_apply_all _) = refl
+one_request pairs body _ _ _ (at_commit_and_apply tx g a w) (at_commit_and_apply tx' g' b v) =
+    let names = one_tx (others (codes "check") pairs) tx tx' a b in
+    let guards = one_guard (with_name (codes "check") pairs) g g' w v in
+    λ i. guarded_by (guards i) (machine.CommitAndApply (names i))
 one_request pairs body _ _ _ (at_job _) (at_job _) = refl
+one_request pairs body _ _ _ (at_set g changes w flat) (at_set g' changes' v flat') =
+    let guards = one_guard pairs g g' w v in
+    let body_is : changes ≡ changes' = let e = sym flat ∙ flat' in cc in
+    λ i. guarded_by (guards i) (machine.Set (body_is i))
+one_request pairs body _ _ _ (at_plan tx a) (at_plan tx' b) = ap machine.Plan (one_may_tx pairs tx tx' a b)
+one_request pairs body _ _ _ (at_plan_file file tx f a) (at_plan_file file' tx' f' b) =
+    let files = one_value (with_name (codes "name") pairs) _ _ file file' f.given f'.given in
+    let names = one_may_tx (others (codes "name") pairs) tx tx' a b in
+    λ i. machine.PlanFile (files i) (names i)
+one_request pairs body _ _ _ (at_store _) (at_store _) = refl

@@ -1,5 +1,5 @@
 -- What whole heads with what follows them read as.
-use Rattle.std.proofs.Common.{◌≡◌, ◌≤◌, ◌+◌, ℕ, List, length, take, drop, map, Some, inl, inr, refl, sym, subst, ap, ◌∙◌, arith}
+use Rattle.std.proofs.Common.{◌≡◌, ◌≤◌, ◌+◌, ℕ, List, length, take, drop, map, IsTrue, inl, inr, refl, sym, subst, ap, ◌∙◌, arith}
 use Rattle.httparse.specs.Grammar.{RequestHead, print_request, ReadsRequest}
 use Rattle.httparse.specs.declared.spans.HeaderSpan.{HeaderSpan}
 use Rattle.httparse.specs.declared.spans.RequestSpans.{RequestSpans}
@@ -10,11 +10,11 @@ use Rattle.api_http.specs.declared.reading.Reading.{Reading}
 use Rattle.api_http.specs.declared.reading.Reading.TheVariants.{Whole, NotYet, Refused}
 use Rattle.api_http.specs.declared.refusal.Refusal.TheVariants.{Body}
 use Rattle.api_http.specs.declared.route.Route.{Route}
-use Rattle.api_http.specs.declared.route.Route.TheVariants as route
 use Rattle.api_http.specs.declared.verdict.Verdict.{Verdict}
 use Rattle.api_http.specs.declared.verdict.Verdict.TheVariants.{Planned}
 use Rattle.api_http.specs.Heads.{IsWholeHead, HoldsNoHead, shown}
 use Rattle.api_http.specs.Query.{Pair}
+use Rattle.api_http.specs.Routes.{has_tree}
 use Rattle.settings_machine.specs.declared.request.Request.{Request}
 use Rattle.settings_machine.specs.Asked.{request_of}
 use Rattle.api_http.specs.Spelled.{Spells}
@@ -41,7 +41,7 @@ asked t plan size n k rest body request (clean, size_is, planned) there body_is 
 
 -- the body is there and is no tree
 pub body_refused : (t : Told) (plan : Plan) (size n : ℕ) (rest body : List ℕ) → Tells t (Planned plan size) → size ≤ length rest → body ≡ take size rest
-    → ((r : Route) (pairs : List Pair) → IsPlan r pairs plan → (r ≡ route.Patch) × IsNoTree body)
+    → ((r : Route) (pairs : List Pair) → IsPlan r pairs plan → IsTrue (has_tree r) × IsNoTree body)
     → ReadsAs t rest n (Refused Body)
 body_refused t plan size n rest body (clean, size_is, planned) there body_is refuses =
     let wrong = refuses planned.route (pairs_of t) planned.plan_is in
@@ -50,7 +50,9 @@ body_refused t plan size n rest body (clean, size_is, planned) there body_is ref
       record {
         clean = clean;
         body = omega (arith, there, size_is);
-        route_is = planned.route_is ∙ ap Some wrong.0;
+        route = planned.route;
+        route_is = planned.route_is;
+        treed = wrong.0;
         no_tree = subst IsNoTree (body_is ∙ ap (λ m. take m rest) size_is) wrong.1;
       },
     )
@@ -77,7 +79,8 @@ module _ (bytes : List ℕ) (h : RequestHead) (rest : List ℕ) (whole : IsWhole
   refused_said (Whole request n) said = tt
   refused_said NotYet said = tt
   refused_said (Refused r) (inl first) = inl (in_head h rest r whole first)
-  refused_said (Refused r) (inr (is, b)) = rw is (inl (in_body h rest b.no_tree.0 (record { whole = whole; clean = b.clean }) b.body b.route_is b.no_tree.1))
+  refused_said (Refused r) (inr (is, b)) = rw is (inl (in_body h rest b.route b.no_tree.0 (record { whole = whole; clean = b.clean }) b.body b.route_is b.treed
+      b.no_tree.1))
 
   -- what is waited for is missing in the bytes
   pub waits_said : (reading : Reading) → ReadsAs (told h) rest (length (print_request h)) reading → reading ≡ NotYet → Waits bytes

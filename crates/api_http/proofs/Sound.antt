@@ -1,16 +1,22 @@
 -- A query that spells a request has no fault.
-use Rattle.std.proofs.Common.{◌≡◌, ◌<◌, ◌≤◌, ℕ, zero, suc, true, List, [], ◌∷◌, ◌++◌, length, codes, Contains, Option, refl, sym, ap, ◌∙◌, subst, arith}
+use Rattle.std.proofs.Common.{◌≡◌, ◌<◌, ◌≤◌, ℕ, zero, suc, Bool, true, false, List, [], ◌∷◌, ◌++◌, length, codes, Contains, Option}
+use Rattle.std.proofs.Common.{refl, sym, ap, ◌∙◌, subst, arith}
 use Rattle.api_http.specs.declared.route.Route.{Route}
 use Rattle.api_http.specs.declared.plan.Plan.{Plan}
-use Rattle.api_http.specs.declared.plan.Plan.TheVariants.{Ready, Patch}
+use Rattle.api_http.specs.declared.plan.Plan.TheVariants.{Ready, Patch, Set}
 use Rattle.api_http.specs.Plans.{IsPlan}
-use Rattle.api_http.specs.Query.{Pair, is_among, IsInGrammar, a_transaction, some_keys, a_prefix, some_names}
+use Rattle.api_http.specs.Query.{Pair, is_among, named as with_name, others}
+use Rattle.api_http.specs.Query.{IsInGrammar, a_transaction, some_keys, a_prefix, some_names, a_name, a_check, all_alone}
 use Rattle.api_http.specs.Query.{QueryFault, unknown, repeated, outside, both, missing, HasQueryFault}
 use Rattle.settings_machine.specs.Requests as machine
-use Rattle.api_http.specs.Spelled.{NamesTx, named, unnamed, GivesNames, by_names, without_names}
+use Rattle.settings_machine.specs.declared.request.Guard.{Guard}
+use Rattle.api_http.specs.Spelled.{NamesTx, named, unnamed, MayNameTx, by_tx, without_tx, NamesGuard, checked, unchecked}
+use Rattle.api_http.specs.Spelled.{MayGiveAll, by_all, without_all, GivesName, GivesNames, by_names, without_names}
 use Rattle.api_http.specs.Spelled.{GivesKeys, GivesKeysOrPrefix, by_keys, by_prefix, by_neither, Spells, at_root}
 use Rattle.api_http.specs.Spelled.{at_os, at_settings, at_patch, at_services, at_files, at_affected}
-use Rattle.api_http.specs.Spelled.{at_pending, at_drop, at_list, at_commit, at_apply, at_commit_and_apply, at_job}
+use Rattle.api_http.specs.Spelled.{at_pending, at_drop, at_list, at_commit, at_apply, at_apply_all, at_commit_and_apply, at_job}
+use Rattle.api_http.specs.Spelled.{at_set, at_plan, at_plan_file, at_store}
+use Rattle.api_http.proofs.Parted.{parts_sound, none_wanted, one_wanted}
 
 -- ---- a query without pairs, and one of a single pair
 
@@ -79,6 +85,38 @@ pub tx_sound : (pairs : List Pair) (tx : List ℕ) → NamesTx pairs tx → ¬ Q
 tx_sound pairs tx (named is valid) = one_sound _ [] pairs (codes "tx") tx is refl (a_transaction refl valid) (nothing_needed (codes "tx"))
 tx_sound pairs tx (unnamed is _) = none_sound _ pairs is
 
+-- nor has one that names a transaction or none
+pub may_tx_sound : (pairs : List Pair) (tx : Option (List ℕ)) → MayNameTx pairs tx → ¬ QueryFault (codes "tx" ∷ []) [] pairs
+may_tx_sound pairs _ (by_tx tx is valid) = one_sound _ [] pairs (codes "tx") tx is refl (a_transaction refl valid) (nothing_needed (codes "tx"))
+may_tx_sound pairs _ (without_tx is) = none_sound _ pairs is
+
+-- a query that names a check or none has no fault
+pub guard_sound : (pairs : List Pair) (g : Guard) → NamesGuard pairs g → ¬ QueryFault (codes "check" ∷ []) [] pairs
+guard_sound pairs _ (checked is) = one_sound _ [] pairs (codes "check") (codes "render") is refl (a_check refl refl) (nothing_needed (codes "check"))
+guard_sound pairs _ (unchecked is) = none_sound _ pairs is
+
+-- a query that means all or not has no fault
+pub all_sound : (pairs : List Pair) (b : Bool) → MayGiveAll pairs b → ¬ QueryFault (codes "all" ∷ []) [] pairs
+all_sound pairs _ (by_all is) = one_sound _ [] pairs (codes "all") [] is refl (all_alone refl refl) (nothing_needed (codes "all"))
+all_sound pairs _ (without_all is) = none_sound _ pairs is
+
+-- a query that gives a name has no fault
+pub name_sound : (pairs : List Pair) (name : List ℕ) → GivesName pairs name → ¬ QueryFault (codes "name" ∷ []) (codes "name" ∷ []) pairs
+name_sound pairs name gives = one_sound _ (codes "name" ∷ []) pairs (codes "name") name gives.given refl (a_name refl gives.valid) (one_needed (codes "name"))
+
+-- nor has one that names a check and a transaction, or neither
+pub check_sound : (pairs : List Pair) (tx : List ℕ) (g : Guard) → NamesTx (others (codes "check") pairs) tx → NamesGuard (with_name (codes "check") pairs) g
+    → ¬ QueryFault (codes "check" ∷ codes "tx" ∷ []) [] pairs
+check_sound pairs tx g names guards =
+    parts_sound (codes "check") (codes "tx" ∷ []) [] [] pairs (none_wanted (codes "check")) refl refl (guard_sound _ g guards) (tx_sound _ tx names)
+
+-- nor has one that gives a name, and names a transaction or none
+pub file_sound : (pairs : List Pair) (file : List ℕ) (tx : Option (List ℕ)) → GivesName (with_name (codes "name") pairs) file
+    → MayNameTx (others (codes "name") pairs) tx → ¬ QueryFault (codes "name" ∷ codes "tx" ∷ []) (codes "name" ∷ []) pairs
+file_sound pairs file tx gives names =
+    parts_sound (codes "name") (codes "tx" ∷ []) (codes "name" ∷ []) (codes "name" ∷ []) pairs (one_wanted (codes "name")) refl refl
+    (name_sound _ file gives) (may_tx_sound _ tx names)
+
 -- a query that gives names has no fault
 pub names_sound : (pairs : List Pair) (names : Option (List (List ℕ))) → GivesNames pairs names → ¬ QueryFault (codes "names" ∷ []) [] pairs
 names_sound pairs _ (by_names value listed is lists) = one_sound _ [] pairs (codes "names") value is refl (some_names refl listed lists)
@@ -110,12 +148,18 @@ spells_sound pairs body _ _ (at_affected keys gives) = keys_sound pairs keys giv
 spells_sound pairs body _ _ (at_pending tx names) = tx_sound pairs tx names
 spells_sound pairs body _ _ (at_drop tx names) = tx_sound pairs tx names
 spells_sound pairs body _ _ (at_list is) = none_sound _ pairs is
-spells_sound pairs body _ _ (at_commit tx names) = tx_sound pairs tx names
-spells_sound pairs body _ _ (at_apply is) = none_sound _ pairs is
-spells_sound pairs body _ _ (at_commit_and_apply tx names) = tx_sound pairs tx names
+spells_sound pairs body _ _ (at_commit tx g names guards) = check_sound pairs tx g names guards
+spells_sound pairs body _ _ (at_apply gives) = all_sound pairs false gives
+spells_sound pairs body _ _ (at_apply_all gives) = all_sound pairs true gives
+spells_sound pairs body _ _ (at_commit_and_apply tx g names guards) = check_sound pairs tx g names guards
 spells_sound pairs body _ _ (at_job is) = none_sound _ pairs is
+spells_sound pairs body _ _ (at_set g changes guards _) = guard_sound pairs g guards
+spells_sound pairs body _ _ (at_plan tx names) = may_tx_sound pairs tx names
+spells_sound pairs body _ _ (at_plan_file file tx gives names) = file_sound pairs file tx gives names
+spells_sound pairs body _ _ (at_store is) = none_sound _ pairs is
 
 -- nor has one that gives a plan
 pub plan_sound : (pairs : List Pair) (r : Route) (plan : Plan) → IsPlan r pairs plan → ¬ HasQueryFault r pairs
 plan_sound pairs r (Ready request) is = spells_sound pairs [] r _ (is [])
 plan_sound pairs r (Patch tx) is = rw is.0 (tx_sound pairs tx is.1)
+plan_sound pairs r (Set g) is = rw is.0 (guard_sound pairs g is.1)

@@ -83,9 +83,9 @@ refused_stays bytes more _ (inl (many_lines none many)) q n a = no_head_comes by
 refused_stays bytes more _ (inl (in_head h rest r whole first)) q n a =
     a.clean.clean r (subst (λ k. Shows (told k) r) (same_head (bytes ++ more) h a.head (rest ++ more) a.rest (head_stays bytes more h rest whole)
     a.clean.whole).head first.shows)
-refused_stays bytes more r (inl (in_body h rest e clean body route_is wrong)) q n a =
+refused_stays bytes more r (inl (in_body h rest s e clean body route_is treed wrong)) q n a =
     asked_not_refused (bytes ++ more) q n _ a
-    (in_body h (rest ++ more) e (clean_stays bytes more h rest clean) (omega (arith, body, length-append rest more)) route_is
+    (in_body h (rest ++ more) s e (clean_stays bytes more h rest clean) (omega (arith, body, length-append rest more)) route_is treed
     (ap (λ l. flattened pending_leaf settings_key l) (take-append-le (body_length (told h).fields) rest more body) ∙ wrong))
 refused_stays bytes more r (inr (_, hopeless)) q n a = hopeless_stays bytes more hopeless a.head a.rest a.clean.whole
 
@@ -107,8 +107,8 @@ refusal_stays bytes more _ (inl (too_long none few long)) =
 refusal_stays bytes more _ (inl (many_lines none many)) = inl (many_lines (no_head_comes bytes more (full_stays bytes more (lines_full bytes many)) none)
     (many_stay bytes more many))
 refusal_stays bytes more _ (inl (in_head h rest r whole first)) = inl (in_head h (rest ++ more) r (head_stays bytes more h rest whole) first)
-refusal_stays bytes more _ (inl (in_body h rest e clean body route_is wrong)) =
-    inl (in_body h (rest ++ more) e (clean_stays bytes more h rest clean) (omega (arith, body, length-append rest more)) route_is
+refusal_stays bytes more _ (inl (in_body h rest s e clean body route_is treed wrong)) =
+    inl (in_body h (rest ++ more) s e (clean_stays bytes more h rest clean) (omega (arith, body, length-append rest more)) route_is treed
     (ap (λ l. flattened pending_leaf settings_key l) (take-append-le (body_length (told h).fields) rest more body) ∙ wrong))
 refusal_stays bytes more r (inr (is, hopeless)) = by (cases_lt (line_feeds (take 16384 (bytes ++ more))) 66)
   where

@@ -1,5 +1,5 @@
 -- For private clauses: what a head tells of a request before its body is read.
-use Rattle.std.specs.Prelude.{◌≡◌, ◌≤◌, ◌<◌, ◌+◌, ◌⊎◌, ℕ, Bool, true, false, List, length, take, Option, Some, None, MatchOption, Err}
+use Rattle.std.specs.Prelude.{◌≡◌, ◌≤◌, ◌<◌, ◌+◌, ◌⊎◌, ℕ, Bool, true, false, List, length, take, Option, Some, None, MatchOption, Err, IsTrue}
 use Rattle.api_http.specs.declared.plan.Plan.{Plan}
 use Rattle.api_http.specs.declared.plan.Plan.TheVariants as plan
 use Rattle.api_http.specs.declared.route.Route.{Route}
@@ -17,15 +17,16 @@ use Rattle.api_http.specs.declared.verdict.Aim.TheVariants as aim
 use Rattle.api_http.specs.Fields.{Field, body_length, has_bad_length}
 use Rattle.api_http.specs.Query.{Pair, query_pairs, HasQueryFault}
 use Rattle.api_http.specs.Requests.{Told, pairs_of, path_of, route_told, ShowsFirst, IsClean}
-use Rattle.api_http.specs.Routes.{has_path}
+use Rattle.api_http.specs.Routes.{has_path, has_tree}
 use Rattle.settings_machine.specs.Requests as machine
 use Rattle.settings_machine.specs.Asked.{request_of}
-use Rattle.api_http.specs.Spelled.{NamesTx, Spells}
+use Rattle.api_http.specs.Spelled.{NamesTx, NamesGuard, Spells}
 
--- The plan is what the query of a route spells, whatever the body is, or the transaction of a patch.
+-- The plan is what the query of a route spells, whatever the body is, or what it says of a patch or of what is set at once.
 abbrev pub IsPlan : Route → List Pair → Plan → Type 0
 IsPlan r pairs (plan.Ready request) = (body : List ℕ) → Spells pairs body r (request_of request)
 IsPlan r pairs (plan.Patch tx) = (r ≡ route.Patch) × NamesTx pairs tx
+IsPlan r pairs (plan.Set guard) = (r ≡ route.Set) × NamesGuard pairs guard
 
 -- The plan is that of the method and the target.
 pub record IsPlanned (t : Told) (plan : Plan) : Type 0 where
@@ -39,17 +40,21 @@ abbrev pub is_bare : Route → Bool
 is_bare route.Root = true
 is_bare route.OsNames = true
 is_bare route.TxList = true
-is_bare route.Apply = true
 is_bare route.JobNow = true
+is_bare route.Store = true
 is_bare _ = false
 
 -- The route takes the name of a transaction and no body.
 abbrev pub takes_tx : Route → Bool
 takes_tx route.Pending = true
 takes_tx route.DropTx = true
-takes_tx route.Commit = true
-takes_tx route.CommitAndApply = true
 takes_tx _ = false
+
+-- The route commits a transaction, and takes a check.
+abbrev pub takes_check : Route → Bool
+takes_check route.Commit = true
+takes_check route.CommitAndApply = true
+takes_check _ = false
 
 -- What the method and the target of a head with no bad length aim at: a plan, or the first refusal that they show.
 abbrev pub AimsAt : Told → Aim → Type 0
@@ -73,11 +78,13 @@ pub record IsAsked (t : Told) (rest : List ℕ) (q : machine.Request) : Type 0 w
   pub route_is : route_told t ≡ Some route
   pub spells : Spells (pairs_of t) (take (body_length t.fields) rest) route q
 
--- The body of a patch is refused.
+-- The body of a request whose body is to be a tree is refused.
 pub record IsBodyRefused (t : Told) (rest : List ℕ) : Type 0 where
   pub clean : IsClean t
   pub body : body_length t.fields ≤ length rest
-  pub route_is : route_told t ≡ Some route.Patch
+  pub route : Route
+  pub route_is : route_told t ≡ Some route
+  pub treed : IsTrue (has_tree route)
   pub no_tree : IsNoTree (take (body_length t.fields) rest)
 
 -- What a whole head of this size and the bytes after it read as.

@@ -84,6 +84,15 @@ with_body status field body = record {
   body = body;
 }
 
+-- The reply with HTTP status 200 and the bytes of a file as its body.
+abbrev pub with_file : List ℕ → Sent
+with_file bytes = record {
+  status = 200;
+  bytes = codes "HTTP/1.1 200 OK\r\nContent-Type: application/octet-stream\r\nContent-Length: " ++ decimal (length bytes) ++ codes "\r\n"
+      ++ codes "Connection: close\r\n\r\n" ++ bytes;
+  body = bytes;
+}
+
 -- The reply of a refusal.
 abbrev pub refused : Refusal → Sent
 refused refusal = with_body (status_of refusal) (allow_field refusal) (refusal_text refusal)

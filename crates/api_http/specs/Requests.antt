@@ -11,10 +11,9 @@ use Rattle.api_http.specs.declared.reading.Reading.TheVariants as reading
 use Rattle.api_http.specs.declared.refusal.Refusal.{Refusal}
 use Rattle.api_http.specs.declared.refusal.Refusal.TheVariants.{HeadTooLong, Head, NoPath, Method, Query, Length, BodyTooLong, Body}
 use Rattle.api_http.specs.declared.route.Route.{Route}
-use Rattle.api_http.specs.declared.route.Route.TheVariants as route
 use Rattle.api_http.specs.Heads.{IsWholeHead, HoldsNoHead, HasManyLines, HasFewLines, IsHopeless}
 use Rattle.api_http.specs.Fields.{Field, has_field, has_bad_length, body_length}
-use Rattle.api_http.specs.Routes.{has_path, route_of}
+use Rattle.api_http.specs.Routes.{has_path, route_of, has_tree}
 use Rattle.api_http.specs.Query.{Pair, query_pairs, HasQueryFault}
 use Rattle.settings_machine.specs.Requests as machine
 use Rattle.settings_machine.specs.Asked.{request_of}
@@ -104,9 +103,9 @@ pub data Refuses (bytes : List ℕ) : Refusal → Type 0 where
   many_lines : HoldsNoHead bytes → HasManyLines bytes → Refuses bytes Head
   -- The whole head shows it.
   in_head : (head : RequestHead) (rest : List ℕ) (refusal : Refusal) → IsWholeHead bytes head rest → ShowsFirst (told head) refusal → Refuses bytes refusal
-  -- The body of a patch is no tree of settings.
-  in_body : (head : RequestHead) (rest : List ℕ) (e : TreeError) → IsCleanHead bytes head rest → HasBody head rest → route_told (told head) ≡ Some route.Patch
-      → flattened pending_leaf settings_key (body_of head rest) ≡ Err e
+  -- The body is to be a tree of settings, and is none.
+  in_body : (head : RequestHead) (rest : List ℕ) (r : Route) (e : TreeError) → IsCleanHead bytes head rest → HasBody head rest
+      → route_told (told head) ≡ Some r → IsTrue (has_tree r) → flattened pending_leaf settings_key (body_of head rest) ≡ Err e
       → Refuses bytes Body
 
 -- The head is refused, or it is hopeless.

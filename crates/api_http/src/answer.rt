@@ -6,7 +6,7 @@ ghost use Rattle.api_http.specs.Replies.{with_body};
 ghost use Rattle.api_http.specs.Says.{Says, phrase_of};
 
 use crate::Reply;
-use crate::reply::json_reply;
+use crate::reply::{file_reply, json_reply};
 use key_names::Text;
 use machine_answers::{Answer, Body, refusal_text};
 use settings_machine::Refusal;
@@ -27,7 +27,7 @@ fn phrase_of(refusal: &Refusal) -> &'static str
     match refusal {
         Refusal::BadType { .. } => "Bad Request",
         Refusal::NoKey { .. } | Refusal::NoName { .. } => "Not Found",
-        Refusal::NoPending { .. } => "Unprocessable Content",
+        Refusal::NoPending { .. } | Refusal::NotRendered { .. } => "Unprocessable Content",
     }
 }
 
@@ -49,8 +49,9 @@ pub fn print_text(alloc: Global, text: &Text) -> Result<Reply, AllocError>
 ///
 /// With a body it is the status line, `Content-Type: application/json`, `Content-Length` with the
 /// decimal length of the body, `Connection: close`, an empty line and the body. What is said has HTTP
-/// status 200 and its text as body; a refusal has its status, and its text, compact JSON whose names
-/// rise. Without a body, 204, it is the status line, `Connection: close` and an empty line.
+/// status 200 and its text as body; a file has HTTP status 200, its bytes as body, and the type
+/// `application/octet-stream`; a refusal has its status, and its text, compact JSON whose names rise.
+/// Without a body, 204, it is the status line, `Connection: close` and an empty line.
 ///
 /// What is said can be printed (`MayPrint`). It takes time and memory linear in the body, and the time
 /// of printing it; the only error is out of memory.
@@ -60,6 +61,7 @@ pub fn print_answer(alloc: Global, answer: &Answer) -> Result<Reply, AllocError>
 {
     match answer {
         Answer::Said(body) => said_reply(alloc, body),
+        Answer::File(bytes) => file_reply(alloc, bytes.as_slice()),
         Answer::Empty => Ok(Reply::done()),
         Answer::Refused(refusal) => told_reply(alloc, refusal),
     }

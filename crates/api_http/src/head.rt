@@ -1,7 +1,7 @@
 //! Where a request's head is, within the limits on bytes, lines and fields.
-ghost use Rattle.std.specs.Prelude.{◌≡◌, ◌≢◌, ◌≤◌, ◌<◌, ◌↔◌, ◌⊎◌, ℕ, List, Err, IfOk, IfErr, IsOkAnd, IsTrue, length, take};
-ghost use Rattle.httparse.specs.Grammar.{RequestHead, ReadsRequest, HasNoRequest, NeverHasRequest};
-ghost use Rattle.httparse.specs.Spans.{IsRequestAt, IsRequestOf, IsRequestWithin};
+ghost use Rattle.std.specs.Prelude.{◌≡◌, ◌≢◌, ◌≤◌, ◌<◌, ◌↔◌, ◌⊎◌, Err, IfOk, IfErr, IsTrue, length, take};
+ghost use Rattle.httparse.specs.Grammar.{HasNoRequest, NeverHasRequest};
+ghost use Rattle.httparse.specs.Spans.{IsRequestOf, IsRequestWithin};
 ghost use Rattle.api_http.specs.Heads.{line_feeds, lines_end, shown};
 
 use httparse::spans::{HeaderSpan, RequestSpans, parse_request};

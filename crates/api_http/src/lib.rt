@@ -6,6 +6,7 @@ mod answer;
 mod body;
 mod fields;
 mod head;
+mod parts;
 mod plan;
 mod query;
 mod query_error;
@@ -20,6 +21,7 @@ mod values;
 mod verdict;
 mod wanted;
 mod whole_requests;
+mod words;
 
 pub use answer::{print_answer, print_text};
 pub use reading::Reading;

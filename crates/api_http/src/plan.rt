@@ -1,15 +1,18 @@
 //! Which request it is by its head alone.
-ghost use Rattle.std.specs.Prelude.{◌≡◌, [], ℕ, List, IfOk, IfErr, IsTrue};
-ghost use Rattle.api_http.specs.Query.{texts, Pair, HasQueryFault};
+ghost use Rattle.std.specs.Prelude.{◌≡◌, [], ◌∷◌, ℕ, List, IfOk, IfErr, IsTrue, codes};
+ghost use Rattle.api_http.specs.Query.{texts, named, others, Pair, QueryFault, HasQueryFault};
 ghost use Rattle.settings_machine.specs.Asked.{request_of};
-ghost use Rattle.api_http.specs.Spelled.{NamesTx, Spells};
-ghost use Rattle.api_http.specs.Plans.{IsPlan, is_bare, takes_tx};
+ghost use Rattle.api_http.specs.Spelled.{NamesTx, NamesGuard, MayGiveAll, GivesName, Spells};
+ghost use Rattle.api_http.specs.Plans.{IsPlan, is_bare, takes_tx, takes_check};
 ghost use Rattle.api_http.specs.declared.query_error.QueryError.TheVariants.{Bad};
 
+use crate::parts::parts_of;
 use crate::query_error::QueryError;
 use crate::route::Route;
 use crate::values::{keys_of, keys_or_prefix_of, names_of, nothing, tx_of};
-use settings_machine::Request;
+use crate::words::{guard_of, has_all, name_of, tx_if_any};
+use key_names::Text;
+use settings_machine::{Guard, Request};
 use settings_maps::TxName;
 use std::alloc::Global;
 
@@ -20,6 +23,8 @@ pub(crate) enum Plan {
     Ready(Request),
     /// It patches the transaction by the pairs of its body.
     Patch(TxName),
+    /// It makes the pairs of its body live at once, refused so.
+    Set(Guard),
 }
 
 // The request of a route that takes no query.
@@ -32,8 +37,8 @@ fn bare_request(route: Route) -> Request
         Route::Root => Request::Root,
         Route::OsNames => Request::OsNames,
         Route::TxList => Request::TxList,
-        Route::Apply => Request::Apply,
-        _ => Request::JobNow,
+        Route::JobNow => Request::JobNow,
+        _ => Request::Store,
     }
 }
 
@@ -45,9 +50,19 @@ fn tx_request(route: Route, tx: TxName) -> Request
 {
     match route {
         Route::Pending => Request::Pends { tx },
-        Route::DropTx => Request::DropTx { tx },
-        Route::Commit => Request::Commit { tx },
-        _ => Request::CommitAndApply { tx },
+        _ => Request::DropTx { tx },
+    }
+}
+
+// The request of a route that commits a transaction.
+fn commit_request(route: Route, tx: TxName, guard: Guard) -> Request
+    requires { IsTrue (takes_check route) }
+    ensures { (pairs : List Pair) (body : List ℕ) → NamesTx (others (codes "check") pairs) tx
+        → NamesGuard (named (codes "check") pairs) guard → Spells pairs body route (request_of result) }
+{
+    match route {
+        Route::Commit => Request::Commit { tx, guard },
+        _ => Request::CommitAndApply { tx, guard },
     }
 }
 
@@ -69,6 +84,101 @@ fn tx_plan(alloc: Global, route: Route, pairs: &[(String, String)]) -> Result<Pl
 {
     match tx_of(alloc, pairs) {
         Ok(tx) => Ok(Plan::Ready(tx_request(route, tx))),
+        Err(error) => Err(error),
+    }
+}
+
+// With this check, and the transaction that the rest of the query names.
+fn checked_plan(
+    alloc: Global,
+    route: Route,
+    guard: Guard,
+    rest: &[(String, String)],
+) -> Result<Plan, QueryError>
+    requires { IsTrue (takes_check route) }
+    ensures ok { IfOk result (λ plan. (pairs : List Pair) → others (codes "check") pairs ≡ texts rest.now
+        → NamesGuard (named (codes "check") pairs) guard → IsPlan route pairs plan) }
+    ensures bad { IfErr result (λ e. e ≡ Bad → QueryFault (codes "tx" ∷ []) [] (texts rest.now)) }
+{
+    match tx_of(alloc, rest) {
+        Ok(tx) => Ok(Plan::Ready(commit_request(route, tx, guard))),
+        Err(error) => Err(error),
+    }
+}
+
+fn commit_plan(alloc: Global, route: Route, pairs: &[(String, String)]) -> Result<Plan, QueryError>
+    requires { IsTrue (takes_check route) }
+    ensures ok { IfOk result (IsPlan route (texts pairs.now)) }
+    ensures bad { IfErr result (λ e. e ≡ Bad → HasQueryFault route (texts pairs.now)) }
+{
+    let parts = parts_of(alloc, pairs, "check")?;
+    match guard_of(&parts.named) {
+        Ok(guard) => checked_plan(alloc, route, guard, &parts.others),
+        Err(error) => Err(error),
+    }
+}
+
+// The request of a job, of all or of what is owed.
+fn apply_request(all: bool) -> Request
+    ensures { (pairs : List Pair) (body : List ℕ) → MayGiveAll pairs all
+        → Spells pairs body Route.Apply (request_of result) }
+{
+    if all {
+        Request::ApplyAll
+    } else {
+        Request::Apply
+    }
+}
+
+fn apply_plan(pairs: &[(String, String)]) -> Result<Plan, QueryError>
+    ensures ok { IfOk result (IsPlan Route.Apply (texts pairs.now)) }
+    ensures bad { IfErr result (λ e. e ≡ Bad → HasQueryFault Route.Apply (texts pairs.now)) }
+{
+    match has_all(pairs) {
+        Ok(all) => Ok(Plan::Ready(apply_request(all))),
+        Err(error) => Err(error),
+    }
+}
+
+fn set_plan(pairs: &[(String, String)]) -> Result<Plan, QueryError>
+    ensures ok { IfOk result (IsPlan Route.Set (texts pairs.now)) }
+    ensures bad { IfErr result (λ e. e ≡ Bad → HasQueryFault Route.Set (texts pairs.now)) }
+{
+    match guard_of(pairs) {
+        Ok(guard) => Ok(Plan::Set(guard)),
+        Err(error) => Err(error),
+    }
+}
+
+fn job_plan(alloc: Global, pairs: &[(String, String)]) -> Result<Plan, QueryError>
+    ensures ok { IfOk result (IsPlan Route.Plan (texts pairs.now)) }
+    ensures bad { IfErr result (λ e. e ≡ Bad → HasQueryFault Route.Plan (texts pairs.now)) }
+{
+    match tx_if_any(alloc, pairs) {
+        Ok(tx) => Ok(Plan::Ready(Request::Plan { tx })),
+        Err(error) => Err(error),
+    }
+}
+
+// Of this file, and the transaction that the rest of the query names, if any.
+fn file_plan(alloc: Global, file: Text, rest: &[(String, String)]) -> Result<Plan, QueryError>
+    ensures ok { IfOk result (λ plan. (pairs : List Pair) → others (codes "name") pairs ≡ texts rest.now
+        → GivesName (named (codes "name") pairs) file → IsPlan Route.PlanFile pairs plan) }
+    ensures bad { IfErr result (λ e. e ≡ Bad → QueryFault (codes "tx" ∷ []) [] (texts rest.now)) }
+{
+    match tx_if_any(alloc, rest) {
+        Ok(tx) => Ok(Plan::Ready(Request::PlanFile { file, tx })),
+        Err(error) => Err(error),
+    }
+}
+
+fn job_file_plan(alloc: Global, pairs: &[(String, String)]) -> Result<Plan, QueryError>
+    ensures ok { IfOk result (IsPlan Route.PlanFile (texts pairs.now)) }
+    ensures bad { IfErr result (λ e. e ≡ Bad → HasQueryFault Route.PlanFile (texts pairs.now)) }
+{
+    let parts = parts_of(alloc, pairs, "name")?;
+    match name_of(alloc, &parts.named) {
+        Ok(file) => file_plan(alloc, file, &parts.others),
         Err(error) => Err(error),
     }
 }
@@ -133,12 +243,15 @@ pub(crate) fn plan_of(
     ensures bad { IfErr result (λ e. e ≡ Bad → HasQueryFault route (texts pairs.now)) }
 {
     match route {
-        Route::Root | Route::OsNames | Route::TxList | Route::Apply | Route::JobNow => {
+        Route::Root | Route::OsNames | Route::TxList | Route::JobNow | Route::Store => {
             bare_plan(route, pairs)
         }
-        Route::Pending | Route::DropTx | Route::Commit | Route::CommitAndApply => {
-            tx_plan(alloc, route, pairs)
-        }
+        Route::Pending | Route::DropTx => tx_plan(alloc, route, pairs),
+        Route::Commit | Route::CommitAndApply => commit_plan(alloc, route, pairs),
+        Route::Apply => apply_plan(pairs),
+        Route::Set => set_plan(pairs),
+        Route::Plan => job_plan(alloc, pairs),
+        Route::PlanFile => job_file_plan(alloc, pairs),
         Route::Settings => settings_plan(alloc, pairs),
         Route::Patch => patch_plan(alloc, pairs),
         Route::Services => services_plan(alloc, pairs),

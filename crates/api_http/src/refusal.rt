@@ -30,7 +30,7 @@ pub enum Refusal {
     Length,
     /// 413: Content-Length is over 1,048,576 bytes.
     BodyTooLong,
-    /// 400: the body of a patch is no tree of settings.
+    /// 400: the body is to be a tree of settings, and is none.
     Body,
     /// 503: it ran out of memory. It says nothing of the request.
     Memory,

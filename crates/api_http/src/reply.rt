@@ -1,8 +1,8 @@
 //! Replies.
 ghost use Rattle.std.specs.Prelude.{◌≡◌, ◌≤◌, ◌++◌, [], length, IfOk, OnOk, map, codes, decimal};
 ghost use Rattle.api_http.specs.ReplyBytes.{bytes_of};
-ghost use Rattle.api_http.specs.Routes.{row_of, methods_in};
-ghost use Rattle.api_http.specs.Replies.{listed, allow_field, with_body, done, refused, ended, is_of_success};
+ghost use Rattle.api_http.specs.Routes.{row_of, methods_in, methods_of};
+ghost use Rattle.api_http.specs.Replies.{listed, allow_field, with_body, with_file, done, refused, ended, is_of_success};
 
 use crate::Refusal;
 use crate::route::{ROWS, Row};
@@ -142,12 +142,19 @@ fn push_allowed(out: &mut Vec<u8>, rows: &[Row], path: &[u8]) -> Result<(), Allo
     out.extend_from_slice(b"\r\n")
 }
 
+// Adds the field with the methods of the path.
+fn push_methods_of(out: &mut Vec<u8>, path: &[u8]) -> Result<(), AllocError>
+    ensures { OnOk result (out.new.items ≡ out.old.items ++ (codes "Allow: " ++ listed (methods_of path.now) ++ codes "\r\n")) }
+{
+    push_allowed(out, &ROWS, path)
+}
+
 // Adds the field with the methods of a path, where another was asked for.
 fn push_allow(out: &mut Vec<u8>, refusal: &Refusal) -> Result<(), AllocError>
     ensures { OnOk result (out.new.items ≡ out.old.items ++ allow_field refusal.now) }
 {
     match refusal {
-        Refusal::Method { path } => push_allowed(out, &ROWS, path.as_str().as_bytes()),
+        Refusal::Method { path } => push_methods_of(out, path.as_str().as_bytes()),
         _ => Ok(()),
     }
 }
@@ -195,6 +202,30 @@ pub(crate) fn json_reply(
     let body = text.as_str().as_bytes();
     let front = front_of(alloc, status, phrase, body.len())?;
     ended(status, front, body)
+}
+
+// The status line of a file, and the fields that tell of it.
+fn file_front(alloc: Global, size: usize) -> Result<Vec<u8>, AllocError>
+    ensures { IfOk result (λ out. out.items
+        ≡ codes "HTTP/1.1 200 OK\r\nContent-Type: application/octet-stream\r\nContent-Length: "
+        ++ decimal size ++ codes "\r\n") }
+{
+    let mut buffer = Buffer::new();
+    let mut out = Vec::from_slice(
+        alloc,
+        b"HTTP/1.1 200 OK\r\nContent-Type: application/octet-stream\r\nContent-Length: ",
+    )?;
+    out.extend_from_slice(buffer.format(size).as_bytes())?;
+    out.extend_from_slice(b"\r\n")?;
+    Ok(out)
+}
+
+/// The reply with the bytes of a file. The only error is out of memory.
+pub(crate) fn file_reply(alloc: Global, bytes: &[u8]) -> Result<Reply, AllocError>
+    ensures { IfOk result (λ reply. reply ≡ with_file bytes.now) }
+{
+    let front = file_front(alloc, bytes.len())?;
+    ended(200, front, bytes)
 }
 
 /// The reply of a refusal of HTTP, as HTTP/1.1 (RFC 9112).

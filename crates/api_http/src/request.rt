@@ -165,8 +165,8 @@ fn reading_of(alloc: Global, bytes: &[u8]) -> Result<Reading, AllocError>
 /// as many bytes of body as its Content-Length says, none without one. Fields are told apart by their names
 /// without case; of them Content-Length and Transfer-Encoding alone count. The target is split at its
 /// first `?`; the path is one of the table byte for byte, and the query is read as a form. The body of
-/// a `PATCH` is a JSON tree of settings, and every other is passed over. What follows the request is
-/// left alone.
+/// a `PATCH` and of a `POST` of `/set` is a JSON tree of settings, and every other is passed over. What
+/// follows the request is left alone.
 ///
 /// - `Whole` comes exactly where the bytes begin with a whole request that nothing refuses, with which
 ///   of the machine's it is and its length.
@@ -181,7 +181,7 @@ fn reading_of(alloc: Global, bytes: &[u8]) -> Result<Reading, AllocError>
 /// More bytes change neither a request nor a refusal once it is there, and each proper part of a whole
 /// request is `NotYet`. A caller that gets a request in pieces asks `bytes_wanted` how long to wait.
 ///
-/// It takes time linear in the bytes of the request, up to a logarithm for a `PATCH`, and memory a few
+/// It takes time linear in the bytes of the request, up to a logarithm for a tree, and memory a few
 /// times that for what is asked. The only error is out of memory, which doesn't come before there is
 /// a whole head.
 pub fn read_request(alloc: Global, bytes: &[u8]) -> Result<Reading, AllocError>

@@ -13,7 +13,6 @@ use Rattle.settings_machine.specs.Requests.{Request, Reply, DiskFault}
 use Rattle.settings_machine.specs.declared.request.Request as asked
 use Rattle.settings_machine.specs.World.{Image, World}
 use Rattle.settings_machine.specs.Events as events
-use Rattle.settings_machine.specs.Events.{Event}
 use Rattle.settings_machine.specs.Paid.{IsGood}
 use Rattle.machine_disk.specs.Kept.{Folder, Kept}
 use Rattle.machine_disk.proofs.Runs.{ran_none, ran_unread}

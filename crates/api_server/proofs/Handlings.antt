@@ -22,6 +22,7 @@ use Rattle.api_server.specs.declared.handled.Handled.TheVariants.{Answered as Re
 -- What the machine answers is no fault of the disk, and no refused opening.
 answer_fits : (a : Answer) (h : handled.Handled) → Fits (reply_of a) h
 answer_fits (answer.Said body) h = tt
+answer_fits (answer.File bytes) h = tt
 answer_fits answer.Empty h = tt
 answer_fits (answer.Refused refusal) h = tt
 

@@ -64,7 +64,7 @@ fn answer<D: Disk>(alloc: Global, core: &mut Core, request: &Request, disk: &mut
 /// - `Memory` may come at any time, and changes nothing but that the store may have been opened again.
 ///
 /// A refusal of the machine, a 4xx, comes exactly by the machine, and writes nothing. It takes the time of `Core::plan` and
-/// `Core::commit` and of printing the answer, and after a fault that of `open_store`. Each key of a `Patch` begins with `settings`.
+/// `Core::commit` and of printing the answer, and after a fault that of `open_store`. Each key of a `Patch` or a `Set` begins with `settings`.
 pub fn handle<D: Disk>(alloc: Global, core: &mut Core, request: &Request, disk: &mut D) -> Handled
     requires sound { IsSound core.old }
     requires proper { IsProper (request_of request.now) }

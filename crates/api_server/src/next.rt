@@ -1,5 +1,5 @@
 //! What the bytes that were read so far come to.
-ghost use Rattle.std.specs.Prelude.{◌≡◌, ◌≤◌};
+ghost use Rattle.std.specs.Prelude.{◌≤◌};
 ghost use Rattle.api_http.specs.Requests.{WaitsUntil};
 ghost use Rattle.settings_machine.specs.Asked.{request_of};
 ghost use Rattle.settings_machine.specs.Requests.{IsProper};

@@ -1,5 +1,5 @@
 //! A whole run over an opened store.
-ghost use Rattle.std.specs.Prelude.{◌≡◌, ◌≤◌, true, false};
+ghost use Rattle.std.specs.Prelude.{◌≡◌, ◌≤◌, false};
 ghost use Rattle.outside.specs.Told.{Moves};
 ghost use Rattle.outside.specs.Faults.{Rose};
 ghost use Rattle.api_core.specs.Cores.{IsSound};

@@ -1,6 +1,6 @@
 -- What the server reads of a question.
 use Rattle.std.proofs.Common.{arith, ◌≡◌, ◌+◌, inl, inr, ℕ, Bool, true, false, ◌&&◌, ◌||◌, List, []}
-use Rattle.std.proofs.Common.{◌∷◌, length, codes, MatchOption, Option, Some, None, Err, refl, sym, ap, ◌∙◌, subst, length-append}
+use Rattle.std.proofs.Common.{◌∷◌, length, IsTrue, MatchOption, Option, Some, None, Err, refl, sym, ap, ◌∙◌, subst, length-append}
 use Rattle.std.specs.Option.{unwrap_or}
 use Rattle.std.specs.Prelude.{find, option_map, if◌then◌else◌, Result, Ok, IfOk}
 use Rattle.std.specs.Str.{bytes_eq}
@@ -14,7 +14,7 @@ use Rattle.api_http.specs.declared.reading.Reading.TheVariants.{Whole, NotYet, R
 use Rattle.api_http.specs.declared.refusal.Refusal.{Refusal}
 use Rattle.api_http.specs.declared.refusal.Refusal.TheVariants.{NoPath, Method, Query}
 use Rattle.api_http.specs.Fields.{body_length}
-use Rattle.api_http.specs.Routes.{Row, rows, has_path, has_path_in, route_of, route_in}
+use Rattle.api_http.specs.Routes.{Row, rows, has_path, has_path_in, has_tree, route_of, route_in}
 use Rattle.api_http.specs.Query.{HasQueryFault}
 use Rattle.settings_machine.specs.Requests.{Request}
 use Rattle.api_http.specs.Spelled.{Spells}
@@ -26,7 +26,7 @@ use Rattle.api_http.proofs.Firsts.{first_no_path, first_no_method, first_query, 
 use Rattle.api_http.proofs.Sound.{spells_sound}
 use Rattle.api_http.proofs.OneAnswer.{same_head}
 use Rattle.client_requests.specs.Agreed as agreed
-use Rattle.client_requests.specs.Agreed.{path_in, pairs_in, SpellsQuestion, HasBadQuery, IsRefusedFor}
+use Rattle.client_requests.specs.Agreed.{path_in, pairs_in, SpellsQuestion, IsRefusedFor}
 use Rattle.client_requests.proofs.Heads.{IsSound, head_of, text_is}
 use Rattle.client_requests.proofs.Wholes.{whole, sound_length, length_is, plain}
 
@@ -123,14 +123,14 @@ module _ (m t : List ℕ) (b : Option (List ℕ)) (s : IsSound m t b) where
   faulty _ (in_head head rest r has first) =
       let same = same_head (ask_text m t b) head (head_of m t b) rest (unwrap_or b []) has (whole m t b s) in
       shown_in_head r (subst (λ (h : RequestHead). Shows (told h) r) same.head first.shows)
-  faulty _ (in_body head rest e is_clean has is flat) =
+  faulty _ (in_body head rest r e is_clean has is treed flat) =
       let same = same_head (ask_text m t b) head (head_of m t b) rest (unwrap_or b []) is_clean.whole (whole m t b s) in
       let flat' = subst (λ (h : RequestHead). flattened pending_leaf settings_key (body_of h rest) ≡ Err e) same.head flat in
       let flat'' = subst (λ (l : List ℕ). flattened pending_leaf settings_key (body_of (head_of m t b) l) ≡ Err e) same.behind flat' in
-      let is' = subst (λ (h : RequestHead). route_told (told h) ≡ route_of (codes "/settings") (codes "PATCH")) same.head is in
+      let is' = subst (λ (h : RequestHead). route_told (told h) ≡ Some r) same.head is in
       let clean' = subst (λ (h : RequestHead). IsClean (told h)) same.head is_clean.clean in
-      agreed.bad_body e is' (λ bad. let found = some_of (route_of (path_in t) m) (λ r. HasQueryFault r (pairs_in t)) bad in
-      clean' Query (bad_query found.0 found.1 found.2))
+      agreed.bad_body e (some_has (route_of (path_in t) m) (λ r. IsTrue (has_tree r)) r is' treed)
+      (λ bad. let found = some_of (route_of (path_in t) m) (λ r. HasQueryFault r (pairs_in t)) bad in clean' Query (bad_query found.0 found.1 found.2))
       (subst (λ (l : List ℕ). flattened pending_leaf settings_key l ≡ Err e) all_body flat'')
 
   -- each of these faults is refused
@@ -143,9 +143,10 @@ module _ (m t : List ℕ) (b : Option (List ℕ)) (s : IsSound m t b) where
       let found = some_of (route_of (path_in t) m) (λ r. HasQueryFault r (pairs_in t)) bad in
       in_head (head_of m t b) (unwrap_or b []) Query (whole m t b s)
       (first_query (told (head_of m t b)) (sound_length m t b s) (known (path_in t) m found.0 found.1) found.0 found.1 found.2)
-  refused _ (agreed.bad_body e is sound_query flat) =
-      in_body (head_of m t b) (unwrap_or b []) e (clean _ is (λ fault. sound_query
-      (some_has (route_of (path_in t) m) (λ r. HasQueryFault r (pairs_in t)) _ is fault))) there is
+  refused _ (agreed.bad_body e tree sound_query flat) =
+      let found = some_of (route_of (path_in t) m) (λ r. IsTrue (has_tree r)) tree in
+      in_body (head_of m t b) (unwrap_or b []) found.0 e (clean found.0 found.1 (λ fault. sound_query
+      (some_has (route_of (path_in t) m) (λ r. HasQueryFault r (pairs_in t)) found.0 found.1 fault))) there found.1 found.2
       (subst (λ (l : List ℕ). flattened pending_leaf settings_key l ≡ Err e) (sym all_body) flat)
 
   waits : Waits (ask_text m t b) → ⊥

@@ -18,18 +18,18 @@ use Rattle.httparse.specs.Spans.{name_and_value}
 use Rattle.httparse.proofs.OnLiterals.{httparse_on_literals}
 use Rattle.httparse.proofs.GrammarLemmas.{print_response-append}
 use Rattle.host_client.specs.Reply.{lengths, is_number, fits, IsReply}
-use Rattle.settings_machine.specs.Requests.{Reply, Said, Empty, Refused, NoMemory, NotOpened}
+use Rattle.settings_machine.specs.Requests.{FileIs, Reply, Said, Empty, Refused, NoMemory, NotOpened}
 use Rattle.settings_machine.specs.Requests as machine
 use Rattle.settings_machine.specs.declared.refusal.Refusal.{Refusal as Told}
-use Rattle.settings_machine.specs.declared.refusal.Refusal.TheVariants.{BadType, NoKey, NoName, NoPending}
+use Rattle.settings_machine.specs.declared.refusal.Refusal.TheVariants.{BadType, NoKey, NoName, NoPending, NotRendered}
 use Rattle.machine_answers.specs.Bodies as text
 use Rattle.api_http.specs.declared.refusal.Refusal.{Refusal}
 use Rattle.api_http.specs.declared.refusal.Refusal.TheVariants.{HeadTooLong, Head, NoPath, Method, Query, Length, BodyTooLong, Body, Memory, DiskFault, Store}
 use Rattle.api_http.specs.Routes.{Row, rows, methods_in, methods_of}
-use Rattle.api_http.specs.Replies.{Sent, Status, status_of, listed, allow_field, with_body, refusal_text, refused}
-use Rattle.api_http.specs.Says.{Says, status_line_of}
+use Rattle.api_http.specs.Replies.{Sent, Status, status_of, listed, allow_field, with_body, with_file, refusal_text, refused}
+use Rattle.api_http.specs.Says.{Says, sent_as, status_line_of}
 use Rattle.client_requests.specs.Answered.{IsReplied, IsHeard}
-use Rattle.client_requests.proofs.Heads.{split, kind_field, size_field, close_field, kind, size, close, literal_token, decimal_digits, trimmed}
+use Rattle.client_requests.proofs.Heads.{split, kind_field, size_field, close_field, kind, size, close, literal_token, literal_values, decimal_digits, trimmed}
 
 -- ---- the methods of a path
 
@@ -226,6 +226,7 @@ told_status (BadType key wanted) = record { low = omega arith; high = omega arit
 told_status (NoKey key) = record { low = omega arith; high = omega arith; phrase = refl }
 told_status (NoName name) = record { low = omega arith; high = omega arith; phrase = refl }
 told_status (NoPending tx) = record { low = omega arith; high = omega arith; phrase = refl }
+told_status (NotRendered file error) = record { low = omega arith; high = omega arith; phrase = refl }
 
 abbrev empty_head : ResponseHead
 empty_head = record { blank = []; minor = 1; digits = codes "204"; reason = Some (codes "No Content"); line_end = crlf; fields = close_field ∷ []; last = crlf }
@@ -265,10 +266,74 @@ refused_replied r below =
 plain_replied : (status : Status) (body : List ℕ) → IsStatus status → IsReplied (with_body status [] body)
 plain_replied status body is below = with_reply status None body is refl (shorter status [] body below)
 
+-- ---- a file
+
+abbrev file_field : Field
+file_field = record { name = codes "Content-Type"; raw = codes " application/octet-stream"; end = crlf }
+
+is_file_field : IsField file_field
+unfolding httparse_on_literals
+is_file_field = record { name = literal_token (codes "Content-Type") (omega arith) refl; raw = literal_values (codes " application/octet-stream") refl }
+
+abbrev file_head : ℕ → ResponseHead
+file_head n = record {
+  blank = [];
+  minor = 1;
+  digits = codes "200";
+  reason = Some (codes "OK");
+  line_end = crlf;
+  fields = file_field ∷ size_field n ∷ close_field ∷ [];
+  last = crlf;
+}
+
+file_joined : (a d x c r : List ℕ) → a ++ d ++ x ++ c ++ r ≡ a ++ (d ++ (x ++ (c ++ r)))
+file_joined a d x c r = simp append_assoc
+
+file_printed : (bytes : List ℕ) → print_response (file_head (length bytes)) ++ bytes ≡ (with_file bytes).bytes
+file_printed bytes =
+    print_response-append (file_head (length bytes)) bytes
+    ∙ ap (λ (l : List ℕ). codes "HTTP/1.1 200 OK\r\nContent-Type: application/octet-stream\r\nContent-Length: " ++ l)
+    (regroup (decimal (length bytes)) (codes "\r\n") (codes "Connection: close\r\n") (codes "\r\n") bytes)
+    ∙ sym (file_joined (codes "HTTP/1.1 200 OK\r\nContent-Type: application/octet-stream\r\nContent-Length: ") (decimal (length bytes)) (codes "\r\n")
+    (codes "Connection: close\r\n\r\n") bytes)
+
+file_fields : (n : ℕ) → n < 2 ^ 64 → All IsField (file_field ∷ size_field n ∷ close_field ∷ [])
+file_fields n below =
+    All-cons IsField file_field (size_field n ∷ close_field ∷ []) is_file_field
+    (All-cons IsField (size_field n) (close_field ∷ []) (size n below) (All-cons IsField close_field [] close (All-nil IsField)))
+
+-- a file is a reply of its bytes
+file_replied : (bytes : List ℕ) → IsReplied (with_file bytes)
+unfolding httparse_on_literals
+file_replied bytes below =
+    let front = codes "HTTP/1.1 200 OK\r\nContent-Type: application/octet-stream\r\nContent-Length: " ++ decimal (length bytes) ++ codes "\r\n"
+    ++ codes "Connection: close\r\n\r\n" in
+    let short : length bytes < 2 ^ 64 = omega (arith, below, length-append front bytes) in
+    record {
+      head = file_head (length bytes);
+      reads = (
+        record {
+          minor = omega arith;
+          digits = (refl, AllPass-from_list_all is_ascii_digit (codes "200") refl);
+          reason = AllPass-from_list_all is_value_byte (codes "OK") refl;
+          fields = file_fields (length bytes) short;
+        },
+        sym (file_printed bytes),
+      );
+      few = omega arith;
+      length_fits = ap (λ vs. fits vs (length bytes)) (ap (λ (v : List ℕ). v ∷ []) (trimmed (decimal (length bytes)) (decimal_digits (length bytes) short)))
+          ∙ fitting (length bytes) short;
+      status_is = refl;
+    }
+
+-- what is sent of a body is a reply of it
+sent_replied : (body : machine.Body) (text : List ℕ) → IsReplied (sent_as body text)
+sent_replied (FileIs bytes) text = file_replied text
+sent_replied _ text = plain_replied (200, codes "OK") text (record { low = omega arith; high = omega arith; phrase = refl })
+
 -- what says a reply of the machine is a reply of its status and body
 pub said_replied : (r : Reply) (sent : Sent) → Says r sent → IsReplied sent
-said_replied (Said body) sent says =
-    subst IsReplied (sym says.sent_is) (plain_replied (200, codes "OK") says.text (record { low = omega arith; high = omega arith; phrase = refl }))
+said_replied (Said body) sent says = subst IsReplied (sym says.sent_is) (sent_replied body says.text)
 said_replied Empty sent is = subst IsReplied (sym is) (λ _. empty_reply)
 said_replied (Refused r) sent is = subst IsReplied (sym is) (plain_replied (status_line_of r) (text.refusal_text r) (told_status r))
 said_replied NoMemory sent is = subst IsReplied (sym is) (refused_replied Memory)

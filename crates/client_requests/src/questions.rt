@@ -3,7 +3,7 @@ ghost use Rattle.std.specs.Prelude.{◌≡◌, ◌↔◌, ℕ, length, true, IfO
 ghost use Rattle.std.specs.Option.{option_copied};
 ghost use Rattle.host_client.specs.Question.{is_question, ask_text};
 ghost use Rattle.settings_machine.specs.Requests.{Request};
-ghost use Rattle.api_http.specs.Requests.{Asks, Refuses, Waits, IfWhole, IfRefused};
+ghost use Rattle.api_http.specs.Requests.{Asks, Refuses, IfWhole, IfRefused};
 ghost use Rattle.api_http.specs.declared.refusal.Refusal.{Refusal};
 ghost use Rattle.client_requests.specs.Agreed.{SpellsQuestion, IsRefusedFor};
 

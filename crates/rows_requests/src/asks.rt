@@ -1,8 +1,8 @@
 //! What bytes are read as: `not yet`, the word of a refusal, or what is asked with its values.
 use api_http::{Reading, Refusal, bytes_wanted, read_request};
 use key_names::{Key, Text};
-use settings_machine::Request;
-use settings_tree::Pending;
+use settings_machine::{Guard, Request};
+use settings_tree::{Pending, TxName};
 use std::alloc::{AllocError, Global};
 
 // Tells the word and the keys, a space before each.
@@ -23,9 +23,8 @@ fn names(out: &mut String, word: &str, names: &Option<Vec<Text>>) -> Result<(), 
     Ok(())
 }
 
-// Tells the transaction, and each key with its value.
-fn patch(out: &mut String, tx: &str, pairs: &[(Key, Pending)]) -> Result<(), AllocError> {
-    write!(out, "patch {tx}")?;
+// Tells each key with its value, a space before each.
+fn changes(out: &mut String, pairs: &[(Key, Pending)]) -> Result<(), AllocError> {
     for (key, pending) in pairs {
         write!(out, " {}=", key.print()?.as_str())?;
         match pending {
@@ -39,6 +38,42 @@ fn patch(out: &mut String, tx: &str, pairs: &[(Key, Pending)]) -> Result<(), All
     Ok(())
 }
 
+// Tells that templates are checked, before the word of a change.
+fn guarded(out: &mut String, guard: Guard) -> Result<(), AllocError> {
+    match guard {
+        Guard::Off => Ok(()),
+        Guard::Render => out.push_str("checked "),
+    }
+}
+
+// Tells the transaction, if there is one, a space before it.
+fn transaction(out: &mut String, tx: &Option<TxName>) -> Result<(), AllocError> {
+    match tx {
+        Some(tx) => write!(out, " {}", tx.as_str()),
+        None => Ok(()),
+    }
+}
+
+// Tells the word of a change that may be guarded, and what it has.
+fn change(out: &mut String, request: &Request) -> Result<(), AllocError> {
+    match request {
+        Request::Commit { tx, guard } => {
+            guarded(out, *guard)?;
+            write!(out, "commit {}", tx.as_str())
+        }
+        Request::CommitAndApply { tx, guard } => {
+            guarded(out, *guard)?;
+            write!(out, "commit-and-apply {}", tx.as_str())
+        }
+        Request::Set { pairs, guard } => {
+            guarded(out, *guard)?;
+            out.push_str("set")?;
+            changes(out, pairs)
+        }
+        _ => Ok(()),
+    }
+}
+
 /// Tells the word of what is asked, the transaction, and the values.
 pub fn request(out: &mut String, request: &Request) -> Result<(), AllocError> {
     match request {
@@ -47,17 +82,31 @@ pub fn request(out: &mut String, request: &Request) -> Result<(), AllocError> {
         Request::Settings => out.push_str("settings"),
         Request::SettingsAt { keys: asked } => keys(out, "keys", asked),
         Request::SettingsBelow { key } => write!(out, "prefix {}", key.print()?.as_str()),
-        Request::Patch { tx, pairs } => patch(out, tx.as_str(), pairs),
+        Request::Patch { tx, pairs } => {
+            write!(out, "patch {}", tx.as_str())?;
+            changes(out, pairs)
+        }
         Request::Services { names: asked } => names(out, "services", asked),
         Request::ConfigurationFiles { names: asked } => names(out, "files", asked),
         Request::Affected { keys: asked } => keys(out, "affected", asked),
         Request::Pends { tx } => write!(out, "pending {}", tx.as_str()),
         Request::DropTx { tx } => write!(out, "drop {}", tx.as_str()),
         Request::TxList => out.push_str("transactions"),
-        Request::Commit { tx } => write!(out, "commit {}", tx.as_str()),
+        Request::Commit { .. } | Request::CommitAndApply { .. } | Request::Set { .. } => {
+            change(out, request)
+        }
         Request::Apply => out.push_str("apply"),
-        Request::CommitAndApply { tx } => write!(out, "commit-and-apply {}", tx.as_str()),
         Request::JobNow => out.push_str("job"),
+        Request::ApplyAll => out.push_str("apply all"),
+        Request::Plan { tx } => {
+            out.push_str("plan")?;
+            transaction(out, tx)
+        }
+        Request::PlanFile { file, tx } => {
+            write!(out, "plan-file {}", file.as_str())?;
+            transaction(out, tx)
+        }
+        Request::Store => out.push_str("store"),
     }
 }
 
@@ -117,10 +166,10 @@ pub fn head(alloc: Global, out: &mut String, lines: &[u8]) -> Result<(), AllocEr
     read(alloc, out, &head_of(alloc, lines)?)
 }
 
-/// Tells what a patch with this body is read as: without its last byte, whole, and with three bytes after it.
-pub fn bodies(alloc: Global, out: &mut String, body: &[u8]) -> Result<(), AllocError> {
+/// Tells what a request with this method and target and this body is read as: without its last byte, whole, and with three bytes after it.
+pub fn bodies(alloc: Global, out: &mut String, asked: &str, body: &[u8]) -> Result<(), AllocError> {
     let count = body.len();
-    let lines = format!(in alloc; "PATCH /settings?tx=t HTTP/1.1\nContent-Length: {count}")?;
+    let lines = format!(in alloc; "{asked} HTTP/1.1\nContent-Length: {count}")?;
     let mut bytes = head_of(alloc, lines.as_str().as_bytes())?;
     bytes.extend_from_slice(body)?;
     let front = bytes.get(..bytes.len().saturating_sub(1)).unwrap_or(b"");

@@ -2,8 +2,8 @@
 //!
 //! `http LINES` is what the head of these lines is read as: the word of what is asked with its values, that of a refusal, or `not yet`, and how many bytes
 //! are left after a whole request. `wire BYTES` is the same of bytes as they come. `patch BODY` is the same of a whole patch without its last byte, as it
-//! is, and with three bytes after it. `wants BYTES` is how many bytes there have to be before they can be anything else, and `times SIZE` how often the
-//! bytes in the lines below it are read, of which so many come at a time.
+//! is, and with three bytes after it, and `set BODY` of what is set at once. `wants BYTES` is how many bytes there have to be before they can be anything
+//! else, and `times SIZE` how often the bytes in the lines below it are read, of which so many come at a time.
 //!
 //! `reply ANSWER` is the status and the bytes of a reply. `hear SIZE` is what comes of a connection on which the lines below it come in pieces of so many
 //! bytes, and how many bytes of them are left; `say TEXT` is what is written to a connection. `read` and `write` are the devices whose calls can fail.
@@ -42,7 +42,8 @@ fn read(alloc: Global, out: &mut String, word: &str, given: Given<'_>) -> io::Re
     match word {
         "http" => asks::head(alloc, out, input)?,
         "wire" => asks::read(alloc, out, input)?,
-        "patch" => asks::bodies(alloc, out, input)?,
+        "patch" => asks::bodies(alloc, out, "PATCH /settings?tx=t", input)?,
+        "set" => asks::bodies(alloc, out, "POST /set", input)?,
         "wants" => writeln!(out, "{}", bytes_wanted(input))?,
         "times" => {
             let (size, bytes) = pieces(given)?;

@@ -1,12 +1,13 @@
 //! The bytes of replies.
 use api_http::{Refusal, Reply, print_answer, print_refusal, print_text};
-use key_names::{Key, Text};
+use key_names::{Bytes, Key, Text};
 use machine_answers::Answer;
 use row_files::{bad, parts};
 use settings_machine::Refusal as Refused;
 use settings_tree::TxName;
 use std::alloc::{AllocError, Global};
 use std::io;
+use template_eval::RenderError;
 
 // The refusal of HTTP of the word, with what is said of it.
 fn refusal_of(alloc: Global, word: &str, text: &str) -> io::Result<Refusal> {
@@ -31,6 +32,19 @@ fn key_of(alloc: Global, text: &str) -> io::Result<Key> {
     Key::read(alloc, text.as_bytes()).ok().ok_or(bad())
 }
 
+// Why a template refuses: a word, a space and the path.
+fn error_of(alloc: Global, text: &str) -> io::Result<RenderError> {
+    let (word, path) = text.split_once(' ').ok_or(bad())?;
+    let path = Text::from_str(alloc, path)?;
+    Ok(match word {
+        "missing" => RenderError::Missing { path },
+        "not-scalar" => RenderError::NotScalar { path },
+        "not-list" => RenderError::NotList { path },
+        "bad-base64" => RenderError::BadBase64 { path },
+        _ => return Err(bad()),
+    })
+}
+
 // The refusal of the machine of the word, if it is one, with what is said of it.
 fn refused(alloc: Global, word: &str, text: &str) -> io::Result<Option<Refused>> {
     Ok(Some(match word {
@@ -48,22 +62,38 @@ fn refused(alloc: Global, word: &str, text: &str) -> io::Result<Option<Refused>>
         "no-pending" => Refused::NoPending {
             tx: TxName::read(alloc, text.as_bytes())?.ok_or(bad())?,
         },
+        "not-rendered" => {
+            let (file, why) = text.split_once(' ').ok_or(bad())?;
+            let (file, error) = (Text::from_str(alloc, file)?, error_of(alloc, why)?);
+            Refused::NotRendered { file, error }
+        }
         _ => return Ok(None),
     }))
+}
+
+// The reply that sends the text as a file.
+fn file_reply(alloc: Global, text: &str) -> Result<Reply, AllocError> {
+    let bytes = Bytes::of(text.as_bytes().to_vec(alloc)?);
+    print_answer(alloc, &Answer::File(bytes))
+}
+
+// The reply of the refusal of the word, of the machine or of HTTP.
+fn refusal_reply(alloc: Global, word: &str, text: &str) -> io::Result<Reply> {
+    match refused(alloc, word, text)? {
+        Some(refusal) => Ok(print_answer(alloc, &Answer::Refused(refusal))?),
+        None => Ok(print_refusal(alloc, &refusal_of(alloc, word, text)?)?),
+    }
 }
 
 // The reply of the word; a fixed one takes no memory.
 fn reply_of(alloc: Global, word: &str, text: &str) -> io::Result<Reply> {
     match (word, text) {
-        ("fixed", "memory") => return Ok(Reply::memory()),
-        ("fixed", "disk") => return Ok(Reply::disk()),
-        ("json", _) => return Ok(print_text(alloc, &Text::from_str(alloc, text)?)?),
-        ("empty", _) => return Ok(print_answer(alloc, &Answer::Empty)?),
-        _ => {}
-    }
-    match refused(alloc, word, text)? {
-        Some(refusal) => Ok(print_answer(alloc, &Answer::Refused(refusal))?),
-        None => Ok(print_refusal(alloc, &refusal_of(alloc, word, text)?)?),
+        ("fixed", "memory") => Ok(Reply::memory()),
+        ("fixed", "disk") => Ok(Reply::disk()),
+        ("json", _) => Ok(print_text(alloc, &Text::from_str(alloc, text)?)?),
+        ("empty", _) => Ok(print_answer(alloc, &Answer::Empty)?),
+        ("file", _) => Ok(file_reply(alloc, text)?),
+        _ => refusal_reply(alloc, word, text),
     }
 }
 
