@@ -5,8 +5,7 @@ use Rattle.key_names.specs.Key.{printed}
 use Rattle.version_links.specs.Versions.{version_text}
 use Rattle.settings_machine.specs.Requests.{refusal_status}
 use Rattle.machine_answers.specs.Bodies.{refusal_text}
-use Rattle.template_eval.specs.declared.render_error.RenderError.{RenderError}
-use Rattle.template_eval.specs.declared.render_error.RenderError.TheVariants as render
+use Rattle.machine_answers.specs.RenderWords.{render_word, render_path}
 use Rattle.command_outcome.specs.declared.refusal.Refusal.{Refusal}
 use Rattle.command_outcome.specs.declared.refusal.Refusal.TheVariants.{Memory, Usage, Disk, Door, Spawn, NoStore}
 use Rattle.command_outcome.specs.declared.refusal.Refusal.TheVariants.{Damaged, BadLink, BadJournal, BadImage, IllTyped, NotCovered}
@@ -43,22 +42,6 @@ status_of (MigrationOutput name) = 18
 -- A space and a text.
 abbrev pub spaced : List ℕ → List ℕ
 spaced text = 32 ∷ text
-
--- The word for why a template refused; out of memory has none.
-abbrev pub render_word : RenderError → List ℕ
-render_word (render.Missing path) = codes "missing"
-render_word (render.NotScalar path) = codes "not-scalar"
-render_word (render.NotList path) = codes "not-list"
-render_word (render.BadBase64 path) = codes "bad-base64"
-render_word render.Memory = []
-
--- The path at which it refused, as it is written; out of memory has none.
-abbrev pub render_path : RenderError → List ℕ
-render_path (render.Missing path) = path
-render_path (render.NotScalar path) = path
-render_path (render.NotList path) = path
-render_path (render.BadBase64 path) = path
-render_path render.Memory = []
 
 -- What is said of a refusal after the program's name.
 abbrev pub told : Refusal → List ℕ

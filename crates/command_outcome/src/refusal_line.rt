@@ -5,12 +5,13 @@ ghost use Rattle.key_names.specs.Key.{printed};
 ghost use Rattle.version_links.specs.Versions.{version_text};
 ghost use Rattle.settings_machine.specs.Requests.{refusal_status};
 ghost use Rattle.machine_answers.specs.Bodies.{refusal_text};
-ghost use Rattle.command_outcome.specs.Lines.{status_of, line_of, told, spaced, render_word, render_path};
+ghost use Rattle.machine_answers.specs.RenderWords.{render_word, render_path};
+ghost use Rattle.command_outcome.specs.Lines.{status_of, line_of, told, spaced};
 
 use crate::Refusal;
 use itoa::Buffer;
 use key_names::{Key, Text};
-use machine_answers::refusal_text;
+use machine_answers::{refusal_text, render_path, render_word};
 use outside::Path;
 use std::alloc::{AllocError, Global};
 use template_eval::RenderError;
@@ -93,32 +94,6 @@ fn push_name(line: &mut Vec<u8>, words: &str, name: &Text) -> Result<(), AllocEr
 {
     line.extend_from_slice(words.as_bytes())?;
     push_text(line, name)
-}
-
-// The word for why a template refused; out of memory has none.
-fn render_word(error: &RenderError) -> &'static str
-    ensures { result.now ≡ render_word error.now }
-{
-    match error {
-        RenderError::Missing { .. } => "missing",
-        RenderError::NotScalar { .. } => "not-scalar",
-        RenderError::NotList { .. } => "not-list",
-        RenderError::BadBase64 { .. } => "bad-base64",
-        RenderError::Memory => "",
-    }
-}
-
-// The path at which it refused; out of memory has none.
-fn render_path(error: &RenderError) -> &str
-    ensures { result.now ≡ render_path error.now }
-{
-    match error {
-        RenderError::Missing { path }
-        | RenderError::NotScalar { path }
-        | RenderError::NotList { path }
-        | RenderError::BadBase64 { path } => path.as_str(),
-        RenderError::Memory => "",
-    }
 }
 
 fn push_render(line: &mut Vec<u8>, file: &Text, error: &RenderError) -> Result<(), AllocError>

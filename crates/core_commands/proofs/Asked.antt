@@ -110,11 +110,13 @@ module _ {T : Type 0} (q : Request) (Of : Reply → T → Type 0) (c now : Core)
   pub asks_told : (a : Answer) (result : Result T Refusal) → Replies c q a → TellsReply Of (reply_of a) result → Commits c q (Ok tt) now old new
       → AsksFor q Of result c now old new
   asks_told (answer.Said body) (Ok value) replies told commits = asks_done (answer.Said body) replies refl value told commits
+  asks_told (answer.File bytes) (Ok value) replies told commits = asks_done (answer.File bytes) replies refl value told commits
   asks_told answer.Empty (Ok value) replies told commits = asks_done answer.Empty replies refl value told commits
   asks_told (answer.Refused r) (Err refusal) replies told commits =
       subst (λ (x : Refusal). AsksFor q Of (Err x) c now old new) (sym told) (asks_refused r replies commits)
   asks_told (answer.Refused r) (Ok value) replies told commits = absurd told
   asks_told (answer.Said body) (Err refusal) replies told commits = absurd told
+  asks_told (answer.File bytes) (Err refusal) replies told commits = absurd told
   asks_told answer.Empty (Err refusal) replies told commits = absurd told
 
   -- or it was not committed.

@@ -1,16 +1,21 @@
 -- Requests that are answered fail no job.
-use Rattle.std.proofs.Common.{Bool, true, false, if◌then◌else◌, List, [], ◌∷◌, Option, Some, None}
+use Rattle.std.proofs.Common.{ℕ, Bool, true, false, if◌then◌else◌, List, [], ◌∷◌, Option, Some, None}
 use Rattle.std.specs.FinMap.{FinMap, get}
 use Rattle.key_names.specs.Order.{key_cmp}
 use Rattle.json_trees.specs.declared.pending.Pending.{Pending}
 use Rattle.settings_tree.specs.declared.entry.Owed.{Owed}
+use Rattle.settings_tree.specs.declared.entry.Owed.TheVariants as owed
+use Rattle.metadata_links.specs.Links.{files_of}
+use Rattle.template_eval.specs.declared.render_error.RenderError.{RenderError}
 use Rattle.pending_tx.specs.Transactions.{changed_keys}
 use Rattle.settings_machine.specs.World.{Key, Image, World, Job, Idle, Failed, Running, owes_none}
 use Rattle.settings_machine.specs.Typed.{Wanted, first_wanted}
 use Rattle.settings_machine.specs.Requests.{Request, Root, OsNames, Settings, SettingsAt, SettingsBelow, Patch, Services, ConfigurationFiles}
 use Rattle.settings_machine.specs.Requests.{Affected, Pends, DropTx, TxList, Commit, Apply, CommitAndApply, JobNow}
-use Rattle.settings_machine.specs.Step.{Answered, noting, asked_for, applied, committed_world}
-use Rattle.settings_machine.specs.Step.{patch_next, commit_next, commit_and_apply_next, answered, request_next}
+use Rattle.settings_machine.specs.Requests.{Set, ApplyAll, Guarded, Plan, PlanFile, Store, is_success}
+use Rattle.settings_machine.specs.Plans.{first_refusing}
+use Rattle.settings_machine.specs.Step.{Next, Answered, noting, asked_for, applied, committed_world, set_world, owing_all, changed_by}
+use Rattle.settings_machine.specs.Step.{patch_next, commit_next, commit_and_apply_next, set_next, unless_refusing, guarded_next, answered, request_next}
 use Rattle.settings_machine.specs.Events.{Asked, next, after}
 use Rattle.core_commands.specs.Asking.{asked_all}
 
@@ -35,6 +40,16 @@ applied_fresh I W = by (owes_none W.held.owed) where
   by : (b : Bool) → IsFresh (if b then Idle else asked_for I W.held.owed W.job)
   by true = tt
   by false = asked_for_fresh I W.held.owed W.job
+
+guarded_fresh : (I : Image) (W : World) (changed : List Key) (n : Next) → IsFresh W.job → IsFresh n.world.job → IsFresh (guarded_next I W changed n).world.job
+guarded_fresh I W changed n fresh made = by (is_success n.reply) where
+  unless : (o : Option (List ℕ × RenderError)) → IsFresh (unless_refusing W n o).world.job
+  unless None = made
+  unless (Some refusal) = fresh
+
+  by : (b : Bool) → IsFresh (if b then unless_refusing W n (first_refusing I n.world.held.live (files_of I.manifest (owed.Keys changed))) else n).world.job
+  by true = unless (first_refusing I n.world.held.live (files_of I.manifest (owed.Keys changed)))
+  by false = made
 
 answered_fresh : (I : Image) (W : World) (q : Request) → IsFresh W.job → IsFresh (answered I W q).world.job
 answered_fresh I W Root fresh = fresh
@@ -62,6 +77,15 @@ answered_fresh I W (CommitAndApply tx) fresh = by (get W.held.pending tx) where
   by None = fresh
   by (Some p) = applied_fresh I (committed_world W tx)
 answered_fresh I W JobNow fresh = fresh
+answered_fresh I W (Set pairs) fresh = by (first_wanted I.types pairs) where
+  by : (o : Option Wanted) → IsFresh (set_next I W pairs o).world.job
+  by None = applied_fresh I (set_world W pairs)
+  by (Some wanted) = fresh
+answered_fresh I W ApplyAll fresh = applied_fresh I (owing_all W)
+answered_fresh I W (Guarded q) fresh = guarded_fresh I W (changed_by W q) (answered I W q) fresh (answered_fresh I W q fresh)
+answered_fresh I W (Plan tx) fresh = fresh
+answered_fresh I W (PlanFile file tx) fresh = fresh
+answered_fresh I W Store fresh = fresh
 
 request_fresh : (I : Image) (W : World) (q : Request) → IsFresh W.job → IsFresh (request_next I W q Answered).world.job
 unfolding request_next

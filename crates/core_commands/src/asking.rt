@@ -10,7 +10,7 @@ ghost use Rattle.core_commands.specs.Asking.{AsksEach, AsksFor, TellsReply, requ
 ghost use Rattle.core_commands.specs.Committing.{IsBodyLine};
 ghost use Rattle.core_commands.specs.Handing.{IsOfRequest};
 
-use crate::lines::line_of;
+use crate::lines::{bytes_line, line_of};
 use api_core::{Core, Planned};
 use command_outcome::Refusal;
 use key_names::Bytes;
@@ -24,7 +24,7 @@ fn refused(answer: Answer) -> Result<(), Refusal>
     ensures { TellsReply (λ reply done. Unit {0}) (reply_of answer) result }
 {
     match answer {
-        Answer::Said(_) | Answer::Empty => Ok(()),
+        Answer::Said(_) | Answer::File(_) | Answer::Empty => Ok(()),
         Answer::Refused(refusal) => Err(Refusal::Refused(refusal)),
     }
 }
@@ -52,7 +52,7 @@ fn ask<D: Disk>(
 }
 
 /// Asks one request after another, until one isn't answered with success. No call of the disk has failed since the store was opened,
-/// and each key of a `Patch` begins with `settings`.
+/// and each key of a `Patch` or a `Set` begins with `settings`.
 ///
 /// `Refused` comes exactly where the machine refuses a request, `Disk` where the disk failed, and `Memory` where it ran out of memory.
 pub(crate) fn ask_each<D: Disk>(
@@ -86,6 +86,7 @@ fn line_told(alloc: Global, answer: Answer) -> Result<Result<Bytes, Refusal>, Al
 {
     match answer {
         Answer::Said(body) => Ok(Ok(line_of(alloc, &body.text(alloc)?)?)),
+        Answer::File(bytes) => Ok(Ok(bytes_line(alloc, bytes.as_slice())?)),
         Answer::Empty => Ok(Ok(Bytes::of(Vec::new(alloc)))),
         Answer::Refused(refusal) => Ok(Err(Refusal::Refused(refusal))),
     }

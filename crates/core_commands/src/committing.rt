@@ -20,7 +20,7 @@ use api_core::Core;
 use command_outcome::Refusal;
 use key_names::{Bytes, Key, Text};
 use outside::Disk;
-use settings_machine::Request;
+use settings_machine::{Guard, Request};
 use settings_tree::{Scalar, TxName};
 use std::alloc::{AllocError, Global};
 use store_open::Opened;
@@ -74,7 +74,11 @@ fn commit_by<D: Disk>(
     }
     let asks = patch_asks(alloc, &tx, pairs)?;
     ask_each(alloc, core, &asks, disk)?;
-    ask_and_print(alloc, core, &Request::Commit { tx }, disk)
+    let commit = Request::Commit {
+        tx,
+        guard: Guard::Off,
+    };
+    ask_and_print(alloc, core, &commit, disk)
 }
 
 /// Commits pairs to a store that was just opened: drops the transaction, patches it with the pairs in order, and commits it. It

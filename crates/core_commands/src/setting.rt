@@ -14,7 +14,7 @@ use crate::telling::{Telling, carry_and_tell};
 use command_outcome::Refusal;
 use key_names::{Bytes, Key};
 use outside::{Disk, Spawner};
-use settings_machine::Request;
+use settings_machine::{Guard, Request};
 use settings_tree::{Pending, Scalar, TxName};
 use std::alloc::{AllocError, Global};
 
@@ -56,7 +56,10 @@ fn set_asks(alloc: Global, pairs: &[(Key, Scalar)]) -> Result<[Request; 3], Allo
             tx: tx.copy()?,
             pairs: puts,
         },
-        Request::CommitAndApply { tx },
+        Request::CommitAndApply {
+            tx,
+            guard: Guard::Off,
+        },
     ])
 }
 
