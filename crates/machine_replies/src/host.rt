@@ -1,21 +1,24 @@
 //! A host in memory.
-ghost use Rattle.std.specs.Prelude.{IfOk};
+ghost use Rattle.std.specs.Prelude.{◌≡◌, All, IfOk, true};
 ghost use Rattle.api_http.specs.Requests.{IfWhole};
+ghost use Rattle.key_names.specs.Key.{is_prefix};
 ghost use Rattle.model_file.specs.Model.{AreTyped};
 ghost use Rattle.opening_step.specs.Step.{AreSettings};
 ghost use Rattle.settings_machine.specs.Asked.{request_of};
 ghost use Rattle.settings_machine.specs.Requests.{IsProper};
+ghost use Rattle.settings_tree.specs.Content.{settings_key};
 ghost use Rattle.typed_settings.specs.Order.{IsTable};
 
-use crate::reading::{keys_told, read};
+use crate::reading::{keys_told, plan_told, read};
 use crate::rest::at_rest;
 use crate::told::Told;
 use api_http::{Reading, Reply, print_refusal, read_request};
+use key_names::{Key, Text};
 use outside::Disk;
 use pending_tx::CommitError;
 use plain_machine::{OpeningAnswer, PlainImage, PlainMachine, TurnAnswer};
-use settings_machine::{Refusal, Request};
-use settings_tree::{KeyList, TxName};
+use settings_machine::{Guard, Refusal, Request};
+use settings_tree::{KeyList, Pending, TxName};
 use std::alloc::{AllocError, Global};
 use std::marker::Model;
 use store_image::{ImageError, read_image};
@@ -85,6 +88,14 @@ fn committed(
     }
 }
 
+// The answer to a change that comes to its keys, or is refused.
+fn changed(alloc: Global, keys: Result<KeyList, Refusal>) -> Result<Told, AllocError> {
+    match keys {
+        Ok(keys) => keys_told(alloc, keys),
+        Err(refusal) => Ok(Told::Refused(refusal)),
+    }
+}
+
 // What the bytes are, read as a request. Of what `read_request` tells of it this alone is needed here.
 fn reading_of(alloc: Global, bytes: &[u8]) -> Result<Reading, AllocError>
     ensures { IfOk result (λ reading. IfWhole reading (λ q _. IsProper q)) }
@@ -98,7 +109,9 @@ pub fn changes(request: &Request) -> bool {
         Request::Patch { .. }
         | Request::DropTx { .. }
         | Request::Commit { .. }
-        | Request::CommitAndApply { .. } => true,
+        | Request::CommitAndApply { .. }
+        | Request::Set { .. }
+        | Request::ApplyAll => true,
         _ => false,
     }
 }
@@ -151,6 +164,75 @@ impl Host {
         self.machine.turn(alloc, &self.image, answer)
     }
 
+    // The transaction is committed.
+    fn commit(&mut self, alloc: Global, tx: &TxName, guard: Guard) -> Result<Told, AllocError> {
+        match guard {
+            Guard::Off => committed(alloc, tx, self.machine.commit(alloc, &self.image, tx)),
+            Guard::Render => {
+                let keys = self.machine.guarded_commit(alloc, &self.image, tx)?;
+                changed(alloc, keys)
+            }
+        }
+    }
+
+    // The transaction is committed and applied.
+    fn commit_and_apply(
+        &mut self,
+        alloc: Global,
+        tx: &TxName,
+        guard: Guard,
+    ) -> Result<Told, AllocError> {
+        match guard {
+            Guard::Off => {
+                let keys = self.machine.commit_and_apply(alloc, &self.image, tx);
+                committed(alloc, tx, keys)
+            }
+            Guard::Render => {
+                let keys = self
+                    .machine
+                    .guarded_commit_and_apply(alloc, &self.image, tx)?;
+                changed(alloc, keys)
+            }
+        }
+    }
+
+    // The pairs are set at once.
+    fn set(
+        &mut self,
+        alloc: Global,
+        pairs: &[(Key, Pending)],
+        guard: Guard,
+    ) -> Result<Told, AllocError>
+        requires { All (λ e. is_prefix settings_key e.0 ≡ true) pairs.now }
+    {
+        let keys = match guard {
+            Guard::Off => self.machine.set(alloc, &self.image, pairs)?,
+            Guard::Render => self.machine.guarded_set(alloc, &self.image, pairs)?,
+        };
+        changed(alloc, keys)
+    }
+
+    // What a job would do.
+    fn plan(&self, alloc: Global, tx: &Option<TxName>) -> Result<Told, AllocError> {
+        match self.machine.plan(alloc, &self.image, tx)? {
+            Ok(plan) => plan_told(alloc, plan),
+            Err(refusal) => Ok(Told::Refused(refusal)),
+        }
+    }
+
+    // What a configuration file would be.
+    fn planned_file(
+        &self,
+        alloc: Global,
+        file: &Text,
+        tx: &Option<TxName>,
+    ) -> Result<Told, AllocError> {
+        match self.machine.planned_file(alloc, &self.image, file, tx)? {
+            Ok(bytes) => Ok(Told::File(bytes)),
+            Err(refusal) => Ok(Told::Refused(refusal)),
+        }
+    }
+
     /// The machine makes the request: what is replied where the disk serves. The only error is out of memory.
     pub fn ask(&mut self, alloc: Global, request: &Request) -> Result<Told, AllocError>
         requires { IsProper (request_of request.now) }
@@ -165,17 +247,19 @@ impl Host {
             Request::DropTx { tx } => {
                 keys_told(alloc, self.machine.drop_tx(alloc, &self.image, tx)?)
             }
-            Request::Commit { tx } => {
-                committed(alloc, tx, self.machine.commit(alloc, &self.image, tx))
-            }
-            Request::CommitAndApply { tx } => {
-                let keys = self.machine.commit_and_apply(alloc, &self.image, tx);
-                committed(alloc, tx, keys)
-            }
+            Request::Commit { tx, guard } => self.commit(alloc, tx, *guard),
+            Request::CommitAndApply { tx, guard } => self.commit_and_apply(alloc, tx, *guard),
+            Request::Set { pairs, guard } => self.set(alloc, pairs.as_slice(), *guard),
             Request::Apply => {
                 self.machine.apply(alloc, &self.image)?;
                 Ok(Told::Empty)
             }
+            Request::ApplyAll => {
+                self.machine.apply_all(alloc, &self.image)?;
+                Ok(Told::Empty)
+            }
+            Request::Plan { tx } => self.plan(alloc, tx),
+            Request::PlanFile { file, tx } => self.planned_file(alloc, file, tx),
             _ => read(alloc, &self.image, &self.machine, request),
         }
     }

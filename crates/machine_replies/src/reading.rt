@@ -8,7 +8,7 @@ use key_names::{Key, Text, copy_texts};
 use machine_answers::{Body, job_text};
 use metadata_links::{Manifest, Steps};
 use plain_machine::{PlainImage, PlainMachine};
-use settings_machine::{Refusal, Request};
+use settings_machine::{Plan, Refusal, Request};
 use settings_tree::KeyList;
 use std::alloc::{AllocError, Global};
 
@@ -27,6 +27,18 @@ fn said(alloc: Global, body: &Body) -> Result<Told, AllocError>
 /// The list of the keys.
 pub(crate) fn keys_told(alloc: Global, keys: KeyList) -> Result<Told, AllocError> {
     said(alloc, &Body::Keys(keys))
+}
+
+/// The plan.
+pub(crate) fn plan_told(alloc: Global, plan: Plan) -> Result<Told, AllocError> {
+    said(alloc, &Body::Plan(plan))
+}
+
+// The version of the store, and what it holds.
+fn store(alloc: Global, machine: &PlainMachine) -> Result<Told, AllocError> {
+    let version = machine.version;
+    let held = machine.held.copy()?;
+    said(alloc, &Body::Store { version, held })
 }
 
 // All live values, without what isn't a service, a file or a setting.
@@ -172,6 +184,7 @@ pub(crate) fn read(
         Request::Pends { tx } => tree(alloc, &pending_in(alloc, machine, tx)?),
         Request::TxList => said(alloc, &Body::Names(pending_tx::list(alloc, &machine.held)?)),
         Request::JobNow => job(alloc, machine),
+        Request::Store => store(alloc, machine),
         _ => Ok(Told::Empty),
     }
 }

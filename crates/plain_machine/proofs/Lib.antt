@@ -5,3 +5,5 @@ pub mod RequestsAnswered
 pub mod TurnsMade
 pub mod TypedHeld
 pub mod StoreOpened
+pub mod ChangesMade
+pub mod PlansMade

@@ -1,5 +1,5 @@
 -- What the calls without a disk make is what the machine makes.
-use Rattle.std.proofs.Common.{◌≡◌, ℕ, List, Option, Some, None, refl, sym, ◌∙◌, ap}
+use Rattle.std.proofs.Common.{◌≡◌, ℕ, List, Option, Some, None, sym, ◌∙◌, ap}
 use Rattle.json_trees.specs.declared.pending.Pending.{Pending}
 use Rattle.settings_tree.specs.declared.held.Held.{Held}
 use Rattle.pending_tx.specs.Transactions.{keys_of, dropped, patched}

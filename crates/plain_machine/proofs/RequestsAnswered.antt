@@ -4,12 +4,13 @@ use Rattle.std.specs.FinMap.{FinMap, get}
 use Rattle.key_names.specs.Order.{key_cmp}
 use Rattle.json_trees.specs.declared.pending.Pending.{Pending}
 use Rattle.settings_tree.specs.declared.entry.Owed.{Owed}
+use Rattle.settings_tree.specs.declared.entry.Owed.TheVariants as owed
 use Rattle.settings_tree.specs.declared.held.Held.{Held}
 use Rattle.pending_tx.specs.Transactions.{keys_of, changed_keys, committed}
 use Rattle.settings_machine.specs.World.{Key, Image, World, Job, Idle, Failed, Running, owes_none}
 use Rattle.settings_machine.specs.Typed.{Wanted, first_wanted}
-use Rattle.settings_machine.specs.Requests.{Patch, DropTx, Commit, Apply, CommitAndApply, Reply, Empty}
-use Rattle.settings_machine.specs.Step.{request_next, with_held, with_job, noting, asked_for}
+use Rattle.settings_machine.specs.Requests.{Patch, DropTx, Commit, Apply, ApplyAll, CommitAndApply, Reply, Empty}
+use Rattle.settings_machine.specs.Step.{request_next, with_held, with_job, noting, owing_all, asked_for}
 use Rattle.settings_machine.specs.Step.{patch_next, commit_next, commit_and_apply_next, committed_world, applied}
 use Rattle.plain_machine.specs.Plain.{IsAnswered, keys_reply, missing_reply}
 use Rattle.settings_machine.specs.JobSeen.{job_seen, IsApplied}
@@ -56,6 +57,15 @@ pub asked_apply : (image : PlainImage) (old new : PlainMachine) → IsApplied im
 unfolding request_next
 asked_apply image old new a stays = record {
   world = λ I holds. stays ∙ ap (with_job (world_of old)) (sym (a.makes I (world_of old) (sym holds.manifest_is) refl refl));
+  says = λ I holds. refl;
+}
+
+pub asked_apply_all : (image : PlainImage) (old new : PlainMachine) → IsApplied image.manifest owed.All (job_seen old.job) (job_seen new.job)
+    → world_of new ≡ with_job (owing_all (world_of old)) (job_seen new.job) → IsAsked image old ApplyAll new Empty
+unfolding request_next
+asked_apply_all image old new a stays = record {
+  world = λ I holds. stays
+      ∙ ap (with_job (owing_all (world_of old))) (sym (a.makes I (owing_all (world_of old)) (sym holds.manifest_is) refl refl));
   says = λ I holds. refl;
 }
 

@@ -4,3 +4,4 @@ pub mod Steps
 pub mod Jobs
 pub mod Turns
 pub mod Openings
+pub mod Changes

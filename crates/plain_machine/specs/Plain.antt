@@ -1,9 +1,9 @@
 -- What a call without a disk makes of a request.
-use Rattle.std.specs.Prelude.{◌≡◌, ℕ, List, Option, Some, None}
+use Rattle.std.specs.Prelude.{◌≡◌, ℕ, List, Option, Some, None, Result, Ok, Err}
 use Rattle.settings_tree.specs.declared.held.Held.{Held}
 use Rattle.typed_settings.specs.declared.row.Row.{Row}
 use Rattle.settings_machine.specs.World.{Key, Image, World}
-use Rattle.settings_machine.specs.Requests.{KeyList, Request, Reply, Said, Empty, Refused}
+use Rattle.settings_machine.specs.Requests.{KeyList, Body, Request, Reply, Said, Empty, Refused}
 use Rattle.settings_machine.specs.declared.refusal.Refusal.{Refusal}
 use Rattle.settings_machine.specs.declared.refusal.Refusal.TheVariants.{NoPending}
 use Rattle.settings_machine.specs.Step.{Answered, request_next}
@@ -25,3 +25,8 @@ keys_reply keys = Said (KeyList keys)
 -- How the commit of a transaction that isn't there is answered.
 abbrev pub missing_reply : List ℕ → Reply
 missing_reply tx = Refused (NoPending tx)
+
+-- How a request is answered that comes to what a body says, or is refused.
+abbrev pub reply_by : {X : Type 0} → (X → Body) → Result X Refusal → Reply
+reply_by body (Ok x) = Said (body x)
+reply_by body (Err refusal) = Refused refusal

@@ -1,11 +1,12 @@
 //! The requests that begin a job. What each tells is what the machine replies.
-ghost use Rattle.std.specs.Prelude.{◌≡◌, IfOk, OnOk, OnErr, None, Err};
+ghost use Rattle.std.specs.Prelude.{◌≡◌, List, IfOk, OnOk, OnErr, None, Err};
 ghost use Rattle.std.specs.FinMap.{get};
 ghost use Rattle.plain_machine.specs.Plain.{keys_reply, missing_reply};
-ghost use Rattle.settings_machine.specs.Requests.{Apply, CommitAndApply, Empty};
+ghost use Rattle.settings_machine.specs.Requests.{Apply, ApplyAll, CommitAndApply, Empty};
 ghost use Rattle.settings_machine.specs.Typed.{IsTypedHeld};
 ghost use Rattle.pending_tx.specs.declared.answers.CommitError.TheVariants.{NoPending as Missing};
 ghost use Rattle.typed_settings.specs.Order.{IsTable};
+ghost use Rattle.typed_settings.specs.declared.row.Row.{Row};
 ghost use Rattle.plain_machine.specs.Steps.{IsAsked};
 ghost use Rattle.plain_machine.specs.Worlds.{world_of};
 
@@ -15,7 +16,7 @@ use crate::machine::PlainMachine;
 use crate::pending::keep_rule;
 use pending_tx::CommitError;
 use settings_machine::apply;
-use settings_tree::{KeyList, TxName};
+use settings_tree::{KeyList, Owed, TxName};
 use std::alloc::{AllocError, Global};
 
 impl PlainMachine {
@@ -28,6 +29,18 @@ impl PlainMachine {
         ensures unchanged { OnErr result (world_of self.new ≡ world_of self.old) }
     {
         apply(alloc, &image.manifest, &self.held.owed, &mut self.job)
+    }
+
+    /// All is owed from then on and is to be paid: a job begins where none runs, and a running one is asked for again. The only
+    /// error is out of memory, which leaves the machine as it was. It takes the time of `settings_machine::apply`.
+    pub fn apply_all(&mut self, alloc: Global, image: &PlainImage) -> Result<(), AllocError>
+        ensures asked { OnOk result (IsAsked image.now self.old ApplyAll self.new Empty) }
+        ensures typed { (types : List Row) → IsTypedHeld types self.old.held → IsTypedHeld types self.new.held }
+        ensures unchanged { OnErr result (world_of self.new ≡ world_of self.old) }
+    {
+        apply(alloc, &image.manifest, &Owed::All, &mut self.job)?;
+        self.held.owed = Owed::All;
+        Ok(())
     }
 
     /// Commits the transaction and then applies, as one request, and tells the transaction's keys. `NoPending` comes

@@ -3,15 +3,19 @@
 //! The served program is compared with it, and the worked rows on requests, jobs and coverage run on it.
 #![tactic(auto)]
 
+mod after;
 mod applying;
 mod files;
+mod guarding;
 mod image;
 mod job_steps;
 mod machine;
 mod opening;
 mod opening_answer;
 mod pending;
+mod plans;
 mod ran;
+mod setting;
 mod todo;
 mod transactions;
 mod turn_answer;

@@ -2,7 +2,7 @@
 //!
 //! - `put PATH` puts a file of the image, of the lines below. `boot` reads the image, and begins a machine of the version 1.5.2 whose store was opened at a
 //!   boot, so that all is owed.
-//! - `GET PATH`, `PATCH PATH BODY`, `POST PATH` and `DELETE PATH` come to the status of the reply and its body, and `whole REQUEST` to all its bytes.
+//! - `GET PATH`, `PATCH PATH BODY`, `POST PATH [BODY]` and `DELETE PATH` come to the status of the reply and its body, and `whole REQUEST` to all its bytes.
 //! - `turn HOW` makes a turn, and `turns HOW` nine of them: a program ends with the status HOW, or it is `no-room`, `no-spawn`, `file-fault`, `sync-fault`
 //!   or `owed-fault`.
 //! - `open HOW` opens the store again, `at-boot` or `later`, or the disk fails the opening, which is `taken` or `untaken`.

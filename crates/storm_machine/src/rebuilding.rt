@@ -4,7 +4,7 @@ use key_names::Key;
 use machine_replies::{Host, Told};
 use pending_tx::{list, pending};
 use plain_machine::{OpeningAnswer, are_settings};
-use settings_machine::Request;
+use settings_machine::{Guard, Request};
 use settings_tree::{Content, Held, Pending, TxName};
 use std::alloc::{AllocError, Global};
 use version_links::Version;
@@ -60,7 +60,8 @@ fn set_live(alloc: Global, host: &mut Host, live: &Content) -> Result<(), Troubl
     };
     let pairs = changes(alloc, &host.machine.held.live, live)?;
     pend(alloc, host, tx.copy()?, pairs)?;
-    host.ask(alloc, &Request::Commit { tx })?;
+    let guard = Guard::Off;
+    host.ask(alloc, &Request::Commit { tx, guard })?;
     Ok(())
 }
 

@@ -10,6 +10,7 @@ use release_file::Release;
 use settings_machine::{Cause, Job, Request};
 use settings_tree::Held;
 use std::alloc::{AllocError, Global};
+use std::mem;
 use version_links::Version;
 
 /// A host next to a run.
@@ -74,17 +75,15 @@ fn left(host: &Host) -> Result<Option<Bytes>, AllocError> {
     }
 }
 
-// The machine makes a request that the disk failed and stored all the same: no job begins.
-fn take(alloc: Global, host: &mut Host, request: &Request) -> Result<Told, AllocError>
+// The machine makes a request that the disk failed and stored all the same: the job stays as it was.
+fn take(alloc: Global, host: &mut Host, request: &Request) -> Result<(), AllocError>
     requires { IsProper (request_of request.now) }
 {
-    match request {
-        Request::CommitAndApply { tx } => {
-            let tx = tx.copy()?;
-            host.ask(alloc, &Request::Commit { tx })
-        }
-        _ => host.ask(alloc, request),
-    }
+    let job = mem::replace(&mut host.machine.job, Job::Idle);
+    let told = host.ask(alloc, request);
+    host.machine.job = job;
+    told?;
+    Ok(())
 }
 
 // What a program ends with.

@@ -1,4 +1,4 @@
-use Rattle.std.proofs.Common.{List, refl, sym, ◌∙◌, ap, subst}
+use Rattle.std.proofs.Common.{List, sym, ◌∙◌, ap, subst}
 use Rattle.settings_machine.specs.JobSeen.{job_seen}
 use Rattle.settings_machine.specs.Typed.{IsTypedHeld}
 use Rattle.settings_machine.specs.World.{Key}
