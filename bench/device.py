@@ -2,8 +2,8 @@
 """device.py PROGRAM [ROUNDS]: what the program `settings` adds to the system calls that it makes, on the real disk and the real socket.
 
 For stores of 100, 1,000 and 10,000 settings, of which all are defaults or none is, it measures ROUNDS rounds (1,000) over the socket, one
-connection for each request: a PATCH of one setting, its commit, and a GET of it; the opening of the store, by `get` of one setting; and `migrate`. Each is traced once by strace, over a
-copy of the store. Then the program does it again, a small program in C makes the same calls, each over a fresh copy, and both are timed:
+connection for each request: a PATCH of one setting, its commit, a plan of what is owed then, a `POST /set` of the setting, and a GET of it; the opening of the
+store, by `get` of one setting; and `migrate`. Each is traced once by strace, over a copy of the store. Then the program does it again, a small program in C makes the same calls, each over a fresh copy, and both are timed:
 request by request in turn, of which the median is taken, and runs in turn, three of each, of which the least is taken. GET is also measured
 against a bare loop of accept, read, write and close; the memory of a server that was asked for settings is measured where these are texts of
 10, 100 and 1,000 bytes; and SQLite is measured besides. Tables are printed. Wants strace and a C compiler, and
@@ -23,7 +23,7 @@ from traces import built_in, list_of, traced
 COUNTS = (100, 1000, 10000)
 SIZES = (10, 100, 1000)
 RUNS = 3
-KINDS = ('PATCH', 'commit', 'GET')
+KINDS = ('PATCH', 'commit', 'plan', 'set', 'GET')
 RELEASE = 'version = "1.0.1"\n\n[migrations]\n"(1.0.0, 1.0.1)" = ["other"]\n\n[migration.other]\nkind = "replace-string"\nsetting = "settings.word"\nold = "old"\nnew = "new"\n'
 
 
