@@ -21,6 +21,9 @@ pub struct MemoryDoor {
     last: Option<Connection>,
     accepts: u64,
     accept_fails: Option<u64>,
+    // How many looks before each accept find nobody, and how many there were since the last one.
+    absent: u64,
+    looks: u64,
     ended: bool,
     broken: bool,
     busy: bool,
@@ -63,6 +66,8 @@ impl MemoryDoor {
             last: None,
             accepts: 0,
             accept_fails: None,
+            absent: 0,
+            looks: 0,
             ended: false,
             broken: false,
             busy: false,
@@ -75,6 +80,13 @@ impl MemoryDoor {
         ensures { self.new ≡ failing_at number self.old }
     {
         self.accept_fails = Some(number);
+    }
+
+    /// Makes so many looks before each accept find nobody. Without this an accept always answers at once.
+    pub fn keep_away(&mut self, looks: u64)
+        ensures { self.new ≡ record self.old { absent = looks } }
+    {
+        self.absent = looks;
     }
 
     /// The bytes written to the connection with this number, or None exactly where it wasn't accepted. Connections are
@@ -104,6 +116,7 @@ impl MemoryDoor {
 
 #[tactic(auto, using(crate::proofs::Doors::last_goes_on))]
 impl Door for MemoryDoor {
+    ghost use Rattle.disk_memory.specs.Plan.{one_more};
     ghost use Rattle.disk_memory.specs.Door.{told, state, door_faults, KeepsWaiting, TakesInput, ReadsLast, WritesLast};
 
     ghost faults = { door_faults };
@@ -111,6 +124,19 @@ impl Door for MemoryDoor {
     ghost state = { state };
 
     ghost told = { told };
+
+    fn is_awaited(&mut self) -> bool
+        ensures same { state self.new ≡ state self.old }
+        ensures told { told self.new ≡ told self.old }
+        ensures faults { door_faults self.new ≡ door_faults self.old }
+        ensures waiting { KeepsWaiting self.old self.new }
+        ensures last { self.new.last ≡ self.old.last }
+        ensures counted { self.new.looks ≡ one_more self.old.looks }
+        ensures present { result ≡ true → self.old.absent < self.new.looks }
+    {
+        self.looks = self.looks.saturating_add(1);
+        self.absent < self.looks
+    }
 
     fn accept(&mut self) -> Result<bool, Failed>
         requires idle { (state self.old).busy ≡ false }
@@ -120,6 +146,7 @@ impl Door for MemoryDoor {
         ensures cause { HasCause (door_faults self.old) (door_faults self.new) result }
         ensures taken { TakesInput self.old self.new result }
     {
+        self.looks = 0;
         self.accepts = self.accepts.saturating_add(1);
         if self.accept_fails == Some(self.accepts) {
             return Err(self.refuse());

@@ -19,6 +19,12 @@ pub trait Door {
     /// The bytes of each accepted connection, the last one first, where it tells them.
     ghost told: { Self → Option (List Exchange) };
 
+    /// Whether an accept would answer at once, so that whoever has something else to do should not begin it. It takes nothing.
+    fn is_awaited(&mut self) -> bool
+        ensures same { state self.new ≡ state self.old }
+        ensures told { told self.new ≡ told self.old }
+        ensures faults { faults self.new ≡ faults self.old };
+
     /// Takes the next connection. False where no further one will come.
     ///
     /// `Failed` where the door fails.

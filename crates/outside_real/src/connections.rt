@@ -126,9 +126,8 @@ impl Connections {
         Ok(elapsed)
     }
 
-    // Waits until something happens, and marks the clients to whom it happened.
-    fn poll_events(&mut self) -> io::Result<()> {
-        let timeout = self.timeout();
+    // Waits so long until something happens, without a limit for as long as it takes, and marks the clients to whom it happened.
+    fn poll_events(&mut self, timeout: Option<Duration>) -> io::Result<()> {
         self.poll.poll(&mut self.events, timeout)?;
         for event in self.events.iter() {
             if event.token() == LISTENER {
@@ -253,14 +252,15 @@ impl Connections {
         Ok(())
     }
 
-    // Waits until something happens, and does all that can be done at once.
+    // Waits so long until something happens, and does all that can be done at once.
     fn round(
         &mut self,
         clock: &impl Clock,
         alloc: Global,
         framing: &impl Framing,
+        timeout: Option<Duration>,
     ) -> io::Result<()> {
-        self.poll_events()?;
+        self.poll_events(timeout)?;
         self.accept_all(alloc, framing)?;
         let elapsed = self.elapsed(clock)?;
         self.progress_all(framing, elapsed);
@@ -288,10 +288,29 @@ impl Connections {
             if let Some(client) = self.take_whole(alloc) {
                 return Ok(client);
             }
-            self.round(clock, alloc, framing)?;
+            let timeout = self.timeout();
+            self.round(clock, alloc, framing, timeout)?;
             self.batch = BATCH;
         }
         Err(io::Error::from(ErrorKind::Other))
+    }
+
+    /// Whether the request of a client is whole, after a look at all of them that waits for none. Also where that look failed, so that the
+    /// next call of `next` finds out.
+    pub fn has_whole(
+        &mut self,
+        clock: &impl Clock,
+        alloc: Global,
+        framing: &impl Framing,
+    ) -> bool {
+        if self
+            .round(clock, alloc, framing, Some(Duration::ZERO))
+            .is_err()
+        {
+            return true;
+        }
+        self.batch = BATCH;
+        self.reading.iter().any(|client| client.is_whole())
     }
 
     // Drops those that have taken nothing for longest, while too much is kept of answers.
@@ -321,7 +340,8 @@ impl Connections {
             if !self.draining.iter().any(|client| client.has_unsent()) {
                 return Ok(());
             }
-            self.poll_events()?;
+            let timeout = self.timeout();
+            self.poll_events(timeout)?;
             let elapsed = self.elapsed(clock)?;
             self.draining.retain_mut(|client| client.progress(elapsed));
         }

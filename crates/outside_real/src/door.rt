@@ -188,6 +188,13 @@ where
 
     ghost told = { λ _. None };
 
+    fn is_awaited(&mut self) -> bool {
+        match &mut self.connections {
+            Some(connections) => connections.has_whole(&self.rt, self.rt.alloc(), &self.framing),
+            None => true,
+        }
+    }
+
     fn accept(&mut self) -> Result<bool, Failed> {
         let answer = self.client();
         match self

@@ -48,6 +48,10 @@ impl Door for CountedDoor {
 
     ghost told = { λ d. told d.door };
 
+    fn is_awaited(&mut self) -> bool {
+        self.door.is_awaited()
+    }
+
     fn accept(&mut self) -> Result<bool, Failed> {
         self.door.accept()
     }
