@@ -14,4 +14,5 @@ mod words_error;
 
 pub use command::Command;
 pub use law::laws;
+pub use pair::{pair_in, setting_in, split};
 pub use words_error::WordsError;

@@ -98,6 +98,8 @@ pub data Ends (words : List (List ℕ)) (f f' : List ℕ) (l l' : List (Option E
   by_order : (order : Order) (ending : Ending) → Spells words order → IsAtEnd order ending l l' → f' ≡ f → Ends words f f' l l' ending.status ending.line
   -- The words order nothing, and nothing is asked.
   misused : SpellsNone words → l' ≡ l → f' ≡ f → Ends words f f' l l' 2 (codes "settingsctl: usage\n")
+  -- It ran out of memory before the words were read, and nothing is asked.
+  unread : l' ≡ l → f' ≡ f → Ends words f f' l l' 1 (codes "settingsctl: memory\n")
   -- It ran out of memory.
   without_memory : (order : Order) → Spells words order → IsStopped order l l' → f' ≡ f → Ends words f f' l l' 1 (codes "settingsctl: memory\n")
   -- A link failed.

@@ -4,5 +4,7 @@ pub mod Exchanges
 pub mod Words
 pub mod Orders
 pub mod Jobs
+pub mod Members
+pub mod Lines
 pub mod Steps
 pub mod Ended

@@ -1,11 +1,16 @@
 -- What an order does, as a function of the replies so far: the next question, or the end with its exit status and its output.
 use Rattle.std.specs.Prelude.{◌≡◌, ℕ, Bool, true, ◌&&◌, ◌==◌, ◌-◌, nat_le, if◌then◌else◌, List, [], ◌∷◌, ◌++◌, length, codes, decimal}
-use Rattle.std.specs.Prelude.{Option, Some, None, slice_get}
+use Rattle.std.specs.Prelude.{Option, Some, None, option_and_then, slice_get, false}
 use Rattle.std.specs.List.{flat_map, list_any}
 use Rattle.std.specs.Str.{bytes_eq}
 use Rattle.percent_encoding.specs.Percent.{percent_encode}
 use Rattle.host_client.specs.Question.{is_question}
-use Rattle.host_client.specs.Orders.{Order, plain, get, pending, discard, transactions, commit, apply, wait}
+use Rattle.serde_json.specs.Data.{Data, Members}
+use Rattle.serde_json.specs.Find.{as_object}
+use Rattle.serde_json.specs.Find as find
+use Rattle.json_trees.specs.Json.{data_of}
+use Rattle.host_client.specs.Orders.{Order, plain, get, set, edit, pending, discard, transactions, commit, plan, try_out, show, apply, wait, status, verify}
+use Rattle.host_client.specs.Lines.{is_plan, plan_lines, plan_status, state_lines, state_status, is_status, status_lines}
 use Rattle.host_client.specs.Jobs.{job_of, cause_status}
 use Rattle.host_client.specs.declared.job.Job.{Job}
 use Rattle.host_client.specs.declared.job.Job.TheVariants.{Running, Done, Owed, Failed, Unknown}
@@ -36,6 +41,40 @@ abbrev pub pending_target : Option (List ℕ) → List ℕ
 pending_target None = codes "/tx"
 pending_target (Some tx) = codes "/tx?tx=" ++ escaped tx
 
+-- A transaction after a first pair of a query, if one is given.
+abbrev pub tx_part : Option (List ℕ) → List ℕ
+tx_part None = []
+tx_part (Some tx) = codes "&tx=" ++ escaped tx
+
+-- What would happen, now or after the commit of a transaction.
+abbrev pub plan_target : Option (List ℕ) → List ℕ
+plan_target None = codes "/plan"
+plan_target (Some tx) = codes "/plan?tx=" ++ escaped tx
+
+abbrev pub plan_question : Option (List ℕ) → Question
+plan_question tx = question (codes "GET") (plan_target tx)
+
+-- What is owed is applied, or all is.
+abbrev pub apply_target : Bool → List ℕ
+apply_target false = codes "/tx/apply"
+apply_target true = codes "/tx/apply?all"
+
+-- A question with a body.
+abbrev pub sending : List ℕ → List ℕ → List ℕ → Question
+sending method target body = record { method = method; target = target; body = Some body }
+
+-- Changes become pending in a transaction.
+abbrev pub edit_question : List ℕ → List ℕ → Question
+edit_question tx body = sending (codes "PATCH") (codes "/settings?tx=" ++ escaped tx) body
+
+-- A transaction ends without a commit.
+abbrev pub discard_question : List ℕ → Question
+discard_question tx = question (codes "DELETE") (codes "/tx?tx=" ++ escaped tx)
+
+-- The transaction in which changes are tried out.
+abbrev pub own_tx : List ℕ
+own_tx = codes "settingsctl-plan"
+
 -- The settings at a key and below it.
 abbrev pub below_question : List ℕ → Question
 below_question key = question (codes "GET") (codes "/settings?prefix=" ++ escaped key)
@@ -44,16 +83,23 @@ below_question key = question (codes "GET") (codes "/settings?prefix=" ++ escape
 abbrev pub job_question : Question
 job_question = question (codes "GET") (codes "/job")
 
--- What is asked first.
+-- What is asked first. A transaction that an earlier trial left is dropped.
 abbrev pub first_question : Order → Question
 first_question (plain method target body) = record { method = method; target = target; body = body }
 first_question (get keys) = question (codes "GET") (settings_target keys)
+first_question (set body) = sending (codes "POST") (codes "/set") body
+first_question (edit tx body) = edit_question tx body
 first_question (pending tx) = question (codes "GET") (pending_target tx)
-first_question (discard tx) = question (codes "DELETE") (codes "/tx?tx=" ++ escaped tx)
+first_question (discard tx) = discard_question tx
 first_question transactions = question (codes "GET") (codes "/tx/list")
 first_question (commit tx) = question (codes "POST") (codes "/tx/commit_and_apply?tx=" ++ escaped tx)
-first_question apply = question (codes "POST") (codes "/tx/apply")
+first_question (plan tx) = plan_question tx
+first_question (try_out body) = discard_question own_tx
+first_question (show file tx) = question (codes "GET") (codes "/plan/file?name=" ++ escaped file ++ tx_part tx)
+first_question (apply all) = question (codes "POST") (apply_target all)
 first_question (wait seconds) = job_question
+first_question status = question (codes "GET") (codes "/store")
+first_question verify = question (codes "GET") (codes "/verify")
 
 -- ---- ends
 
@@ -89,7 +135,85 @@ refused_by front reply = ended 13 (front ++ refused_line reply.status reply.body
 abbrev pub ended_by : Got → Step
 ended_by reply = if is_success reply.status then ended 0 (body_line reply.body) else refused_by [] reply
 
+-- A reply that can't be read as what was asked for.
+abbrev pub bad_reply : Step
+bad_reply = ended 21 (codes "settingsctl: bad reply\n")
+
 -- ---- after the first reply
+
+-- The bytes of a success, as they are.
+abbrev pub shown_by : Got → Step
+shown_by reply = if is_success reply.status then ended 0 reply.body else refused_by [] reply
+
+-- A plan by its lines.
+abbrev pub plan_read : Data → Step
+plan_read value = if is_plan value then ended (plan_status value) (plan_lines value) else bad_reply
+
+abbrev pub plan_told : Option Data → Step
+plan_told None = bad_reply
+plan_told (Some value) = plan_read value
+
+abbrev pub by_plan : Got → Step
+by_plan reply = if is_success reply.status then plan_told (data_of reply.body) else refused_by [] reply
+
+-- Changes are tried out: they become pending in a transaction of their own, which is planned and dropped; then the plan is printed.
+abbrev pub ask_discard : Step
+ask_discard = asking (discard_question own_tx)
+
+abbrev pub ask_plan : Step
+ask_plan = asking (plan_question (Some own_tx))
+
+abbrev pub ask_edit : List ℕ → Step
+ask_edit body = asking (edit_question own_tx body)
+
+abbrev pub after_plan : Got → List Got → Step
+after_plan planned [] = ask_discard
+after_plan planned (dropped ∷ replies) = if is_success dropped.status then by_plan planned else refused_by [] dropped
+
+abbrev pub after_edit : List Got → Step
+after_edit [] = ask_plan
+after_edit (planned ∷ replies) = after_plan planned replies
+
+abbrev pub after_drop : List ℕ → List Got → Step
+after_drop body [] = ask_edit body
+after_drop body (edited ∷ replies) = if is_success edited.status then after_edit replies else refused_by [] edited
+
+abbrev pub after_try : List ℕ → Got → List Got → Step
+after_try body reply replies = if is_success reply.status then after_drop body replies else refused_by [] reply
+
+-- The files by their states.
+abbrev pub states_told : Option Members → Step
+states_told None = bad_reply
+states_told (Some files) = ended (state_status files) (state_lines files)
+
+abbrev pub files_of : Data → Option Members
+files_of value = option_and_then as_object (find.get (codes "files") value)
+
+abbrev pub files_told : Option Data → Step
+files_told None = bad_reply
+files_told (Some value) = states_told (files_of value)
+
+abbrev pub by_states : Got → Step
+by_states reply = if is_success reply.status then files_told (data_of reply.body) else refused_by [] reply
+
+-- The store, and then its job.
+abbrev pub status_read : Data → Data → Step
+status_read store job = if is_status store job then ended 0 (status_lines store job) else bad_reply
+
+abbrev pub both_told : Option Data → Option Data → Step
+both_told None job = bad_reply
+both_told (Some store) None = bad_reply
+both_told (Some store) (Some job) = status_read store job
+
+abbrev pub status_told : Got → Got → Step
+status_told store job = both_told (data_of store.body) (data_of job.body)
+
+abbrev pub after_store : Got → List Got → Step
+after_store store [] = asking job_question
+after_store store (job ∷ replies) = if is_success job.status then status_told store job else refused_by [] job
+
+abbrev pub after_status : Got → List Got → Step
+after_status reply replies = if is_success reply.status then after_store reply replies else refused_by [] reply
 
 -- One key without a value of its own has settings below it, or nothing is there and its refusal stays.
 abbrev pub after_below : Got → Got → Step
@@ -126,9 +250,15 @@ after_change reply replies = if is_success reply.status then by_last (body_line 
 
 abbrev pub follow : Order → Got → List Got → Step
 follow (get keys) reply replies = after_get keys reply replies
+follow (set body) reply replies = after_change reply replies
 follow (commit tx) reply replies = after_change reply replies
-follow apply reply replies = after_change reply replies
+follow (plan tx) reply replies = by_plan reply
+follow (try_out body) reply replies = after_try body reply replies
+follow (show file tx) reply replies = shown_by reply
+follow (apply all) reply replies = after_change reply replies
 follow (wait seconds) reply replies = by_last [] (last_of (reply ∷ replies))
+follow status reply replies = after_status reply replies
+follow verify reply replies = by_states reply
 follow _ reply replies = ended_by reply
 
 -- What comes after these replies.
@@ -139,4 +269,4 @@ next order (reply ∷ replies) = follow order reply replies
 -- What is asked can be asked, and a run of questions ends with one of these exit statuses.
 abbrev pub IsSound : Step → Type 0
 IsSound (Ask q) = is_question q.method q.target q.body ≡ true
-IsSound (End ending) = list_any (λ status. status == ending.status) (0 ∷ 1 ∷ 2 ∷ 3 ∷ 5 ∷ 10 ∷ 13 ∷ 21 ∷ []) ≡ true
+IsSound (End ending) = list_any (λ status. status == ending.status) (0 ∷ 1 ∷ 2 ∷ 3 ∷ 5 ∷ 10 ∷ 13 ∷ 19 ∷ 21 ∷ []) ≡ true

@@ -57,10 +57,12 @@ pub fn run_client<L: Link, O: Sink>(
     ensures { IsRun (texts words.now) (map L.faults links.old) (map L.faults links.new) (map L.told links.old) (map L.told links.new)
         (O.faults out.old) (O.faults out.new) (O.told out.old) (O.told out.new) result }
 {
-    let Some(command) = command_of(words) else {
-        return printed(out, 2, b"settingsctl: usage\n");
+    let command = match command_of(alloc, words) {
+        Ok(Some(command)) => command,
+        Ok(None) => return printed(out, 2, b"settingsctl: usage\n"),
+        Err(_) => return printed(out, 1, b"settingsctl: memory\n"),
     };
-    match carry_out(alloc, command, links) {
+    match carry_out(alloc, &command, links) {
         Ok(ending) => printed(out, ending.status, ending.line.as_slice()),
         Err(Stop::Link) => printed(out, 4, b"settingsctl: link\n"),
         Err(Stop::BadReply) => printed(out, 21, b"settingsctl: bad reply\n"),

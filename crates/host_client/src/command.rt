@@ -1,15 +1,18 @@
 //! The words of the command line are read.
-ghost use Rattle.std.specs.Prelude.{◌≡◌, ◌≢◌, ◌∷◌, [], ℕ, List, Option, MatchOption, codes};
-ghost use Rattle.std.specs.Option.{option_copied};
+ghost use Rattle.std.specs.Prelude.{◌≡◌, IfOk, MatchOption};
 ghost use Rattle.outside.specs.Spawner.{texts};
-ghost use Rattle.host_client.specs.Words.{words_of, AsksFor};
-ghost use Rattle.host_client.specs.Orders.{Order, Spells, SpellsNone, IsSeconds, AsksAtMost, order_of, most_questions, is_verb};
+ghost use Rattle.host_client.specs.Orders.{Order, Spells, SpellsNone, AsksAtMost, order_of, pace_of, is_verb};
 
-use crate::length::{is_number, number_of};
-use crate::question::is_question;
+use crate::changing::{edit_in, plan_in, set_in, unset_in};
+use crate::verbs::{
+    apply_in, commit_in, discard_in, pending_in, plain_in, show_in, status_in, transactions_in,
+    verify_in, wait_in,
+};
+use key_names::Text;
+use std::alloc::{AllocError, Global};
 
 /// What the words order.
-#[derive(Clone, Copy, Debug)]
+#[derive(Debug, Drop)]
 pub enum Command<'a> {
     /// One question.
     Plain {
@@ -24,6 +27,18 @@ pub enum Command<'a> {
     Get {
         /// At these keys; all of them where there is no key.
         keys: &'a [String],
+    },
+    /// Changes are made at once, and applied.
+    Set {
+        /// The body that asks for them.
+        body: Text,
+    },
+    /// Changes become pending.
+    Edit {
+        /// In this transaction.
+        tx: &'a [u8],
+        /// The body that asks for them.
+        body: Text,
     },
     /// What is pending.
     Pending {
@@ -42,197 +57,117 @@ pub enum Command<'a> {
         /// Its name.
         tx: &'a [u8],
     },
+    /// What an apply would do.
+    Plan {
+        /// After the commit of this transaction; without it now.
+        tx: Option<&'a [u8]>,
+    },
+    /// What an apply would do after changes, which aren't made.
+    TryOut {
+        /// The body that asks for them.
+        body: Text,
+    },
+    /// A file as it would be written.
+    Show {
+        /// Its name.
+        file: &'a [u8],
+        /// After the commit of this transaction; without it now.
+        tx: Option<&'a [u8]>,
+    },
     /// What is owed is applied.
-    Apply,
+    Apply {
+        /// Whether all is owed first.
+        all: bool,
+    },
     /// The job is waited for.
     Wait {
         /// So many seconds.
         seconds: Option<usize>,
     },
+    /// The version, the job, what is owed and what is pending.
+    Status,
+    /// The states of the files.
+    Verify,
 }
 
-// How many seconds may be waited for.
-const MOST_SECONDS: usize = 3600;
-
-// The parts of a question.
-#[derive(Clone, Copy, Debug)]
-struct Parts<'a> {
-    method: &'a [u8],
-    target: &'a [u8],
-    body: Option<&'a [u8]>,
+/// How many questions are asked.
+#[derive(Clone, Copy, Debug, PartialEq, Eq)]
+pub struct Pace {
+    /// So many without a pause between them.
+    pub at_once: usize,
+    /// So many at most.
+    pub most: usize,
 }
 
-// METHOD, TARGET and, where it is given, BODY.
-fn parts_of(words: &[String]) -> Option<Parts<'_>>
-    ensures { MatchOption result
-        ((method target : List ℕ) (body : Option (List ℕ)) → texts words.now ≢ words_of method target body)
-        (λ q. texts words.now ≡ words_of q.method.now q.target.now (option_copied q.body)) }
+/// How many seconds may be waited for.
+pub(crate) const MOST_SECONDS: usize = 3600;
+
+/// What the words order; none where they order nothing. The only error is out of memory.
+pub(crate) fn command_of(
+    alloc: Global,
+    words: &[String],
+) -> Result<Option<Command<'_>>, AllocError>
+    ensures { IfOk result (λ o. MatchOption o (SpellsNone (texts words.now))
+        (λ command. Spells (texts words.now) (order_of command))) }
 {
-    match words {
-        [method, target] => Some(Parts {
-            method: method.as_bytes(),
-            target: target.as_bytes(),
-            body: None,
-        }),
-        [method, target, body] => Some(Parts {
-            method: method.as_bytes(),
-            target: target.as_bytes(),
-            body: Some(body.as_bytes()),
-        }),
-        _ => None,
-    }
-}
-
-// The question that the words are, where it can be asked.
-fn plain_in(words: &[String]) -> Option<Command<'_>>
-    ensures { MatchOption result
-        ((method target : List ℕ) (body : Option (List ℕ)) → ¬ AsksFor (texts words.now) method target body)
-        (λ command. Spells (texts words.now) (order_of command)) }
-{
-    let parts = parts_of(words)?;
-    if is_question(parts.method, parts.target, parts.body) {
-        Some(Command::Plain {
-            method: parts.method,
-            target: parts.target,
-            body: parts.body,
-        })
-    } else {
-        None
-    }
-}
-
-// The one word that there is.
-fn one_in(words: &[String]) -> Option<&[u8]>
-    ensures { MatchOption result
-        ((word : List ℕ) → texts words.now ≢ word ∷ []) (λ word. texts words.now ≡ word.now ∷ []) }
-{
-    match words {
-        [word] => Some(word.as_bytes()),
-        _ => None,
-    }
-}
-
-// What `pending` orders with these words after it.
-fn pending_in(words: &[String]) -> Option<Command<'_>>
-    ensures { MatchOption result (SpellsNone (codes "pending" ∷ texts words.now))
-        (λ command. Spells (codes "pending" ∷ texts words.now) (order_of command)) }
-{
-    if words.is_empty() {
-        return Some(Command::Pending { tx: None });
-    }
-    let tx = one_in(words)?;
-    Some(Command::Pending { tx: Some(tx) })
-}
-
-// What `drop` orders.
-fn discard_in(words: &[String]) -> Option<Command<'_>>
-    ensures { MatchOption result (SpellsNone (codes "drop" ∷ texts words.now))
-        (λ command. Spells (codes "drop" ∷ texts words.now) (order_of command)) }
-{
-    let tx = one_in(words)?;
-    Some(Command::Discard { tx })
-}
-
-// What `commit` orders.
-fn commit_in(words: &[String]) -> Option<Command<'_>>
-    ensures { MatchOption result (SpellsNone (codes "commit" ∷ texts words.now))
-        (λ command. Spells (codes "commit" ∷ texts words.now) (order_of command)) }
-{
-    let tx = one_in(words)?;
-    Some(Command::Commit { tx })
-}
-
-// What `transactions` orders.
-fn transactions_in(words: &[String]) -> Option<Command<'_>>
-    ensures { MatchOption result (SpellsNone (codes "transactions" ∷ texts words.now))
-        (λ command. Spells (codes "transactions" ∷ texts words.now) (order_of command)) }
-{
-    if words.is_empty() {
-        Some(Command::Transactions)
-    } else {
-        None
-    }
-}
-
-// What `apply` orders.
-fn apply_in(words: &[String]) -> Option<Command<'_>>
-    ensures { MatchOption result (SpellsNone (codes "apply" ∷ texts words.now))
-        (λ command. Spells (codes "apply" ∷ texts words.now) (order_of command)) }
-{
-    if words.is_empty() {
-        Some(Command::Apply)
-    } else {
-        None
-    }
-}
-
-// The number of seconds that the word is.
-fn seconds_in(text: &[u8]) -> Option<usize>
-    ensures { MatchOption result ((seconds : ℕ) → ¬ IsSeconds text.now seconds) (IsSeconds text.now) }
-{
-    if !is_number(text) {
-        return None;
-    }
-    match number_of(text) {
-        Some(seconds) if seconds <= MOST_SECONDS => Some(seconds),
-        _ => None,
-    }
-}
-
-// What `wait` orders.
-fn wait_in(words: &[String]) -> Option<Command<'_>>
-    ensures { MatchOption result (SpellsNone (codes "wait" ∷ texts words.now))
-        (λ command. Spells (codes "wait" ∷ texts words.now) (order_of command)) }
-{
-    if words.is_empty() {
-        return Some(Command::Wait { seconds: None });
-    }
-    let text = one_in(words)?;
-    let seconds = seconds_in(text)?;
-    Some(Command::Wait {
-        seconds: Some(seconds),
-    })
-}
-
-/// What the words order; none where they order nothing.
-pub fn command_of(words: &[String]) -> Option<Command<'_>>
-    ensures { MatchOption result (SpellsNone (texts words.now))
-        (λ command. Spells (texts words.now) (order_of command)) }
-{
-    let (word, rest) = words.split_first()?;
+    let Some((word, rest)) = words.split_first() else {
+        return Ok(None);
+    };
     match word.as_str() {
-        "get" => Some(Command::Get { keys: rest }),
-        "pending" => pending_in(rest),
-        "drop" => discard_in(rest),
-        "transactions" => transactions_in(rest),
-        "commit" => commit_in(rest),
-        "apply" => apply_in(rest),
-        "wait" => wait_in(rest),
-        _ => plain_in(words),
+        "get" => Ok(Some(Command::Get { keys: rest })),
+        "set" => set_in(alloc, rest),
+        "unset" => unset_in(alloc, rest),
+        "edit" => edit_in(alloc, rest),
+        "plan" => plan_in(alloc, rest),
+        "pending" => Ok(pending_in(rest)),
+        "drop" => Ok(discard_in(rest)),
+        "transactions" => Ok(transactions_in(rest)),
+        "commit" => Ok(commit_in(rest)),
+        "show" => Ok(show_in(rest)),
+        "apply" => Ok(apply_in(rest)),
+        "wait" => Ok(wait_in(rest)),
+        "status" => Ok(status_in(rest)),
+        "verify" => Ok(verify_in(rest)),
+        _ => Ok(plain_in(words)),
     }
 }
 
-fn questions_of(command: Command<'_>) -> usize
-    ensures { result ≡ most_questions (order_of command.entry) }
+// At most so many questions, two of them at once.
+fn waiting(most: usize) -> Pace
+    ensures { result ≡ record { at_once = 2; most = most } }
+{
+    Pace { at_once: 2, most }
+}
+
+fn pace_of(command: &Command<'_>) -> Pace
+    ensures { result ≡ pace_of (order_of command.now) }
 {
     match command {
-        Command::Commit { .. } | Command::Apply => 302,
-        Command::Wait { seconds: None } => 301,
+        Command::Set { .. } | Command::Commit { .. } | Command::Apply { .. } => waiting(302),
+        Command::TryOut { .. } => Pace {
+            at_once: 4,
+            most: 4,
+        },
+        Command::Wait { seconds: None } => waiting(301),
         Command::Wait {
             seconds: Some(seconds),
-        } => seconds.min(MOST_SECONDS) + 1,
-        _ => 2,
+        } => waiting((*seconds).min(MOST_SECONDS) + 1),
+        _ => waiting(2),
     }
 }
 
 /// How many questions the words ask at most: none where they order nothing, as many as there are seconds to wait and
-/// one more for `wait`, by default 301, one more than that for `commit` and `apply`, and else 2.
-pub fn most_questions(words: &[String]) -> usize
-    ensures { AsksAtMost (texts words.now) result }
+/// one more for `wait`, by default 301, one more than that for `set`, `unset`, `commit` and `apply`, 4 for a plan of
+/// changes, and else 2. All but those that wait for a job are asked at once. The only error is out of memory.
+pub fn pace_in(alloc: Global, words: &[String]) -> Result<Pace, AllocError>
+    ensures { IfOk result (AsksAtMost (texts words.now)) }
 {
-    match command_of(words) {
-        Some(command) => questions_of(command),
-        None => 0,
+    match command_of(alloc, words)? {
+        Some(command) => Ok(pace_of(&command)),
+        None => Ok(Pace {
+            at_once: 0,
+            most: 0,
+        }),
     }
 }
 
@@ -242,6 +177,19 @@ pub fn is_verb(word: &str) -> bool
 {
     matches!(
         word,
-        "get" | "pending" | "drop" | "transactions" | "commit" | "apply" | "wait"
+        "get"
+            | "set"
+            | "unset"
+            | "edit"
+            | "pending"
+            | "drop"
+            | "transactions"
+            | "commit"
+            | "plan"
+            | "show"
+            | "apply"
+            | "wait"
+            | "status"
+            | "verify"
     )
 }

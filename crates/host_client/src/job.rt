@@ -1,8 +1,9 @@
 //! What a reply tells of the job.
 ghost use Rattle.std.specs.Prelude.{◌≡◌, IfOk, option_map};
 ghost use Rattle.serde_json.specs.View.{view, items_view};
-ghost use Rattle.host_client.specs.Jobs.{text_in, list_in, owes_nothing, failed_in, in_state, job_in, job_of, cause_status};
+ghost use Rattle.host_client.specs.Jobs.{is_empty, owes_nothing, failed_in, in_state, job_in, job_of, cause_status};
 
+use crate::members::{list_in, text_in};
 use json_trees::json_of;
 use key_names::Bytes;
 use serde_json::Value;
@@ -26,28 +27,21 @@ pub enum Job {
     Unknown,
 }
 
-// The text of a member.
-fn text_in<'a>(value: &'a Value, name: &str) -> Option<&'a str>
-    ensures { option_map (λ s. s.now) result ≡ text_in name.now (view value.now) }
+/// Whether it is a list without items.
+pub(crate) fn is_empty(list: Option<&Vec<Value>>) -> bool
+    ensures { result ≡ is_empty (option_map (λ v. items_view v.now.items) list.entry) }
 {
-    value.get(name).and_then(Value::as_str)
-}
-
-// The list of a member.
-fn list_in<'a>(value: &'a Value, name: &str) -> Option<&'a Vec<Value>>
-    ensures { option_map (λ v. items_view v.now.items) result ≡ list_in name.now (view value.now) }
-{
-    value.get(name).and_then(Value::as_array)
+    match list {
+        Some(list) => list.as_slice().is_empty(),
+        None => false,
+    }
 }
 
 // Whether nothing is owed.
 fn owes_nothing(value: &Value) -> bool
     ensures { result ≡ owes_nothing (view value.now) }
 {
-    match list_in(value, "owed") {
-        Some(owed) => owed.as_slice().is_empty(),
-        None => false,
-    }
+    is_empty(list_in(value, "owed"))
 }
 
 // The job that failed.

@@ -5,23 +5,32 @@
 //! `serde_json` states it.
 #![tactic(auto)]
 
+mod asked;
+mod changing;
 mod client;
 mod command;
+mod ending;
 mod exchange;
 mod exchange_error;
 mod job;
 mod length;
+mod lines;
+mod members;
 mod next;
+mod planned;
 mod question;
 mod reply;
 mod reply_error;
+mod states;
+mod status;
 mod step;
 mod stop;
 mod target;
 mod turns;
+mod verbs;
 
 pub use client::run_client;
-pub use command::{is_verb, most_questions};
+pub use command::{Pace, is_verb, pace_in};
 pub use exchange::ask;
 pub use exchange_error::AskError;
 pub use question::{is_question, question_text};

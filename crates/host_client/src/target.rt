@@ -1,7 +1,8 @@
 //! Targets with a query.
-ghost use Rattle.std.specs.Prelude.{◌≡◌, ◌++◌, ◌∷◌, IfOk, OnOk, string_bytes};
+ghost use Rattle.std.specs.Prelude.{◌≡◌, ◌++◌, ◌∷◌, codes, IfOk, OnOk, string_bytes};
+ghost use Rattle.std.specs.Option.{option_copied};
 ghost use Rattle.outside.specs.Spawner.{texts};
-ghost use Rattle.host_client.specs.Steps.{escaped, settings_target};
+ghost use Rattle.host_client.specs.Steps.{escaped, settings_target, tx_part};
 
 use key_names::Bytes;
 use percent_encoding::{AsciiSet, NON_ALPHANUMERIC, ascii_set, percent_encode};
@@ -47,4 +48,23 @@ pub(crate) fn target_of_settings(alloc: Global, keys: &[String]) -> Result<Bytes
         [] => Ok(Bytes::of(b"/settings".to_vec(alloc)?)),
         [key, others @ ..] => target_of_keys(alloc, key.as_bytes(), others),
     }
+}
+
+/// The target of the file as it would be written, now or after the commit of the transaction. The only error is out of
+/// memory.
+pub(crate) fn target_of_file(
+    alloc: Global,
+    file: &[u8],
+    tx: Option<&[u8]>,
+) -> Result<Bytes, AllocError>
+    ensures { IfOk result (λ target. target
+        ≡ codes "/plan/file?name=" ++ escaped file.now ++ tx_part (option_copied tx.entry)) }
+{
+    let mut text = String::from_str(alloc, "/plan/file?name=")?;
+    push_escaped(&mut text, file)?;
+    if let Some(tx) = tx {
+        text.push_str("&tx=")?;
+        push_escaped(&mut text, tx)?;
+    }
+    Ok(Bytes::of(text.into_bytes()))
 }

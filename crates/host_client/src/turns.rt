@@ -51,21 +51,21 @@ fn reply_to<L: Link>(alloc: Global, link: &mut L, question: &Question) -> Result
 // One turn: the order ends, or its next question is asked over the link and the reply is added.
 fn turn<L: Link>(
     alloc: Global,
-    command: Command<'_>,
+    command: &Command<'_>,
     replies: &mut Vec<Got>,
     link: &mut L,
 ) -> Result<Option<Ending>, Stop>
     ensures went { IfOk result (λ o. MatchOption o
-        (IsTurn (order_of command.entry) replies.old.items replies.new.items (L.told link.old) (L.told link.new))
-        (λ ending. EndsHere (order_of command.entry) replies.old.items ending (L.told link.old) (L.told link.new))) }
+        (IsTurn (order_of command.now) replies.old.items replies.new.items (L.told link.old) (L.told link.new))
+        (λ ending. EndsHere (order_of command.now) replies.old.items ending (L.told link.old) (L.told link.new))) }
     ensures badly { IsErrOf result Stop.BadReply
-        → AsksNext IsAnsweredBadly (order_of command.entry) replies.old.items (L.told link.old) (L.told link.new) }
+        → AsksNext IsAnsweredBadly (order_of command.now) replies.old.items (L.told link.old) (L.told link.new) }
     ensures at_length { IsErrOf result Stop.TooLong
-        → AsksNext IsAnsweredAtLength (order_of command.entry) replies.old.items (L.told link.old) (L.told link.new) }
+        → AsksNext IsAnsweredAtLength (order_of command.now) replies.old.items (L.told link.old) (L.told link.new) }
     ensures in_part { IsErrOf result Stop.Link
-        → AsksNext IsSentInPart (order_of command.entry) replies.old.items (L.told link.old) (L.told link.new) }
+        → AsksNext IsSentInPart (order_of command.now) replies.old.items (L.told link.old) (L.told link.new) }
     ensures memory { IsErrOf result Stop.Memory
-        → MayAsk (order_of command.entry) replies.old.items (L.told link.old) (L.told link.new) }
+        → MayAsk (order_of command.now) replies.old.items (L.told link.old) (L.told link.new) }
     ensures finished { IsErrOf result Stop.Unfinished → ⊥ }
     ensures cause { HasCauseOf Stop.Link (L.faults link.old) (L.faults link.new) result }
 {
@@ -85,10 +85,10 @@ fn turn<L: Link>(
 }
 
 // What is left to do where no link is.
-fn last_step(alloc: Global, command: Command<'_>, replies: &[Got]) -> Result<Ending, Stop>
-    ensures ended { IfOk result (λ ending. next (order_of command.entry) replies.now ≡ Step.End ending) }
+fn last_step(alloc: Global, command: &Command<'_>, replies: &[Got]) -> Result<Ending, Stop>
+    ensures ended { IfOk result (λ ending. next (order_of command.now) replies.now ≡ Step.End ending) }
     ensures unfinished { IsErrOf result Stop.Unfinished
-        → (question : Question) × (next (order_of command.entry) replies.now ≡ Step.Ask question) }
+        → (question : Question) × (next (order_of command.now) replies.now ≡ Step.Ask question) }
     ensures others { IsErr result → (IsErrOf result Stop.Unfinished ⊎ IsErrOf result Stop.Memory) }
 {
     match next_of(alloc, command, replies) {
@@ -104,21 +104,21 @@ fn last_step(alloc: Global, command: Command<'_>, replies: &[Got]) -> Result<End
 /// link was used and there is a further question. After `Memory` some questions may have been sent.
 pub(crate) fn carry_out<L: Link>(
     alloc: Global,
-    command: Command<'_>,
+    command: &Command<'_>,
     links: &mut [L],
 ) -> Result<Ending, Stop>
     ensures ended { IfOk result (λ ending.
-        IsAtEnd (order_of command.entry) ending (map L.told links.old) (map L.told links.new)) }
+        IsAtEnd (order_of command.now) ending (map L.told links.old) (map L.told links.new)) }
     ensures badly { IsErrOf result Stop.BadReply
-        → IsAsking IsAnsweredBadly (order_of command.entry) (map L.told links.old) (map L.told links.new) }
+        → IsAsking IsAnsweredBadly (order_of command.now) (map L.told links.old) (map L.told links.new) }
     ensures at_length { IsErrOf result Stop.TooLong
-        → IsAsking IsAnsweredAtLength (order_of command.entry) (map L.told links.old) (map L.told links.new) }
+        → IsAsking IsAnsweredAtLength (order_of command.now) (map L.told links.old) (map L.told links.new) }
     ensures in_part { IsErrOf result Stop.Link
-        → IsAsking IsSentInPart (order_of command.entry) (map L.told links.old) (map L.told links.new) }
+        → IsAsking IsSentInPart (order_of command.now) (map L.told links.old) (map L.told links.new) }
     ensures unfinished { IsErrOf result Stop.Unfinished
-        → IsUnfinished (order_of command.entry) (map L.told links.old) (map L.told links.new) }
+        → IsUnfinished (order_of command.now) (map L.told links.old) (map L.told links.new) }
     ensures memory { IsErrOf result Stop.Memory
-        → IsStopped (order_of command.entry) (map L.told links.old) (map L.told links.new) }
+        → IsStopped (order_of command.now) (map L.told links.old) (map L.told links.new) }
     ensures rose { IsErrOf result Stop.Link → AnyRose (map L.faults links.old) (map L.faults links.new) }
     ensures kept { (IsErrOf result Stop.Link → ⊥) → map L.faults links.new ≡ map L.faults links.old }
 {

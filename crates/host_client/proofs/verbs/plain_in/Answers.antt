@@ -2,7 +2,7 @@ use Rattle.std.proofs.Common.{sym, ◌∙◌}
 use Rattle.std.specs.Option.{option_copied}
 use Rattle.outside.specs.Spawner.{texts}
 use Rattle.host_client.proofs.Asking.{asks_nothing}
-use Rattle.host_client.proofs.command.plain_in.Goals as goal
+use Rattle.host_client.proofs.verbs.plain_in.Goals as goal
 
 pub returns-else-is_question : goal.returns-else-is_question
 returns-else-is_question c =
