@@ -7,7 +7,7 @@ mod usage;
 
 use crate::paced::PacedLink;
 use crate::usage::PAGE;
-use host_client::{is_verb, most_questions, run_client};
+use host_client::{Pace, is_verb, pace_in, run_client};
 use outside_real::{RealLink, RealSink, words_of};
 use program_version::VERSION;
 use std::alloc::AllocError;
@@ -29,9 +29,6 @@ const OUTPUT: u8 = 12;
 
 /// The folder of a host's server.
 const USUAL: &str = "/var/lib/settings";
-
-/// How many questions are asked without a pause between them.
-const AT_ONCE: usize = 2;
 
 /// The links of a run, one for each question.
 type Links = Vec<PacedLink<HostRuntime, RealLink<HostRuntime>>>;
@@ -79,11 +76,11 @@ fn folder_of<'a>(rt: &HostRuntime, words: &'a [String]) -> (&'a str, &'a [String
     }
 }
 
-// As many links as the words may ask questions, with a second before each but the first two.
-fn links_of(rt: &HostRuntime, folder: &str, count: usize) -> io::Result<Links> {
+// As many links as the words may ask questions, with a second before each but the first ones.
+fn links_of(rt: &HostRuntime, folder: &str, pace: Pace) -> io::Result<Links> {
     let mut links = Vec::new(rt.alloc());
-    for i in 0..count {
-        let pause = Duration::from_secs(if i < AT_ONCE { 0 } else { 1 });
+    for i in 0..pace.most {
+        let pause = Duration::from_secs(if i < pace.at_once { 0 } else { 1 });
         let link = RealLink::new(rt.clone()?, folder)?;
         links.push(PacedLink::new(rt.clone()?, link, pause))?;
     }
@@ -103,7 +100,7 @@ fn status_of(rt: &HostRuntime) -> io::Result<u8> {
         return Ok(status);
     }
     let (folder, words) = folder_of(rt, &words);
-    let mut links = links_of(rt, folder, most_questions(words))?;
+    let mut links = links_of(rt, folder, pace_in(alloc, words)?)?;
     let status = run_client(alloc, words, &mut links, &mut out);
     match status {
         MISUSED => {
