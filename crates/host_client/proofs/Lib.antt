@@ -4,3 +4,5 @@ pub mod Sendings
 pub mod Hearings
 pub mod Checked
 pub mod Replies
+pub mod FirstWords
+pub mod Listed

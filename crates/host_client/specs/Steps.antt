@@ -9,7 +9,8 @@ use Rattle.serde_json.specs.Data.{Data, Members}
 use Rattle.serde_json.specs.Find.{as_object}
 use Rattle.serde_json.specs.Find as find
 use Rattle.json_trees.specs.Json.{data_of}
-use Rattle.host_client.specs.Orders.{Order, plain, get, set, edit, pending, discard, transactions, commit, plan, try_out, show, apply, wait, status, verify}
+use Rattle.host_client.specs.Orders.{Order, plain, get, set, edit, pending, discard, transactions, commit, plan, try_out, show, apply, wait, verify}
+use Rattle.host_client.specs.Orders as order
 use Rattle.host_client.specs.Lines.{is_plan, plan_lines, plan_status, state_lines, state_status, is_status, status_lines}
 use Rattle.host_client.specs.Jobs.{job_of, cause_status}
 use Rattle.host_client.specs.declared.job.Job.{Job}
@@ -98,7 +99,7 @@ first_question (try_out body) = discard_question own_tx
 first_question (show file tx) = question (codes "GET") (codes "/plan/file?name=" ++ escaped file ++ tx_part tx)
 first_question (apply all) = question (codes "POST") (apply_target all)
 first_question (wait seconds) = job_question
-first_question status = question (codes "GET") (codes "/store")
+first_question order.status = question (codes "GET") (codes "/store")
 first_question verify = question (codes "GET") (codes "/verify")
 
 -- ---- ends
@@ -257,14 +258,14 @@ follow (try_out body) reply replies = after_try body reply replies
 follow (show file tx) reply replies = shown_by reply
 follow (apply all) reply replies = after_change reply replies
 follow (wait seconds) reply replies = by_last [] (last_of (reply ∷ replies))
-follow status reply replies = after_status reply replies
+follow order.status reply replies = after_status reply replies
 follow verify reply replies = by_states reply
 follow _ reply replies = ended_by reply
 
 -- What comes after these replies.
 abbrev pub next : Order → List Got → Step
-next order [] = asking (first_question order)
-next order (reply ∷ replies) = follow order reply replies
+next ordered [] = asking (first_question ordered)
+next ordered (reply ∷ replies) = follow ordered reply replies
 
 -- What is asked can be asked, and a run of questions ends with one of these exit statuses.
 abbrev pub IsSound : Step → Type 0

@@ -17,9 +17,13 @@ fn texts_in(alloc: Global, words: &[String]) -> Result<Option<Text>, AllocError>
         ((pairs : List (List ℕ)) (body : List ℕ) → texts words.now ≡ codes "--text" ∷ pairs → ¬ Says Texts pairs body)
         (SaysChanges (texts words.now))) }
 {
-    match words {
-        [word, pairs @ ..] if word.as_str() == "--text" => body_in(alloc, Form::Texts, pairs),
-        _ => Ok(None),
+    let Some((word, pairs)) = words.split_first() else {
+        return Ok(None);
+    };
+    if word.as_str() == "--text" {
+        body_in(alloc, Form::Texts, pairs)
+    } else {
+        Ok(None)
     }
 }
 

@@ -103,10 +103,7 @@ pub struct Pace {
 pub(crate) const MOST_SECONDS: usize = 3600;
 
 /// What the words order; none where they order nothing. The only error is out of memory.
-pub(crate) fn command_of(
-    alloc: Global,
-    words: &[String],
-) -> Result<Option<Command<'_>>, AllocError>
+pub(crate) fn command_of(alloc: Global, words: &[String]) -> Result<Option<Command<'_>>, AllocError>
     ensures { IfOk result (λ o. MatchOption o (SpellsNone (texts words.now))
         (λ command. Spells (texts words.now) (order_of command))) }
 {

@@ -55,11 +55,7 @@ fn are_well(files: &Map<String, Value>) -> bool
 fn state_status(files: &Map<String, Value>) -> u8
     ensures { result ≡ state_status (members_view files.now.entries) }
 {
-    if are_well(files) {
-        0
-    } else {
-        19
-    }
+    if are_well(files) { 0 } else { 19 }
 }
 
 fn states_told(alloc: Global, value: &Value) -> Result<Step, AllocError>

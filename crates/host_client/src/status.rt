@@ -3,7 +3,7 @@ ghost use Rattle.std.specs.Prelude.{◌≡◌, ◌++◌, IfOk, OnOk, map};
 ghost use Rattle.std.specs.List.{flat_map};
 ghost use Rattle.serde_json.specs.View.{view};
 ghost use Rattle.host_client.specs.Lines.{pending_line, tx_lines, pending_lines, owed_lines, job_line, is_status, status_lines};
-ghost use Rattle.host_client.specs.Steps.{IsSound, status_read, status_told, after_store, after_status};
+ghost use Rattle.host_client.specs.Steps.{IsSound, asking, job_question, status_read, status_told, after_store, after_status};
 
 use crate::asked::job_question;
 use crate::ending::{asking, bad_reply, ended, is_success, refused_by};
@@ -141,11 +141,7 @@ fn after_store(alloc: Global, store: &Got, replies: &[Got]) -> Result<Step, Allo
 }
 
 /// What comes after the reply to `GET /store`. The only error is out of memory.
-pub(crate) fn after_status(
-    alloc: Global,
-    reply: &Got,
-    replies: &[Got],
-) -> Result<Step, AllocError>
+pub(crate) fn after_status(alloc: Global, reply: &Got, replies: &[Got]) -> Result<Step, AllocError>
     ensures step { IfOk result (λ step. step ≡ after_status reply.now replies.now) }
     ensures sound { IfOk result IsSound }
 {

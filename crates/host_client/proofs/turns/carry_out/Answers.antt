@@ -11,7 +11,7 @@ use Rattle.host_client.proofs.turns.carry_out.Goals as goal
 pub loop-i-init : goal.loop-i-init
 loop-i-init g c =
     let told = map g.L.Link.told c.args.links.now in record {
-      asked = subst (λ (replies : List Got). IsAsked (order_of c.args.command) replies told told) (sym c.new-replies.ensures.items) (not_yet told);
+      asked = subst (λ (replies : List Got). IsAsked (order_of c.args.command.now) replies told told) (sym c.new-replies.ensures.items) (not_yet told);
       as_many = ap length c.new-replies.ensures.items;
       kept = refl;
     }
@@ -19,7 +19,7 @@ loop-i-init g c =
 pub returns-in-Ok-Some-clause-ended : goal.returns-in-Ok-Some-clause-ended
 returns-in-Ok-Some-clause-ended g c =
     let ends = rw c.in-Ok-Some.field-0-is at c.in-Ok-Some.ensures.went in
-    ended_here c.loop-i.links c.loop-i.i c.index-links-i.result c.turn.new.link (omega arith) g.L.Link.told (order_of c.args.command)
+    ended_here c.loop-i.links c.loop-i.i c.index-links-i.result c.turn.new.link (omega arith) g.L.Link.told (order_of c.args.command.now)
     c.args.links.now c.loop-i.replies.items c.loop-i.invariant.as_many c.in-Ok-Some.ending c.loop-i.invariant.asked ends
 
 pub returns-in-Ok-Some-clause-kept : goal.returns-in-Ok-Some-clause-kept
@@ -29,25 +29,25 @@ returns-in-Ok-Some-clause-kept g c =
 
 pub returns-in-Err-clause-badly : goal.returns-in-Err-clause-badly
 returns-in-Err-clause-badly g c =
-    λ e. asking_here c.loop-i.links c.loop-i.i c.index-links-i.result c.turn.new.link (omega arith) g.L.Link.told (order_of c.args.command)
+    λ e. asking_here c.loop-i.links c.loop-i.i c.index-links-i.result c.turn.new.link (omega arith) g.L.Link.told (order_of c.args.command.now)
     c.args.links.now c.loop-i.replies.items c.loop-i.invariant.as_many IsAnsweredBadly c.loop-i.invariant.asked
     (c.in-Err.ensures.badly (same_err {T = Ending} {U = Option Ending} c.in-Err.stop BadReply e))
 
 pub returns-in-Err-clause-at_length : goal.returns-in-Err-clause-at_length
 returns-in-Err-clause-at_length g c =
-    λ e. asking_here c.loop-i.links c.loop-i.i c.index-links-i.result c.turn.new.link (omega arith) g.L.Link.told (order_of c.args.command)
+    λ e. asking_here c.loop-i.links c.loop-i.i c.index-links-i.result c.turn.new.link (omega arith) g.L.Link.told (order_of c.args.command.now)
     c.args.links.now c.loop-i.replies.items c.loop-i.invariant.as_many IsAnsweredAtLength c.loop-i.invariant.asked
     (c.in-Err.ensures.at_length (same_err {T = Ending} {U = Option Ending} c.in-Err.stop TooLong e))
 
 pub returns-in-Err-clause-in_part : goal.returns-in-Err-clause-in_part
 returns-in-Err-clause-in_part g c =
-    λ e. asking_here c.loop-i.links c.loop-i.i c.index-links-i.result c.turn.new.link (omega arith) g.L.Link.told (order_of c.args.command)
+    λ e. asking_here c.loop-i.links c.loop-i.i c.index-links-i.result c.turn.new.link (omega arith) g.L.Link.told (order_of c.args.command.now)
     c.args.links.now c.loop-i.replies.items c.loop-i.invariant.as_many IsSentInPart c.loop-i.invariant.asked
     (c.in-Err.ensures.in_part (same_err {T = Ending} {U = Option Ending} c.in-Err.stop Link e))
 
 pub returns-in-Err-clause-memory : goal.returns-in-Err-clause-memory
 returns-in-Err-clause-memory g c =
-    λ e. stopped_here c.loop-i.links c.loop-i.i c.index-links-i.result c.turn.new.link (omega arith) g.L.Link.told (order_of c.args.command)
+    λ e. stopped_here c.loop-i.links c.loop-i.i c.index-links-i.result c.turn.new.link (omega arith) g.L.Link.told (order_of c.args.command.now)
     c.args.links.now c.loop-i.replies.items c.loop-i.invariant.as_many c.loop-i.invariant.asked
     (c.in-Err.ensures.memory (same_err {T = Ending} {U = Option Ending} c.in-Err.stop Memory e))
 
@@ -65,7 +65,7 @@ pub loop-i-preserved : goal.loop-i-preserved
 loop-i-preserved g c =
     let turn = rw c.in-Ok-None.field-0-is at c.in-Ok-None.ensures.went in record {
       asked = asked_more c.loop-i.links c.loop-i.i c.index-links-i.result c.turn.new.link (omega arith) g.L.Link.told
-          (order_of c.args.command) c.args.links.now c.loop-i.replies.items c.loop-i.invariant.as_many c.turn.new.replies.items c.loop-i.invariant.asked turn;
+          (order_of c.args.command.now) c.args.links.now c.loop-i.replies.items c.loop-i.invariant.as_many c.turn.new.replies.items c.loop-i.invariant.asked turn;
       as_many = omega (arith, ap length turn.replies, length-append c.loop-i.replies.items (turn.reply ∷ []), c.loop-i.invariant.as_many);
       kept = stays c.loop-i.links c.loop-i.i c.index-links-i.result c.turn.new.link (omega arith) g.L.Link.faults
           c.in-Ok-None.ensures.cause.kept ∙ c.loop-i.invariant.kept;
