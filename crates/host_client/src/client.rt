@@ -28,24 +28,35 @@ fn printed<O: Sink>(out: &mut O, status: u8, line: &[u8]) -> u8
 /// | Words | Asks | Prints |
 /// |---|---|---|
 /// | `get KEY ..` | `GET /settings` with `keys`; for one key without a value of its own then with `prefix` | the tree |
+/// | `set KEY=JSON ..`, `unset KEY ..` | `POST /set`, and then as `wait` | the keys |
+/// | `edit TX KEY=JSON ..` | `PATCH /settings` | nothing |
 /// | `pending TX`, `pending` | `GET /tx` | the tree of what is pending |
 /// | `drop TX` | `DELETE /tx` | the keys that were pending |
 /// | `transactions` | `GET /tx/list` | the names |
 /// | `commit TX` | `POST /tx/commit_and_apply`, and then as `wait` | the keys |
-/// | `apply` | `POST /tx/apply`, and then as `wait` | nothing |
+/// | `plan TX`, `plan` | `GET /plan` | the lines of the plan |
+/// | `plan KEY=JSON ..` | the same in a transaction of its own: `DELETE /tx`, `PATCH /settings`, `GET /plan`, `DELETE /tx` | the lines |
+/// | `show FILE`, `show FILE TX` | `GET /plan/file` | the bytes as they are |
+/// | `apply`, `apply --all` | `POST /tx/apply`, and then as `wait` | nothing |
 /// | `wait`, `wait SECONDS` | `GET /job`, until it doesn't run or there is no further link | nothing |
+/// | `status` | `GET /store`, `GET /job` | the version, the job, what is owed and what is pending, by lines |
+/// | `verify` | `GET /verify` | a line for each file |
+///
+/// After `--text` before the first KEY what follows each `=` is a text as it is.
 ///
 /// | Status | Where | Line |
 /// |---|---|---|
-/// | 0 | a reply of 200 to 299; for the last three, a job that is done | its body, nothing for an empty one |
+/// | 0 | a reply of 200 to 299; of `set`, `unset`, `commit`, `apply` and `wait`, a job that is done | what is printed, a body as a line |
 /// | 1 | it ran out of memory, or the job did | `settingsctl: memory` |
 /// | 2 | the words order nothing, or their question is too long | `settingsctl: usage` |
 /// | 3, 5, 10 | the job failed: `disk`, `spawn SERVICE`, any other cause | `settingsctl: CAUSE` |
 /// | 4 | only where a link failed | `settingsctl: link` |
 /// | 10 | the job doesn't run, and something is owed | `settingsctl: owed` |
+/// | 10 | a file of a plan refuses | the lines of the plan |
 /// | 12 | only where the output failed, in place of any other status but 1 | what was taken |
 /// | 13 | a reply of another status; nothing is at the key of `get` or below it | `settingsctl: refused STATUS BODY` |
-/// | 21 | the input up to its end is no reply (`read_reply`), or tells no job | `settingsctl: bad reply` |
+/// | 19 | a file is neither current nor owed | the lines of `verify` |
+/// | 21 | the input up to its end is no reply (`read_reply`), or tells not what was asked | `settingsctl: bad reply` |
 /// | 22 | the input has more than 16,777,216 bytes | `settingsctl: reply too long` |
 /// | 24 | each link was used and there is more to ask | `settingsctl: still running` |
 pub fn run_client<L: Link, O: Sink>(
