@@ -297,12 +297,7 @@ impl Connections {
 
     /// Whether the request of a client is whole, after a look at all of them that waits for none. Also where that look failed, so that the
     /// next call of `next` finds out.
-    pub fn has_whole(
-        &mut self,
-        clock: &impl Clock,
-        alloc: Global,
-        framing: &impl Framing,
-    ) -> bool {
+    pub fn has_whole(&mut self, clock: &impl Clock, alloc: Global, framing: &impl Framing) -> bool {
         if self
             .round(clock, alloc, framing, Some(Duration::ZERO))
             .is_err()
