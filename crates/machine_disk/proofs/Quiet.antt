@@ -51,9 +51,10 @@ module _ (I : Image) (folder : Folder) (W V : World) (h : History) (before : Cor
   same_ready : IsReadyAt before.place before.held h → IsReadyAt now.place now.held h
   same_ready r = subst (λ p. IsReadyAt p now.held h) (sym place) (subst (λ (x : Held). IsReadyAt before.place x h) (sym held) r)
 
-  -- Where no call of the disk has failed since the last opening: acknowledged or not.
-  pub ran_calm : before.faulted ≡ false → now.faulted ≡ false → faulted_next false e ≡ false → Ran I folder W V (e ∷ []) h h before now
-  ran_calm calm still_calm quiet = stepped I folder W V e h h before now kept.disk (record {
+  -- Where no call of the disk has failed since the last opening: acknowledged or not, whether one fails at it or not.
+  pub ran_first : before.faulted ≡ false → now.faulted ≡ faulted_next false e → (now.faulted ≡ true → is_running now.job ≡ false)
+      → Ran I folder W V (e ∷ []) h h before now
+  ran_first calm flag still = stepped I folder W V e h h before now kept.disk (record {
     other = next I W e;
     late = Within (e ∷ []) [] refl refl refl;
     kept = record {
@@ -71,13 +72,17 @@ module _ (I : Image) (folder : Folder) (W V : World) (h : History) (before : Cor
             (λ due. inr (due_now path due.0, due_now path due.0))
             (kept.disk.unsettled path node is left);
       };
-      core = record { job = job; ready = λ _. same_ready (kept.core.ready calm); still = λ faulted. absurd (cc (faulted, still_calm)) };
+      core = record { job = job; ready = λ _. same_ready (kept.core.ready calm); still = still };
     };
-    flag = still_calm ∙ sym (ap (λ b. faulted_next b e) calm ∙ quiet);
+    flag = flag ∙ sym (ap (λ b. faulted_next b e) calm);
     moments = since_start (OnTheWay I W V (e ∷ [])) h (λ c left. ⊎_elim (λ r. inr (at_start I W (e ∷ []) c r)) (λ r. inl r)
         (recovers_now I folder W V h kept.disk c left));
     touches = own_none I (e ∷ []) h;
   })
+
+  -- And where none fails at it.
+  pub ran_calm : before.faulted ≡ false → now.faulted ≡ false → faulted_next false e ≡ false → Ran I folder W V (e ∷ []) h h before now
+  ran_calm calm still_calm quiet = ran_first calm (still_calm ∙ sym quiet) (λ faulted. absurd (cc (faulted, still_calm)))
 
   -- While a call of the disk has failed: not acknowledged.
   pub ran_unsaid : now.faulted ≡ before.faulted → faulted_next before.faulted e ≡ before.faulted → acknowledges I W e ≡ false

@@ -23,16 +23,6 @@ names_next {X} m after k next = by (get m k) refl next.stands where
   by (Some x) is has = ap (map (λ (e : List ℕ × X). e.0)) (walk_next bytes_total bytes_cmp-IsAntisymmetric m after k x
       (record { stands = is; past = next.past; least = next.least }))
 
--- A list of what a walk has given and what passes a test, with what is left.
-pub tested_more : {E : Type 0} (p : E → Bool) (all done now left rest : List E) (e : E) → p e ≡ true → done ++ filter p left ≡ all → left ≡ e ∷ rest
-    → now ≡ done ++ e ∷ [] → now ++ filter p rest ≡ all
-tested_more {E} p all done now left rest e passes whole next pushed = listed_more all done now (filter p left) (filter p rest) e whole
-    (ap (filter p) next ∙ cond-true _ _ _ passes) pushed
-
-pub tested_less : {E : Type 0} (p : E → Bool) (all done left rest : List E) (e : E) → p e ≡ false → done ++ filter p left ≡ all → left ≡ e ∷ rest
-    → done ++ filter p rest ≡ all
-tested_less {E} p all done left rest e fails whole next = ap (λ (l : List E). done ++ l) (sym (ap (filter p) next ∙ cond-false _ _ _ fails)) ∙ whole
-
 -- A walk begins with nothing given.
 pub begun : {E : Type 0} (all done left : List E) → done ≡ [] → left ≡ all → done ++ left ≡ all
 begun all done left none whole = ap (λ (l : List _). l ++ left) none ∙ whole

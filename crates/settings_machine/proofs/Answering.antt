@@ -16,7 +16,7 @@ use Rattle.settings_machine.specs.Typed.{Wanted, first_wanted}
 use Rattle.settings_machine.specs.Requests.{Request, Root, OsNames, Settings, SettingsAt, SettingsBelow}
 use Rattle.settings_machine.specs.Requests.{Patch, Services, ConfigurationFiles, Affected, Pends, DropTx, TxList}
 use Rattle.settings_machine.specs.Requests.{Commit, Apply, CommitAndApply, JobNow}
-use Rattle.settings_machine.specs.Requests.{Set, ApplyAll, Guarded, Plan, PlanFile, Store}
+use Rattle.settings_machine.specs.Requests.{Set, ApplyAll, Guarded, Plan, PlanFile, Store, Verify}
 use Rattle.settings_machine.specs.Step.{Outcome, Answered, WithoutMemory, Unopened, Faulted}
 use Rattle.settings_machine.specs.Step.{failing, patch_next, commit_next, commit_and_apply_next, set_next, changed_by}
 use Rattle.settings_machine.specs.Step.{answered, request_next}
@@ -114,6 +114,7 @@ module _ (I : Image) where
   answered_keeps W (Plan tx) = stays_all W
   answered_keeps W (PlanFile file tx) = stays_all W
   answered_keeps W Store = stays_all W
+  answered_keeps W Verify = stays_all W
 
   -- A request that was answered, or taken at a fault.
   pub request_keeps : (W : World) (q : Request) (o : Outcome) → Keeps I W (request_next I W q o).world

@@ -15,7 +15,7 @@ use Rattle.settings_machine.specs.World.{Key, Image, World, Work, Job, Idle, Fai
 use Rattle.settings_machine.specs.Typed.{Wanted, first_wanted}
 use Rattle.settings_machine.specs.Requests.{Request, Root, OsNames, Settings, SettingsAt, SettingsBelow}
 use Rattle.settings_machine.specs.Requests.{Patch, Services, ConfigurationFiles, Affected, Pends, DropTx, TxList}
-use Rattle.settings_machine.specs.Requests.{Set, ApplyAll, Guarded, Plan, PlanFile, Store}
+use Rattle.settings_machine.specs.Requests.{Set, ApplyAll, Guarded, Plan, PlanFile, Store, Verify}
 use Rattle.settings_machine.specs.Requests.{Commit, Apply, CommitAndApply, JobNow, Said, PendingTreeOf}
 use Rattle.settings_machine.specs.Step.{Outcome, Answered, WithoutMemory, Unopened, Faulted, Answer, Fine, NoRoom, FileFault, NoSpawn, SyncFault, OwedFault}
 use Rattle.settings_machine.specs.Step.{patch_next, commit_next, commit_and_apply_next, answered, request_next}
@@ -156,6 +156,7 @@ module _ (I : Image) (tx : List ℕ) where
   answered_other W (Plan t) else' = refl
   answered_other W (PlanFile file t) else' = refl
   answered_other W Store else' = refl
+  answered_other W Verify else' = refl
 
   request_other : (W : World) (q : Request) (o : Outcome) → is_on tx q ≡ false → pending_in (request_next I W q o).world ≡ pending_in W
   unfolding request_next
@@ -227,6 +228,7 @@ module _ (I : Image) (tx : List ℕ) where
     answered_own (Plan t) is plain = absurd (cc is)
     answered_own (PlanFile file t) is plain = absurd (cc is)
     answered_own Store is plain = absurd (cc is)
+    answered_own Verify is plain = absurd (cc is)
 
     request_own : (q : Request) (o : Outcome) → is_on tx q ≡ true → is_guarded q ≡ false
         → pending_in (request_next I W q o).world ≡ pending_in (request_next I X q o).world

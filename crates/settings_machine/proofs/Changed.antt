@@ -15,7 +15,7 @@ use Rattle.settings_machine.specs.World.{Key, Among, Image, World}
 use Rattle.settings_machine.specs.Typed.{Wanted, first_wanted}
 use Rattle.settings_machine.specs.Requests.{Request, Root, OsNames, Settings, SettingsAt, SettingsBelow}
 use Rattle.settings_machine.specs.Requests.{Patch, Services, ConfigurationFiles, Affected, Pends, DropTx, TxList}
-use Rattle.settings_machine.specs.Requests.{Commit, Apply, CommitAndApply, JobNow, Set, ApplyAll, Guarded, Plan, PlanFile, Store, is_success}
+use Rattle.settings_machine.specs.Requests.{Commit, Apply, CommitAndApply, JobNow, Set, ApplyAll, Guarded, Plan, PlanFile, Store, Verify, is_success}
 use Rattle.settings_machine.specs.Step.{patch_next, commit_next, commit_and_apply_next, set_next, changed_by, answered}
 use Rattle.settings_machine.specs.PlanLaws.{DifferAt, is_guarded}
 use Rattle.settings_machine.proofs.Elements.{among_filter, map_among, entry_stands, key_among, key_itself}
@@ -107,3 +107,4 @@ module _ (I : Image) (W : World) where
   answered_changed (Plan tx) plain well = none_changed W.held.live
   answered_changed (PlanFile file tx) plain well = none_changed W.held.live
   answered_changed Store plain well = none_changed W.held.live
+  answered_changed Verify plain well = none_changed W.held.live

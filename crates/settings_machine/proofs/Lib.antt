@@ -23,10 +23,11 @@ pub mod Settled
 pub mod Calming
 pub mod Newest
 pub mod Touching
-pub mod Plannings
 pub mod Refusing
 pub mod AtOnce
 pub mod Guarding
 pub mod Changed
 pub mod Written
 pub mod Planned
+pub mod Verifying
+pub mod Naming

@@ -24,7 +24,7 @@ use Rattle.settings_machine.specs.Typed.{Wanted, first_wanted, IsTypedHeld}
 use Rattle.settings_machine.specs.Requests.{Request, Root, OsNames, Settings, SettingsAt, SettingsBelow}
 use Rattle.settings_machine.specs.Requests.{Patch, Services, ConfigurationFiles, Affected, Pends, DropTx, TxList}
 use Rattle.settings_machine.specs.Requests.{Commit, Apply, CommitAndApply, JobNow}
-use Rattle.settings_machine.specs.Requests.{Set, ApplyAll, Guarded, Plan, PlanFile, Store}
+use Rattle.settings_machine.specs.Requests.{Set, ApplyAll, Guarded, Plan, PlanFile, Store, Verify}
 use Rattle.settings_machine.specs.Step.{Outcome, Answered, WithoutMemory, Unopened, Faulted, with_held}
 use Rattle.settings_machine.specs.Step.{with_job, noting, failing, patch_next, committed_world}
 use Rattle.settings_machine.specs.Step.{commit_next, begun, asked_for, applied, commit_and_apply_next, answered}
@@ -144,6 +144,7 @@ module _ (I : Image) where
   answered_etc W (Plan tx) = refl
   answered_etc W (PlanFile file tx) = refl
   answered_etc W Store = refl
+  answered_etc W Verify = refl
 
 -- ---- worlds that are fit, with some files that are paid
 
@@ -373,6 +374,7 @@ module _ (I : Image) (S : List ℕ → Type 0) (are_covered : (f : List ℕ) →
   answered_good W (Plan tx) good = good
   answered_good W (PlanFile file tx) good = good
   answered_good W Store good = good
+  answered_good W Verify good = good
 
   pub request_good : (W : World) (q : Request) (o : Outcome) → Good W → Good (request_next I W q o).world
   unfolding request_next

@@ -13,7 +13,7 @@ use Rattle.settings_machine.specs.Typed.{Wanted, first_wanted}
 use Rattle.settings_machine.specs.Requests.{Request, Root, OsNames, Settings, SettingsAt, SettingsBelow}
 use Rattle.settings_machine.specs.Requests.{Patch, Services, ConfigurationFiles, Affected, Pends, DropTx, TxList}
 use Rattle.settings_machine.specs.Requests.{Commit, Apply, CommitAndApply, JobNow}
-use Rattle.settings_machine.specs.Requests.{Set, ApplyAll, Guarded, Plan, PlanFile, Store}
+use Rattle.settings_machine.specs.Requests.{Set, ApplyAll, Guarded, Plan, PlanFile, Store, Verify}
 use Rattle.settings_machine.specs.Step.{Outcome, Answered, WithoutMemory, Unopened, Faulted, Answer, Fine, NoRoom, FileFault, NoSpawn, SyncFault, OwedFault}
 use Rattle.settings_machine.specs.Step.{patch_next, commit_next, commit_and_apply_next, set_next, changed_by, answered, request_next}
 use Rattle.settings_machine.specs.Step.{wrote, Command, after_files_turn, work_turn, job_turn, turn_next, opened}
@@ -65,6 +65,7 @@ module _ (I : Image) where
   answered_runs W (Plan tx) = refl
   answered_runs W (PlanFile file tx) = refl
   answered_runs W Store = refl
+  answered_runs W Verify = refl
 
   pub request_runs : (W : World) (q : Request) (o : Outcome) → (request_next I W q o).world.runs ≡ W.runs
   unfolding request_next

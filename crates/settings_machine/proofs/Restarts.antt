@@ -17,7 +17,7 @@ use Rattle.settings_machine.specs.Typed.{Wanted, first_wanted}
 use Rattle.settings_machine.specs.Requests.{Request, Root, OsNames, Settings, SettingsAt, SettingsBelow}
 use Rattle.settings_machine.specs.Requests.{Patch, Services, ConfigurationFiles, Affected, Pends, DropTx, TxList}
 use Rattle.settings_machine.specs.Requests.{Commit, Apply, CommitAndApply, JobNow}
-use Rattle.settings_machine.specs.Requests.{Set, ApplyAll, Guarded, Plan, PlanFile, Store}
+use Rattle.settings_machine.specs.Requests.{Set, ApplyAll, Guarded, Plan, PlanFile, Store, Verify}
 use Rattle.settings_machine.specs.Step.{Outcome, Answered, WithoutMemory, Unopened, Faulted, Answer, Fine}
 use Rattle.settings_machine.specs.Step.{NoRoom, FileFault, NoSpawn, SyncFault, OwedFault, noting, failing}
 use Rattle.settings_machine.specs.Step.{patch_next, committed_world, commit_next, begun, asked_for, applied, commit_and_apply_next, set_world}
@@ -185,6 +185,7 @@ module _ (I : Image) where
   answered_leads W (Plan tx) = same_leads W.job _
   answered_leads W (PlanFile file tx) = same_leads W.job _
   answered_leads W Store = same_leads W.job _
+  answered_leads W Verify = same_leads W.job _
 
   pub request_leads : (W : World) (q : Request) (o : Outcome) → Leads W.job (request_next I W q o).world.held.owed (request_next I W q o).world.job
   unfolding request_next

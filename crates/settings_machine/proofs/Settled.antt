@@ -15,7 +15,7 @@ use Rattle.settings_machine.specs.World.{Key, Image, World, Work, Job, Idle, Fai
 use Rattle.settings_machine.specs.Typed.{Wanted, first_wanted}
 use Rattle.settings_machine.specs.Requests.{Request, Root, OsNames, Settings, SettingsAt, SettingsBelow}
 use Rattle.settings_machine.specs.Requests.{Patch, Services, ConfigurationFiles, Affected, Pends, DropTx, TxList}
-use Rattle.settings_machine.specs.Requests.{Commit, Apply, CommitAndApply, JobNow, Set, ApplyAll, Guarded, Plan, PlanFile, Store, is_success}
+use Rattle.settings_machine.specs.Requests.{Commit, Apply, CommitAndApply, JobNow, Set, ApplyAll, Guarded, Plan, PlanFile, Store, Verify, is_success}
 use Rattle.settings_machine.specs.Step.{Outcome, Answered, WithoutMemory, Unopened, Faulted, Answer, Fine, NoRoom, FileFault, NoSpawn, SyncFault, OwedFault}
 use Rattle.settings_machine.specs.Step.{failing, patch_next, committed_world, begun, asked_for, applied, commit_and_apply_next, answered, request_next}
 use Rattle.settings_machine.specs.Step.{wrote, file_turn, Command, ended, command_turn, last_turn, after_files_turn, work_turn, job_turn, turn_next}
@@ -96,6 +96,7 @@ module _ (I : Image) where
   first_settles W (Plan tx) applies well = absurd (cc applies)
   first_settles W (PlanFile file tx) applies well = absurd (cc applies)
   first_settles W Store applies well = absurd (cc applies)
+  first_settles W Verify applies well = absurd (cc applies)
 
   -- ---- other requests
 
@@ -129,6 +130,7 @@ module _ (I : Image) where
   answered_settles W (Plan tx) else' settles = settles
   answered_settles W (PlanFile file tx) else' settles = settles
   answered_settles W Store else' settles = settles
+  answered_settles W Verify else' settles = settles
 
   -- A request that commits nothing leaves what is owed.
   same_owed : (W : World) (taken : Bool) (q : Request) → commits_alone q (Faulted taken) ≡ false → (answered I W q).world.held.owed ≡ W.held.owed
@@ -158,6 +160,7 @@ module _ (I : Image) where
   same_owed W taken (Plan tx) else' = refl
   same_owed W taken (PlanFile file tx) else' = refl
   same_owed W taken Store else' = refl
+  same_owed W taken Verify else' = refl
 
   failing_settles : (o p : Owed) (j : Job) (c : Cause) → p ≡ o → Settles o j → Settles p (failing j c)
   failing_settles o p Idle c same settles = ap owes_none same ∙ settles

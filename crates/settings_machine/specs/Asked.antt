@@ -33,3 +33,4 @@ request_of request.ApplyAll = machine.ApplyAll
 request_of (request.Plan tx) = machine.Plan tx
 request_of (request.PlanFile file tx) = machine.PlanFile file tx
 request_of request.Store = machine.Store
+request_of request.Verify = machine.Verify

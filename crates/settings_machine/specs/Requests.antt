@@ -12,6 +12,7 @@ use Rattle.version_links.specs.declared.version.Version.{Version}
 use Rattle.settings_machine.specs.World.{Key, Job, Idle, Failed, Running}
 use Rattle.settings_machine.specs.declared.job.JobStatus.{JobStatus}
 use Rattle.settings_machine.specs.declared.job.JobStatus.TheVariants as standing
+use Rattle.settings_machine.specs.declared.states.VerifiedFile.{VerifiedFile}
 use Rattle.settings_machine.specs.declared.refusal.Refusal.{Refusal}
 use Rattle.settings_machine.specs.declared.refusal.Refusal.TheVariants.{BadType, NoKey, NoName, NoPending, NotRendered}
 
@@ -57,6 +58,8 @@ pub data Request : Type 0 where
   PlanFile : List ℕ → Option (List ℕ) → Request
   -- the version of the store, and all that it holds
   Store : Request
+  -- the state of each configuration file
+  Verify : Request
 
 -- Each key that is patched or set begins with `settings`.
 abbrev pub IsProper : Request → Type 0
@@ -76,6 +79,11 @@ is_reading (Set pairs) = false
 is_reading ApplyAll = false
 is_reading (Guarded q) = is_reading q
 is_reading _ = true
+
+-- Whether it reads the configuration files.
+abbrev pub reads_files : Request → Bool
+reads_files Verify = true
+reads_files _ = false
 
 -- The status of a job, as a client sees it.
 abbrev pub job_status : Job → JobStatus
@@ -114,6 +122,8 @@ pub data Body : Type 0 where
   FileIs : List ℕ → Body
   -- the version of the store, and what it holds
   StoreIs : Version → Held → Body
+  -- the state of each configuration file
+  StatesAre : List VerifiedFile → Body
 
 -- What a request is answered: a body with HTTP status 200, HTTP status 204, a refusal, out of memory, a fault of the disk, or that
 -- the store could not be opened again, for what is there.

@@ -21,8 +21,9 @@ use Rattle.settings_machine.specs.Typed.{Wanted, first_wanted}
 use Rattle.settings_machine.specs.Opening.{added_keys, opened_held}
 use Rattle.settings_machine.specs.Requests.{Request, Root, OsNames, Settings, SettingsAt, SettingsBelow, Patch, Services, ConfigurationFiles}
 use Rattle.settings_machine.specs.Requests.{Affected, Pends, DropTx, TxList, Commit, Apply, CommitAndApply, JobNow}
-use Rattle.settings_machine.specs.Requests.{Set, ApplyAll, Guarded, Plan, PlanFile, Store, StoreIs, is_success}
+use Rattle.settings_machine.specs.Requests.{Set, ApplyAll, Guarded, Plan, PlanFile, Store, StoreIs, Verify, StatesAre, is_success}
 use Rattle.settings_machine.specs.Plans.{first_refusing, plan_reply, file_reply}
+use Rattle.settings_machine.specs.Verified.{verified}
 use Rattle.settings_machine.specs.Requests.{TreeOf, PendingTreeOf, TextsByName, ListsByKey, KeyList, NameList, JobIs, job_status}
 use Rattle.settings_machine.specs.Requests.{Reply, Said, Empty, Refused, NoMemory, DiskFault, NotOpened}
 use Rattle.settings_machine.specs.Answers.{said_unless, settings_of, settings_where, missing_key, below_names, nearest_lists}
@@ -172,6 +173,7 @@ answered I W (Guarded q) = guarded_next I W (changed_by W q) (answered I W q)
 answered I W (Plan tx) = stays W (plan_reply I W.held tx)
 answered I W (PlanFile file tx) = stays W (file_reply I W.held file tx)
 answered I W Store = stays W (Said (StoreIs W.version W.held))
+answered I W Verify = stays W (Said (StatesAre (verified I W)))
 
 -- The next world and the reply, with what the outside let the request come to. At a fault what is held is wholly that of
 -- the next world or wholly the old, no job begins, and a running one fails.

@@ -8,6 +8,7 @@ ghost use Rattle.settings_machine.specs.Settling.{IdleOwesNothing};
 ghost use Rattle.settings_machine.specs.Calm.{CalmJobsEnd, CalmAppliesPay};
 ghost use Rattle.settings_machine.specs.Touched.{JobsTouchTheirFiles, FilesComeFirst};
 ghost use Rattle.settings_machine.specs.PlanLaws.{SetIsOneChange, GuardsHold, PlansComeTrue};
+ghost use Rattle.settings_machine.specs.VerifyLaws.{StatesAreExact, PaidFilesAreOurs};
 
 /// The laws of the machine. It does nothing: its clauses are what holds of every image that can be read.
 ///
@@ -31,6 +32,8 @@ ghost use Rattle.settings_machine.specs.PlanLaws.{SetIsOneChange, GuardsHold, Pl
 /// change by itself, and the files of the keys that it changes render then; where the first of them refuses, nothing changes.
 /// A plan that is answered while no job runs comes true: its keys change, its job begins, and while nothing fails it ends with
 /// its files written as they were answered and its commands run, or stops at the first template that the plan has as refusing.
+///
+/// The state that is answered of a file is the one that is the case with it. Where a file is paid, nobody else wrote it or took it away.
 pub fn laws()
     ensures fit { FitStays }
     ensures files { FilesStayPaid }
@@ -54,4 +57,6 @@ pub fn laws()
     ensures one_change { SetIsOneChange }
     ensures guards { GuardsHold }
     ensures plans { PlansComeTrue }
+    ensures states { StatesAreExact }
+    ensures ours { PaidFilesAreOurs }
 {}

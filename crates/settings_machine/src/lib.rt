@@ -14,12 +14,14 @@ mod plan;
 mod refusal;
 mod refused;
 mod request;
+mod states;
 
 pub use cause::Cause;
 pub use file::file_bytes;
 pub use job::{Job, JobStatus, Work, apply, begun, owes_none};
 pub use law::laws;
-pub use plan::{Plan, first_refusing, job_plan};
+pub use plan::{Plan, first_refusing, job_plan, path_of};
 pub use refusal::Refusal;
 pub use refused::refused_pair;
 pub use request::{Guard, Request};
+pub use states::{FileState, VerifiedFile, file_state, marked_files};

@@ -83,8 +83,8 @@ fn refusing(
     Ok(refused)
 }
 
-// Where the file is written.
-fn path_of(alloc: Global, manifest: &Manifest, file: &Text) -> Result<Path, AllocError>
+/// Where the file is written: the path of its row, and no name where the manifest has no such file. The only error is out of memory.
+pub fn path_of(alloc: Global, manifest: &Manifest, file: &Text) -> Result<Path, AllocError>
     ensures { IfOk result (λ path. path ≡ path_seen manifest.now file.now) }
 {
     match manifest.file(file.as_str().as_bytes()) {

@@ -109,4 +109,6 @@ pub enum Request {
     },
     /// The version of the store, and all that it holds.
     Store,
+    /// The state of each configuration file.
+    Verify,
 }

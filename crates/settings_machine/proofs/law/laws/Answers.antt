@@ -9,6 +9,7 @@ use Rattle.settings_machine.proofs.Touching.{jobs_touch_their_files, files_come_
 use Rattle.settings_machine.proofs.AtOnce.{set_is_one_change}
 use Rattle.settings_machine.proofs.Guarding.{guards_hold}
 use Rattle.settings_machine.proofs.Planned.{plans_come_true}
+use Rattle.settings_machine.proofs.Verifying.{states_are_exact, paid_files_are_ours}
 use Rattle.settings_machine.proofs.law.laws.Goals as goal
 
 pub returns-clause-fit : goal.returns-clause-fit
@@ -76,3 +77,9 @@ returns-clause-guards c = guards_hold
 
 pub returns-clause-plans : goal.returns-clause-plans
 returns-clause-plans c = plans_come_true
+
+pub returns-clause-states : goal.returns-clause-states
+returns-clause-states c = states_are_exact
+
+pub returns-clause-ours : goal.returns-clause-ours
+returns-clause-ours c = paid_files_are_ours
