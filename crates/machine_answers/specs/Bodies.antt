@@ -20,14 +20,18 @@ use Rattle.version_links.specs.Versions.{version_text}
 use Rattle.version_links.specs.declared.version.Version.{Version}
 use Rattle.settings_machine.specs.World.{Key}
 use Rattle.settings_machine.specs.Requests.{Body, TreeOf, PendingTreeOf, TextsByName, ListsByKey, KeyList, NameList, JobIs}
-use Rattle.settings_machine.specs.Requests.{Planned, PlanIs, FileIs, StoreIs}
+use Rattle.settings_machine.specs.Requests.{Planned, PlanIs, FileIs, StoreIs, StatesAre}
 use Rattle.settings_machine.specs.declared.cause.Cause.{Cause}
 use Rattle.settings_machine.specs.declared.cause.Cause.TheVariants as cause
 use Rattle.settings_machine.specs.declared.job.JobStatus.{JobStatus}
 use Rattle.settings_machine.specs.declared.job.JobStatus.TheVariants as status
 use Rattle.settings_machine.specs.declared.refusal.Refusal.{Refusal}
 use Rattle.settings_machine.specs.declared.refusal.Refusal.TheVariants as refusal
+use Rattle.settings_machine.specs.declared.states.FileState.{FileState}
+use Rattle.settings_machine.specs.declared.states.FileState.TheVariants as state
+use Rattle.settings_machine.specs.declared.states.VerifiedFile.{VerifiedFile}
 use Rattle.machine_answers.specs.RenderWords.{render_word, render_path}
+use Rattle.machine_answers.specs.StateLines.{state_word}
 
 -- ---- lists, and values by name
 
@@ -100,6 +104,29 @@ plan_entries plan =
 abbrev pub store_entries : Version → Held → List (List ℕ × Data)
 store_entries version held = (codes "held", held_data held) ∷ (codes "version", string (version_text version)) ∷ []
 
+-- ---- the states of files
+
+-- A path, which begins with a slash, and a word for a state.
+abbrev pub placed : Names → List ℕ → List (List ℕ × Data)
+placed path word = (codes "path", string (47 ∷ joined path)) ∷ (codes "state", string word) ∷ []
+
+-- The same of a file whose template refuses, with why, and where in the template.
+abbrev pub refused_entries : Names → RenderError → List (List ℕ × Data)
+refused_entries path error = (codes "at", string (render_path error)) ∷ (codes "kind", string (render_word error)) ∷ placed path (codes "refused")
+
+-- What a file is: its path, and its state.
+abbrev pub state_entries : Names → FileState → List (List ℕ × Data)
+state_entries path (state.Refused error) = refused_entries path error
+state_entries path now = placed path (state_word now)
+
+-- The same by its name.
+abbrev pub verified_entry : VerifiedFile → List ℕ × Data
+verified_entry file = (file.name, object (members_of (state_entries file.path file.state)))
+
+-- The files with their states.
+abbrev pub states_entries : List VerifiedFile → List (List ℕ × Data)
+states_entries files = (codes "files", object (members_of (map verified_entry files))) ∷ []
+
 -- ---- refusals
 
 -- What kind of refusal it is, and where.
@@ -130,6 +157,7 @@ IsTextOf (JobIs standing owed) text = text ≡ compact_text (object (members_of 
 IsTextOf (PlanIs plan) text = text ≡ compact_text (object (members_of (plan_entries plan)))
 IsTextOf (FileIs bytes) text = text ≡ bytes
 IsTextOf (StoreIs version held) text = text ≡ compact_text (object (members_of (store_entries version held)))
+IsTextOf (StatesAre files) text = text ≡ compact_text (object (members_of (states_entries files)))
 
 -- ---- for private clauses
 

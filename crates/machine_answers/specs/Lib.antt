@@ -1,3 +1,4 @@
 pub mod Bodies
 pub mod RenderWords
 pub mod Replies
+pub mod StateLines

@@ -22,6 +22,7 @@ body_of (body.Names names) = machine.NameList names.items
 body_of (body.Job status owed) = machine.JobIs status owed
 body_of (body.Plan plan) = machine.PlanIs (planned_of plan)
 body_of (body.Store version held) = machine.StoreIs version held
+body_of (body.States files) = machine.StatesAre files.items
 
 -- The reply that a value is.
 abbrev pub reply_of : Answer → machine.Reply

@@ -7,10 +7,11 @@ use crate::job_body::job_text;
 use crate::lists::{keys_text, names_text};
 use crate::objects::{lists_text, texts_text};
 use crate::plan_body::plan_text;
+use crate::states_body::states_body;
 use crate::store_body::store_text;
 use json_trees::{nest, nest_pending};
 use key_names::{Bytes, Key, Text};
-use settings_machine::{JobStatus, Plan, Refusal};
+use settings_machine::{JobStatus, Plan, Refusal, VerifiedFile};
 use settings_tree::{Held, KeyList, Owed, Pending, Scalar, TxName};
 use std::alloc::{AllocError, Global};
 use version_links::Version;
@@ -51,6 +52,8 @@ pub enum Body {
         /// What is held.
         held: Held,
     },
+    /// The state of each configuration file, by name.
+    States(Vec<VerifiedFile>),
 }
 
 /// What the machine answers to a request, where memory and the disk serve.
@@ -84,6 +87,7 @@ impl Body {
             Body::Job { status, owed } => job_text(alloc, status, owed),
             Body::Plan(plan) => plan_text(alloc, plan),
             Body::Store { version, held } => store_text(alloc, *version, held),
+            Body::States(files) => states_body(alloc, files.as_slice()),
         }
     }
 }

@@ -8,9 +8,12 @@ mod objects;
 mod plan_body;
 mod refusal_body;
 mod render_words;
+mod state_lines;
+mod states_body;
 mod store_body;
 
 pub use answer::{Answer, Body};
 pub use job_body::job_text;
 pub use refusal_body::refusal_text;
 pub use render_words::{render_path, render_word};
+pub use state_lines::states_text;
