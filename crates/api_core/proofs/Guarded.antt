@@ -13,10 +13,9 @@ use Rattle.metadata_links.specs.Links.{files_of}
 use Rattle.template_eval.specs.declared.render_error.RenderError.{RenderError}
 use Rattle.settings_machine.specs.declared.refusal.Refusal.{Refusal}
 use Rattle.settings_machine.specs.declared.refusal.Refusal.TheVariants.{NotRendered}
-use Rattle.settings_machine.specs.World.{Key, Image, World, Job}
+use Rattle.settings_machine.specs.World.{Key, Image, World}
 use Rattle.settings_machine.specs.Seen.{HoldsTemplates}
 use Rattle.settings_machine.specs.Typed.{Wanted, first_wanted}
-use Rattle.settings_machine.specs.Refused.{type_refusal}
 use Rattle.typed_settings.specs.declared.row.Row.{Row}
 use Rattle.settings_machine.specs.Requests.{Request, Refused, Commit, CommitAndApply, Set, Guarded, is_success}
 use Rattle.settings_machine.specs.Plans.{first_refusing}
@@ -138,13 +137,3 @@ module _ (c : Core) (pairs : List (Key × Pending)) where
         → guarded_next I X (changed_in X.held (last_of pairs)) (set_next I X pairs o) ≡ refused_or X (set_next I X pairs o) refusal
     by I X None none' is = guarded_as I X (changed_in X.held (last_of pairs)) (set_next I X pairs None) (set_at_once X.held pairs).live refusal refl refl is
     by I X (Some w) none' is = absurd (cc none')
-
-  pub wanted_comes : (r : Refusal) → Some r ≡ type_refusal (first_wanted c.image.model.types pairs) → Comes c (Set pairs) None
-  wanted_comes r is = record {
-    to = λ I types os manifest templates W.
-        by I (with_core W c.held (job_of c.job)) (first_wanted I.types pairs) (is ∙ ap (λ (t : List Row). type_refusal (first_wanted t pairs)) types);
-  } where
-    by : (I : Image) (X : World) (o : Option Wanted) → Some r ≡ type_refusal o
-        → guarded_next I X (changed_in X.held (last_of pairs)) (set_next I X pairs o) ≡ set_next I X pairs o
-    by I X None is = absurd (cc is)
-    by I X (Some w) is = guarded_not I X (changed_in X.held (last_of pairs)) (set_next I X pairs (Some w)) refl

@@ -10,3 +10,4 @@ pub mod Trees
 pub mod NearLists
 pub mod PlanParts
 pub mod Guarded
+pub mod Verifications

@@ -1,5 +1,5 @@
 -- Plans, and files as they would be, as readings.
-use Rattle.std.proofs.Common.{◌≡◌, ℕ, Bool, true, if◌then◌else◌, List, [], Option, Some, None, IsSome, is_some, refl, sym, ◌∙◌, ap, subst}
+use Rattle.std.proofs.Common.{◌≡◌, ℕ, Bool, if◌then◌else◌, List, [], Option, Some, None, IsSome, is_some, refl, sym, ◌∙◌, ap, subst}
 use Rattle.std.specs.FinMap.{FinMap, get}
 use Rattle.key_names.specs.Order.{key_cmp}
 use Rattle.json_trees.specs.declared.pending.Pending.{Pending}
@@ -8,7 +8,7 @@ use Rattle.settings_tree.specs.Laid.{laid}
 use Rattle.settings_tree.specs.declared.entry.Owed.{Owed}
 use Rattle.pending_tx.specs.Transactions.{changed_keys, committed}
 use Rattle.metadata_links.specs.declared.manifest.Manifest.{Manifest}
-use Rattle.settings_machine.specs.declared.refusal.Refusal.TheVariants.{NoName, NoPending}
+use Rattle.settings_machine.specs.declared.refusal.Refusal.TheVariants.{NoName}
 use Rattle.settings_machine.specs.World.{Key, Image, rendered}
 use Rattle.settings_machine.specs.Requests.{Request, Plan, PlanFile, Reply, Said, Refused, PlanIs}
 use Rattle.settings_machine.specs.Plans.{plan_of, committed_plan, rendered_reply, committed_file, planned_file}
@@ -16,7 +16,6 @@ use Rattle.settings_machine.specs.Step.{Next, stays}
 use Rattle.affected_apply.specs.Jobs.{job_of}
 use Rattle.machine_answers.specs.Replies.{reply_of}
 use Rattle.machine_answers.specs.declared.answer.Answer.{Answer}
-use Rattle.machine_answers.specs.declared.answer.Answer.TheVariants as answer
 use Rattle.api_core.specs.Jobs.{job_after}
 use Rattle.api_core.specs.Plans.{IsReading, Plans, with_core}
 use Rattle.api_core.specs.Planning.{PlansOver, RendersOver}
@@ -53,19 +52,7 @@ module _ (c : Core) where
 
   -- ---- plans
 
-  pub plan_now : (a : Answer) → PlansOver c c.held.live c.held.owed [] a → IsReading c (Plan None) a
-  plan_now a plans = record {
-    changes_nothing = λ I os manifest templates W version.
-        ap (stays (with_core W c.held (job_of c.job))) (plans.plans I os manifest templates c.held refl refl);
-  }
-
   module _ (tx : List ℕ) where
-    pub plan_missing : get c.held.pending tx ≡ None → IsReading c (Plan (Some tx)) (answer.Refused (NoPending tx))
-    plan_missing none = record {
-      changes_nothing = λ I os manifest templates W version.
-          ap (λ (o : Pends). stays (with_core W c.held (job_of c.job)) (committed_plan I c.held tx o)) none;
-    }
-
     pub plan_after : (a : Answer) → (get c.held.pending tx ≡ None → ⊥) → PlansOver c (committed c.held tx).live (committed c.held tx).owed (changed_keys c.held tx) a
         → IsReading c (Plan (Some tx)) a
     plan_after a there plans = record {
@@ -80,29 +67,10 @@ module _ (c : Core) where
   -- ---- files
 
   module _ (file : List ℕ) where
-    pub file_unknown : (tx : Option (List ℕ)) → get c.image.manifest.files file ≡ None → IsReading c (PlanFile file tx) (answer.Refused (NoName file))
-    file_unknown tx none = record {
-      changes_nothing = λ I os manifest templates W version. ap (stays (with_core W c.held (job_of c.job)))
-          (ap (λ (b : Bool). if b then planned_file I c.held file tx else Refused (NoName file))
-          (ap (λ (m : Manifest). is_some (get m.files file)) (sym manifest) ∙ ap is_some none));
-    }
-
     module _ (known : IsSome (get c.image.manifest.files file)) where
       told : (I : Image) → c.image.manifest ≡ I.manifest → (r : Reply) → (if is_some (get I.manifest.files file) then r else Refused (NoName file)) ≡ r
       told I manifest r = ap (λ (b : Bool). if b then r else Refused (NoName file))
           (ap (λ (m : Manifest). is_some (get m.files file)) (sym manifest) ∙ known)
-
-      pub file_now : (a : Answer) → RendersOver c c.held.live file a → IsReading c (PlanFile file None) a
-      file_now a renders = record {
-        changes_nothing = λ I os manifest templates W version. ap (stays (with_core W c.held (job_of c.job)))
-            (told I manifest (planned_file I c.held file None) ∙ renders.renders I os templates);
-      }
-
-      pub file_missing : (tx : List ℕ) → get c.held.pending tx ≡ None → IsReading c (PlanFile file (Some tx)) (answer.Refused (NoPending tx))
-      file_missing tx none = record {
-        changes_nothing = λ I os manifest templates W version. ap (stays (with_core W c.held (job_of c.job)))
-            (told I manifest (planned_file I c.held file (Some tx)) ∙ ap (λ (o : Pends). committed_file I c.held file tx o) none);
-      }
 
       pub file_after : (tx : List ℕ) (a : Answer) → (get c.held.pending tx ≡ None → ⊥) → RendersOver c (committed c.held tx).live file a
           → IsReading c (PlanFile file (Some tx)) a

@@ -7,3 +7,4 @@ pub mod Carried
 pub mod Reopened
 pub mod Turned
 pub mod Gathered
+pub mod Verifying

@@ -19,6 +19,7 @@ mod serving;
 mod setting;
 mod settings_at;
 mod turning;
+mod verifying;
 
 pub use affected_apply::JobState;
 pub use planned::{Effect, Planned};

@@ -1,7 +1,7 @@
 //! What a request comes to.
-ghost use Rattle.std.specs.Prelude.{◌≡◌, [], true, IfOk};
+ghost use Rattle.std.specs.Prelude.{◌≡◌, [], true, false, IfOk};
 ghost use Rattle.settings_machine.specs.Asked.{request_of};
-ghost use Rattle.settings_machine.specs.Requests.{IsProper, is_reading};
+ghost use Rattle.settings_machine.specs.Requests.{IsProper, is_reading, reads_files};
 ghost use Rattle.settings_tree.specs.Laid.{KeepsPrefixRule};
 ghost use Rattle.typed_settings.specs.Row.{IsPrefixFree};
 ghost use Rattle.machine_answers.specs.Replies.{MayPrint};
@@ -32,6 +32,7 @@ impl Core {
     fn make(&self, alloc: Global, request: &Request) -> Result<Planned, AllocError>
         requires sound { IsSound self.now }
         requires proper { IsProper (request_of request.now) }
+        requires plannable { reads_files (request_of request.now) ≡ false }
         ensures may { IfOk result (MayMake self.now) }
         ensures planned { IfOk result (Makes self.now (request_of request.now)) }
         ensures files { IfOk result (KnowsFiles self.now) }
@@ -83,17 +84,19 @@ impl Core {
                 Ok(self.plan_reading(alloc, self.planned_file(alloc, file, tx)?))
             }
             Request::Store => Ok(self.plan_reading(alloc, self.store()?)),
+            Request::Verify => unreachable!(),
         }
     }
 
     /// What the machine makes of a request: what it answers, and what the request does to the core once it is committed. Nothing
-    /// changes. No call of the disk has failed since the last opening, and each key of a `Patch` or a `Set` begins with
-    /// `settings`.
+    /// changes. No call of the disk has failed since the last opening, each key of a `Patch` or a `Set` begins with
+    /// `settings`, and the request is none that reads the configuration files: that is `verify`.
     ///
     /// The only error is out of memory. It takes a logarithmic step or two for each value, key and name that is answered or changed.
     pub fn plan(&self, alloc: Global, request: &Request) -> Result<Planned, AllocError>
         requires sound { IsSound self.now }
         requires proper { IsProper (request_of request.now) }
+        requires plannable { reads_files (request_of request.now) ≡ false }
         ensures planned { IfOk result (λ planned. Plans self.now (request_of request.now) planned.answer planned.effect) }
         ensures replies { IfOk result (λ planned. Replies self.now (request_of request.now) planned.answer) }
         ensures may { IfOk result (λ planned. MayCommit self.now planned.effect) }
