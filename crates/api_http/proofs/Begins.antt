@@ -18,7 +18,7 @@ use Rattle.settings_machine.specs.declared.request.Guard.{Guard}
 use Rattle.settings_machine.specs.declared.request.Guard.TheVariants.{Off, Render}
 use Rattle.api_http.specs.Spelled.{Spells, at_root, at_os, at_settings, at_patch, at_services, at_files, at_affected, at_pending}
 use Rattle.api_http.specs.Spelled.{at_drop, at_list, at_commit, at_apply, at_apply_all, at_commit_and_apply, at_job}
-use Rattle.api_http.specs.Spelled.{at_set, at_plan, at_plan_file, at_store, GivesKeysOrPrefix, by_keys, by_prefix, by_neither}
+use Rattle.api_http.specs.Spelled.{at_set, at_plan, at_plan_file, at_store, at_verify, GivesKeysOrPrefix, by_keys, by_prefix, by_neither}
 use Rattle.api_http.specs.declared.route.Route.{Route}
 use Rattle.api_http.specs.Query.{Pair}
 
@@ -80,3 +80,4 @@ spelled_proper pairs body _ _ (at_set g changes _ flat) = guarded_proper g (Set 
 spelled_proper pairs body _ _ (at_plan _ _) = tt
 spelled_proper pairs body _ _ (at_plan_file _ _ _ _) = tt
 spelled_proper pairs body _ _ (at_store _) = tt
+spelled_proper pairs body _ _ (at_verify _) = tt

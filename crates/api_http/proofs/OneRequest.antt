@@ -16,7 +16,7 @@ use Rattle.api_http.specs.Spelled.{MayGiveAll, by_all, without_all, GivesNames, 
 use Rattle.api_http.specs.Spelled.{GivesKeys, GivesKeysOrPrefix, by_keys, by_prefix, by_neither, Spells, at_root}
 use Rattle.api_http.specs.Spelled.{at_os, at_settings, at_patch, at_services, at_files, at_affected}
 use Rattle.api_http.specs.Spelled.{at_pending, at_drop, at_list, at_commit, at_apply, at_apply_all, at_commit_and_apply, at_job}
-use Rattle.api_http.specs.Spelled.{at_set, at_plan, at_plan_file, at_store}
+use Rattle.api_http.specs.Spelled.{at_set, at_plan, at_plan_file, at_store, at_verify}
 
 first_name : List Pair → List ℕ
 first_name [] = []
@@ -133,3 +133,4 @@ one_request pairs body _ _ _ (at_plan_file file tx f a) (at_plan_file file' tx' 
     let names = one_may_tx (others (codes "name") pairs) tx tx' a b in
     λ i. machine.PlanFile (files i) (names i)
 one_request pairs body _ _ _ (at_store _) (at_store _) = refl
+one_request pairs body _ _ _ (at_verify _) (at_verify _) = refl

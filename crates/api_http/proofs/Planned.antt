@@ -1,18 +1,19 @@
 -- Routes of which several are planned alike.
 use Rattle.std.proofs.Common.{◌≡◌, ◌≢◌, List, [], ◌∷◌, IsTrue, codes, refl}
 use Rattle.api_http.specs.declared.route.Route.{Route}
-use Rattle.api_http.specs.declared.route.Route.TheVariants.{Root, OsNames, Pending, DropTx, TxList, Commit, CommitAndApply, JobNow, Store}
+use Rattle.api_http.specs.declared.route.Route.TheVariants.{Root, OsNames, Pending, DropTx, TxList, Commit, CommitAndApply, JobNow, Store, Verify}
 use Rattle.api_http.specs.Query.{Pair, QueryFault, HasQueryFault}
 use Rattle.api_http.specs.Plans.{is_bare, takes_tx, takes_check}
 
 -- the last of the routes without a query
-pub last_bare : (r : Route) → IsTrue (is_bare r) → r ≢ Root → r ≢ OsNames → r ≢ TxList → r ≢ JobNow → r ≡ Store
-last_bare Store is a b c d = refl
-last_bare Root is a b c d = absurd (a refl)
-last_bare OsNames is a b c d = absurd (b refl)
-last_bare TxList is a b c d = absurd (c refl)
-last_bare JobNow is a b c d = absurd (d refl)
-last_bare _ is a b c d = cc
+pub last_bare : (r : Route) → IsTrue (is_bare r) → r ≢ Root → r ≢ OsNames → r ≢ TxList → r ≢ JobNow → r ≢ Store → r ≡ Verify
+last_bare Verify is a b c d e = refl
+last_bare Root is a b c d e = absurd (a refl)
+last_bare OsNames is a b c d e = absurd (b refl)
+last_bare TxList is a b c d e = absurd (c refl)
+last_bare JobNow is a b c d e = absurd (d refl)
+last_bare Store is a b c d e = absurd (e refl)
+last_bare _ is a b c d e = cc
 
 -- the last of the routes with a transaction and no body
 pub last_tx : (r : Route) → IsTrue (takes_tx r) → r ≢ Pending → r ≡ DropTx
@@ -33,6 +34,7 @@ bare_fault OsNames pairs is f = f
 bare_fault TxList pairs is f = f
 bare_fault JobNow pairs is f = f
 bare_fault Store pairs is f = f
+bare_fault Verify pairs is f = f
 bare_fault _ pairs is f = cc
 
 -- a fault of a query that may name a transaction is one of the route

@@ -2,7 +2,7 @@
 use Rattle.std.proofs.Common.{◌≡◌, ℕ, List, [], codes, refl}
 use Rattle.machine_answers.specs.Replies.{body_of}
 use Rattle.machine_answers.specs.declared.answer.Body.{Body}
-use Rattle.machine_answers.specs.declared.answer.Body.TheVariants.{Values, Pairs, Texts, Lists, Keys, Names, Job, Plan, Store}
+use Rattle.machine_answers.specs.declared.answer.Body.TheVariants.{Values, Pairs, Texts, Lists, Keys, Names, Job, Plan, Store, States}
 use Rattle.api_http.specs.Replies.{with_body}
 use Rattle.api_http.specs.Says.{sent_as}
 
@@ -17,3 +17,4 @@ sent_as_json (Names names) text = refl
 sent_as_json (Job status owed) text = refl
 sent_as_json (Plan plan) text = refl
 sent_as_json (Store version held) text = refl
+sent_as_json (States files) text = refl

@@ -15,7 +15,7 @@ use Rattle.api_http.specs.Spelled.{MayGiveAll, by_all, without_all, GivesName, G
 use Rattle.api_http.specs.Spelled.{GivesKeys, GivesKeysOrPrefix, by_keys, by_prefix, by_neither, Spells, at_root}
 use Rattle.api_http.specs.Spelled.{at_os, at_settings, at_patch, at_services, at_files, at_affected}
 use Rattle.api_http.specs.Spelled.{at_pending, at_drop, at_list, at_commit, at_apply, at_apply_all, at_commit_and_apply, at_job}
-use Rattle.api_http.specs.Spelled.{at_set, at_plan, at_plan_file, at_store}
+use Rattle.api_http.specs.Spelled.{at_set, at_plan, at_plan_file, at_store, at_verify}
 use Rattle.api_http.proofs.Parted.{parts_sound, none_wanted, one_wanted}
 
 -- ---- a query without pairs, and one of a single pair
@@ -157,6 +157,7 @@ spells_sound pairs body _ _ (at_set g changes guards _) = guard_sound pairs g gu
 spells_sound pairs body _ _ (at_plan tx names) = may_tx_sound pairs tx names
 spells_sound pairs body _ _ (at_plan_file file tx gives names) = file_sound pairs file tx gives names
 spells_sound pairs body _ _ (at_store is) = none_sound _ pairs is
+spells_sound pairs body _ _ (at_verify is) = none_sound _ pairs is
 
 -- nor has one that gives a plan
 pub plan_sound : (pairs : List Pair) (r : Route) (plan : Plan) → IsPlan r pairs plan → ¬ HasQueryFault r pairs

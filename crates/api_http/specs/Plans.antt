@@ -42,6 +42,7 @@ is_bare route.OsNames = true
 is_bare route.TxList = true
 is_bare route.JobNow = true
 is_bare route.Store = true
+is_bare route.Verify = true
 is_bare _ = false
 
 -- The route takes the name of a transaction and no body.

@@ -84,6 +84,7 @@ pub data Spells (pairs : List Pair) (body : List ℕ) : Route → machine.Reques
   at_plan_file : (file : List ℕ) (tx : Option (List ℕ)) → GivesName (with_name (codes "name") pairs) file → MayNameTx (others (codes "name") pairs) tx
       → Spells pairs body route.PlanFile (machine.PlanFile file tx)
   at_store : pairs ≡ [] → Spells pairs body route.Store machine.Store
+  at_verify : pairs ≡ [] → Spells pairs body route.Verify machine.Verify
 
 -- ---- for private clauses
 

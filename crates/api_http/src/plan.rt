@@ -38,7 +38,8 @@ fn bare_request(route: Route) -> Request
         Route::OsNames => Request::OsNames,
         Route::TxList => Request::TxList,
         Route::JobNow => Request::JobNow,
-        _ => Request::Store,
+        Route::Store => Request::Store,
+        _ => Request::Verify,
     }
 }
 
@@ -243,9 +244,12 @@ pub(crate) fn plan_of(
     ensures bad { IfErr result (λ e. e ≡ Bad → HasQueryFault route (texts pairs.now)) }
 {
     match route {
-        Route::Root | Route::OsNames | Route::TxList | Route::JobNow | Route::Store => {
-            bare_plan(route, pairs)
-        }
+        Route::Root
+        | Route::OsNames
+        | Route::TxList
+        | Route::JobNow
+        | Route::Store
+        | Route::Verify => bare_plan(route, pairs),
         Route::Pending | Route::DropTx => tx_plan(alloc, route, pairs),
         Route::Commit | Route::CommitAndApply => commit_plan(alloc, route, pairs),
         Route::Apply => apply_plan(pairs),

@@ -1,5 +1,5 @@
 -- Connections one after another, from their parts.
-use Rattle.std.proofs.Common.{◌≡◌, ◌≤◌, ◌+◌, ◌&&◌, ℕ, Bool, List, [], ◌∷◌, ◌++◌, Option, Ok, true, refl, sym, ◌∙◌, ap, subst, append_assoc, arith}
+use Rattle.std.proofs.Common.{◌≡◌, ◌≤◌, ◌+◌, ◌&&◌, ℕ, Bool, List, [], ◌∷◌, ◌++◌, Option, Ok, true, false, refl, sym, ◌∙◌, ap, subst, append_assoc, arith}
 use Rattle.std.proofs.lemmas.List.{append-nil}
 use Rattle.outside.specs.Exchange.{Exchange, fresh}
 use Rattle.outside.specs.declared.disk_error.Failed.{Failed}
@@ -18,15 +18,17 @@ use Rattle.machine_disk.specs.Ran.{Ran, RunsBy}
 use Rattle.machine_disk.proofs.Runs.{ran_none, ran_more}
 use Rattle.store_open.specs.Laws.{HoldsImage, IsImageOfFolder}
 use Rattle.affected_apply.specs.Jobs.{failed_with_disk, failed_to_spawn, answer_of}
+use Rattle.affected_apply.specs.Turned.{AreTurns}
 use Rattle.api_core.specs.Cores.{core_state}
 use Rattle.api_core.specs.Turned.{Turns}
 use Rattle.api_core.specs.declared.serving.Core.{Core}
 use Rattle.api_server.specs.Causes.{FaultCounts, fault_counts, AreCounted}
-use Rattle.api_server.specs.Exchanged.{IsServed, IsExchanged}
-use Rattle.api_server.specs.Rounds.{Round, IsRound, AreRounds, AreExchanged, events_of_round, events_of}
-use Rattle.api_server.specs.Answered.{Answers, RoundBy, ServesOne, RoundsBy, ServesAll}
+use Rattle.api_server.specs.declared.pace.Pace.{Pace}
+use Rattle.api_server.specs.Exchanged.{Said, IsServed, IsExchanged}
+use Rattle.api_server.specs.Rounds.{AsksFor, AreIdle, Round, IsRound, AreRounds, AreExchanged, events_of_round, events_of}
+use Rattle.api_server.specs.Answered.{Answers, ConnectionBy, ServesOne, Idles, RoundsBy, ServesAll}
 use Rattle.api_server.proofs.Counted.{counted_none, counted_then, asked_counted}
-use Rattle.api_server.proofs.Slices.{core_counted}
+use Rattle.api_server.proofs.Slices.{core_counted, idle_none, idle_then}
 use Rattle.api_server.proofs.Requested.{asks_runs}
 use Rattle.api_server.proofs.Lasts.{head_same, tail_same}
 
@@ -49,31 +51,35 @@ runs_none I W a = moves_stay (λ r is. is)
 -- ---- one connection
 
 -- Its request, and then a slice of turns.
-pub one_round : (slice : Option ℕ) (c mid now : Core) (d d_mid d' s s' : ℕ) (told told_after : Option (List Exchange))
+pub one_connection : (slice : Option ℕ) (c mid now : Core) (d d_mid d' s s' : ℕ) (told told_after : Option (List Exchange))
     (ran_before ran_after : Option (List Run))
     (old between new : History) → Answers c mid d d_mid told told_after old between → d ≤ d_mid
     → HasCause d_mid d' (answer_of (is_running (core_state mid).job && failed_with_disk (core_state now).job))
     → HasCause s s' (answer_of (is_running (core_state mid).job && failed_to_spawn (core_state now).job)) → Turns mid slice now ran_before ran_after between new
     → ServesOne slice c now (fault_counts d s) (fault_counts d' s') told told_after ran_before ran_after old new
-one_round slice c mid now d d_mid d' s s' told told_after ran_before ran_after old between new answers later disk spawner turns = record { each = by } where
-  by : (I : Image) → IsGood I → HoldsImage I c.image → (folder : Folder) → IsImageOfFolder I folder → (W V : World) → Kept I folder W V old (core_state c)
-      → RoundBy I folder W V slice c now (fault_counts d s) (fault_counts d' s') told told_after ran_before ran_after old new
-  by I good of folder made W V kept =
-      let one = answers.each I good of folder made W V kept in
-      let X = after I W one.asked in
-      let two = turns.each I good one.image folder X one.made.other one.made.kept in
-      record {
-        round = record { said = one.said; asked = one.asked; turned = two.turns.events };
-        is = record { asks = one.asks; turns = two.turns.form };
-        served = one.served;
-        cause = λ q is. omega (arith, one.cause q is, disk.later);
-        counted = counted_then one.asked two.turns.events (fault_counts d s) (fault_counts d_mid s) (fault_counts d' s')
-            (asked_counted I W c.faulted one.said one.asked one.asks d d_mid s s later (omega arith) one.cause)
-            (core_counted I folder X one.made.other slice mid now ran_before ran_after between new one.made.kept two d_mid d' s s' disk spawner);
-        made = ran_more I folder W V one.asked two.turns.events old between new (core_state c) (core_state mid) (core_state now) one.made two.turns.ran;
-        runs = runs_after I W one.asked two.turns.events ran_before ran_after (asks_runs I c.faulted W one.said one.asked one.asks) two.turns.runs;
-        image = two.image;
-      }
+one_connection slice c mid now d d_mid d' s s' told told_after ran_before ran_after old between new answers later disk spawner turns =
+    record { each = by } where
+      by : (I : Image) → IsGood I → HoldsImage I c.image → (folder : Folder) → IsImageOfFolder I folder → (W V : World) → Kept I folder W V old (core_state c)
+          → ConnectionBy I folder W V slice c now (fault_counts d s) (fault_counts d' s') told told_after ran_before ran_after old new
+      by I good of folder made W V kept =
+          let one = answers.each I good of folder made W V kept in
+          let X = after I W one.asked in
+          let two = turns.each I good one.image folder X one.made.other one.made.kept in
+          record {
+            said = one.said;
+            asked = one.asked;
+            turned = two.turns.events;
+            asks = one.asks;
+            turns = two.turns.form;
+            served = one.served;
+            cause = λ q is. omega (arith, one.cause q is, disk.later);
+            counted = counted_then one.asked two.turns.events (fault_counts d s) (fault_counts d_mid s) (fault_counts d' s')
+                (asked_counted I W c.faulted one.said one.asked one.asks d d_mid s s later (omega arith) one.cause)
+                (core_counted I folder X one.made.other slice mid now ran_before ran_after between new one.made.kept two d_mid d' s s' disk spawner);
+            made = ran_more I folder W V one.asked two.turns.events old between new (core_state c) (core_state mid) (core_state now) one.made two.turns.ran;
+            runs = runs_after I W one.asked two.turns.events ran_before ran_after (asks_runs I c.faulted W one.said one.asked one.asks) two.turns.runs;
+            image = two.image;
+          }
 
 -- ---- one more connection
 
@@ -83,17 +89,32 @@ events_push [] r = append-nil (events_of_round r)
 events_push (q ∷ rs) r = ap (λ (l : List Event). events_of_round q ++ l) (events_push rs r)
     ∙ sym (append_assoc (events_of_round q) (events_of rs) (events_of_round r))
 
+events_more : (rs : List Round) (r : Round) → events_of (rs ++ r ∷ []) ++ [] ≡ (events_of rs ++ r.idle) ++ (r.asked ++ r.turned)
+events_more rs r = append-nil (events_of (rs ++ r ∷ [])) ∙ events_push rs r ∙ sym (append_assoc (events_of rs) r.idle (r.asked ++ r.turned))
+
 -- It begins where those before it have led.
-rounds_push : (I : Image) (slice : Option ℕ) (b : Bool) (W : World) (rs : List Round) (r : Round) → AreRounds I slice b W rs
-    → IsRound I slice (faulted_after b (events_of rs)) (after I W (events_of rs)) r → AreRounds I slice b W (rs ++ r ∷ [])
-rounds_push I slice b W [] r are is = (is, tt)
-rounds_push I slice b W (q ∷ rs) r are is = (
+rounds_push : (I : Image) (pace : Pace) (b : Bool) (W : World) (rs : List Round) (r : Round) → AreRounds I pace b W rs
+    → IsRound I pace (faulted_after b (events_of rs)) (after I W (events_of rs)) r → AreRounds I pace b W (rs ++ r ∷ [])
+rounds_push I pace b W [] r are is = (is, tt)
+rounds_push I pace b W (q ∷ rs) r are is = (
   are.0,
-  rounds_push I slice (faulted_after b (events_of_round q)) (after I W (events_of_round q)) rs r are.1
-      (subst (λ (f : Bool). IsRound I slice f (after I (after I W (events_of_round q)) (events_of rs)) r) (faulted-append b (events_of_round q) (events_of rs))
-      (subst (λ (X : World). IsRound I slice (faulted_after b (events_of_round q ++ events_of rs)) X r) (after-append I W (events_of_round q) (events_of rs))
+  rounds_push I pace (faulted_after b (events_of_round q)) (after I W (events_of_round q)) rs r are.1
+      (subst (λ (f : Bool). IsRound I pace f (after I (after I W (events_of_round q)) (events_of rs)) r) (faulted-append b (events_of_round q) (events_of rs))
+      (subst (λ (X : World). IsRound I pace (faulted_after b (events_of_round q ++ events_of rs)) X r) (after-append I W (events_of_round q) (events_of rs))
       is)),
 )
+
+-- So do the turns before it.
+round_is : (I : Image) (pace : Pace) (b : Bool) (W : World) (es idle : List Event) (said : Said) (asked turned : List Event)
+    → AreIdle pace.while_idle I (after I W es) idle → AsksFor I (faulted_after b (es ++ idle)) (after I W (es ++ idle)) said asked
+    → AreTurns I pace.slice (after I (after I W (es ++ idle)) asked) turned
+    → IsRound I pace (faulted_after b es) (after I W es) (record { idle = idle; said = said; asked = asked; turned = turned })
+round_is I pace b W es idle said asked turned idles asks turns = record {
+  idle = idles;
+  asks = subst (λ (f : Bool). AsksFor I f (after I (after I W es) idle) said asked) (faulted-append b es idle)
+      (subst (λ (X : World). AsksFor I (faulted_after b (es ++ idle)) X said asked) (after-append I W es idle) asks);
+  turns = subst (λ (X : World). AreTurns I pace.slice (after I X asked) turned) (after-append I W es idle) turns;
+}
 
 -- Its bytes come last.
 exchanged_push : (rs : List Round) (r : Round) (x : Exchange) (old mid : List Exchange) → AreExchanged rs old mid → IsExchanged r.said x
@@ -124,14 +145,16 @@ pub one_accepted : (came : Bool) → came ≡ true → (old new : DoorState) →
 one_accepted came is old new accepts = subst (λ (b : Bool). Accepts {E = Failed} (Ok b) old new) is accepts
 
 -- Before the first connection.
-pub rounds_none : (slice : Option ℕ) (c : Core) (d s : ℕ) (told : Option (List Exchange)) (ran : Option (List Run)) (h : History)
-    → ServesAll slice c c (fault_counts d s) (fault_counts d s) told told ran ran h h
-rounds_none slice c d s told ran h = record { each = by } where
+pub rounds_none : (pace : Pace) (c : Core) (d s : ℕ) (told : Option (List Exchange)) (ran : Option (List Run)) (h : History)
+    → ServesAll pace c c (fault_counts d s) (fault_counts d s) told told ran ran h h
+rounds_none pace c d s told ran h = record { each = by } where
   by : (I : Image) → IsGood I → HoldsImage I c.image → (folder : Folder) → IsImageOfFolder I folder → (W V : World) → Kept I folder W V h (core_state c)
-      → RoundsBy I folder W V slice c c (fault_counts d s) (fault_counts d s) told told ran ran h h
+      → RoundsBy I folder W V pace c c (fault_counts d s) (fault_counts d s) told told ran ran h h
   by I good of folder made W V kept = record {
     rounds = [];
+    idle = [];
     are = tt;
+    idles = idle_none pace.while_idle I W;
     exchanged = moves_stay (λ l. refl);
     counted = counted_none d d s s (omega arith) (omega arith);
     made = ran_none I folder W V h (core_state c) kept;
@@ -139,34 +162,98 @@ rounds_none slice c d s told ran h = record { each = by } where
     image = of;
   }
 
+-- Turns while no further client is there.
+pub rounds_idle : (pace : Pace) (c mid now : Core) (counts counts_mid counts_after : FaultCounts) (told told_after : Option (List Exchange))
+    (ran_before ran_mid ran_after : Option (List Run)) (old between new : History)
+    → ServesAll pace c mid counts counts_mid told told_after ran_before ran_mid old between
+    → Idles pace.while_idle mid now counts_mid counts_after ran_mid ran_after between new
+    → ServesAll pace c now counts counts_after told told_after ran_before ran_after old new
+rounds_idle pace c mid now counts counts_mid counts_after told told_after ran_before ran_mid ran_after old between new all idles = record { each = by } where
+  by : (I : Image) → IsGood I → HoldsImage I c.image → (folder : Folder) → IsImageOfFolder I folder → (W V : World) → Kept I folder W V old (core_state c)
+      → RoundsBy I folder W V pace c now counts counts_after told told_after ran_before ran_after old new
+  by I good of folder made W V kept =
+      let was = all.each I good of folder made W V kept in
+      let first = events_of was.rounds in
+      let es = first ++ was.idle in
+      let next = idles.each I good was.image folder made (after I W es) was.made.other was.made.kept in
+      let same = append_assoc first was.idle next.events in
+      record {
+        rounds = was.rounds;
+        idle = was.idle ++ next.events;
+        are = was.are;
+        idles = idle_then pace.while_idle I (after I W first) was.idle next.events was.idles
+            (subst (λ (X : World). AreIdle pace.while_idle I X next.events) (after-append I W first was.idle) next.are);
+        exchanged = was.exchanged;
+        counted = subst (λ (l : List Event). AreCounted l counts counts_after) same
+            (counted_then es next.events counts counts_mid counts_after was.counted next.counted);
+        made = subst (λ (l : List Event). Ran I folder W V l old new (core_state c) (core_state now)) same
+            (ran_more I folder W V es next.events old between new (core_state c) (core_state mid) (core_state now) was.made next.made);
+        runs = subst (λ (l : List Event). RunsBy I W l ran_before ran_after) same
+            (runs_more I W es next.events ran_before ran_mid ran_after was.runs next.runs);
+        image = next.image;
+      }
+
+-- No further connection came, for none is left or the accept failed.
+pub rounds_closed : (pace : Pace) (c now : Core) (counts counts_after : FaultCounts) (told told_mid told_after : Option (List Exchange))
+    (ran_before ran_after : Option (List Run)) (old new : History) → Moves told_mid told_after (λ first last. last ≡ first)
+    → ServesAll pace c now counts counts_after told told_mid ran_before ran_after old new
+    → ServesAll pace c now counts counts_after told told_after ran_before ran_after old new
+rounds_closed pace c now counts counts_after told told_mid told_after ran_before ran_after old new closed all = record { each = by } where
+  by : (I : Image) → IsGood I → HoldsImage I c.image → (folder : Folder) → IsImageOfFolder I folder → (W V : World) → Kept I folder W V old (core_state c)
+      → RoundsBy I folder W V pace c now counts counts_after told told_after ran_before ran_after old new
+  by I good of folder made W V kept =
+      let was = all.each I good of folder made W V kept in
+      record {
+        rounds = was.rounds;
+        idle = was.idle;
+        are = was.are;
+        idles = was.idles;
+        exchanged = moves_then (λ first mid last are same. subst (AreExchanged was.rounds first) (sym same) are) was.exchanged closed;
+        counted = was.counted;
+        made = was.made;
+        runs = was.runs;
+        image = was.image;
+      }
+
+-- What is told where none is left.
+pub none_opened : (came : Bool) → came ≡ false → (a b : Option (List Exchange)) → Moves a b (Opens {E = Failed} (Ok came))
+    → Moves a b (λ first last. last ≡ first)
+none_opened came is a b m = subst (λ (x : Bool). Moves a b (Opens {E = Failed} (Ok x))) is m
+
 -- One connection more, from its accept on.
 pub rounds_more : (came : Bool) → came ≡ true
-    → (slice : Option ℕ) (c mid now : Core) (counts counts_mid counts_after : FaultCounts)
+    → (pace : Pace) (c mid now : Core) (counts counts_mid counts_after : FaultCounts)
     (told told_mid told_opened told_after : Option (List Exchange)) (ran_before ran_mid ran_after : Option (List Run)) (old between new : History)
-    → Moves told_mid told_opened (Opens {E = Failed} (Ok came)) → ServesAll slice c mid counts counts_mid told told_mid ran_before ran_mid old between
-    → ServesOne slice mid now counts_mid counts_after told_opened told_after ran_mid ran_after between new
-    → ServesAll slice c now counts counts_after told told_after ran_before ran_after old new
-rounds_more came is slice c mid now counts counts_mid counts_after told told_mid told_opened told_after ran_before ran_mid ran_after old between new opens all
+    → Moves told_mid told_opened (Opens {E = Failed} (Ok came)) → ServesAll pace c mid counts counts_mid told told_mid ran_before ran_mid old between
+    → ServesOne pace.slice mid now counts_mid counts_after told_opened told_after ran_mid ran_after between new
+    → ServesAll pace c now counts counts_after told told_after ran_before ran_after old new
+rounds_more came is pace c mid now counts counts_mid counts_after told told_mid told_opened told_after ran_before ran_mid ran_after old between new opens all
     one =
     record { each = by } where
       by : (I : Image) → IsGood I → HoldsImage I c.image → (folder : Folder) → IsImageOfFolder I folder → (W V : World) → Kept I folder W V old (core_state c)
-          → RoundsBy I folder W V slice c now counts counts_after told told_after ran_before ran_after old new
+          → RoundsBy I folder W V pace c now counts counts_after told told_after ran_before ran_after old new
       by I good of folder made W V kept =
           let was = all.each I good of folder made W V kept in
-          let es = events_of was.rounds in
-          let next = one.each I good was.image folder made (after I W es) was.made.other was.made.kept in
-          let r = next.round in
-          let same = sym (events_push was.rounds r) in
+          let es = events_of was.rounds ++ was.idle in
+          let X = after I W es in
+          let next = one.each I good was.image folder made X was.made.other was.made.kept in
+          let fs = next.asked ++ next.turned in
+          let r : Round = record { idle = was.idle; said = next.said; asked = next.asked; turned = next.turned } in
+          let same = sym (events_more was.rounds r) in
           record {
             rounds = was.rounds ++ r ∷ [];
-            are = rounds_push I slice c.faulted W was.rounds r was.are (subst (λ (f : Bool). IsRound I slice f (after I W es) r) was.made.flag next.is);
+            idle = [];
+            are = rounds_push I pace c.faulted W was.rounds r was.are
+                (round_is I pace c.faulted W (events_of was.rounds) was.idle next.said next.asked next.turned was.idles
+                (subst (λ (f : Bool). AsksFor I f X next.said next.asked) was.made.flag next.asks) next.turns);
+            idles = idle_none pace.while_idle I (after I W (events_of (was.rounds ++ r ∷ [])));
             exchanged = exchanged_more was.rounds r told told_mid told_opened told_after was.exchanged
                 (subst (λ (b : Bool). Moves told_mid told_opened (Opens {E = Failed} (Ok b))) is opens) next.served;
             counted = subst (λ (l : List Event). AreCounted l counts counts_after) same
-                (counted_then es (events_of_round r) counts counts_mid counts_after was.counted next.counted);
+                (counted_then es fs counts counts_mid counts_after was.counted next.counted);
             made = subst (λ (l : List Event). Ran I folder W V l old new (core_state c) (core_state now)) same
-                (ran_more I folder W V es (events_of_round r) old between new (core_state c) (core_state mid) (core_state now) was.made next.made);
+                (ran_more I folder W V es fs old between new (core_state c) (core_state mid) (core_state now) was.made next.made);
             runs = subst (λ (l : List Event). RunsBy I W l ran_before ran_after) same
-                (runs_more I W es (events_of_round r) ran_before ran_mid ran_after was.runs next.runs);
+                (runs_more I W es fs ran_before ran_mid ran_after was.runs next.runs);
             image = next.image;
           }

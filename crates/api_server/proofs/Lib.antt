@@ -5,6 +5,7 @@ pub mod Replied
 pub mod Conversations
 pub mod Answerings
 pub mod Followed
+pub mod Idled
 pub mod Servings
 pub mod Lasts
 pub mod Readings
@@ -12,5 +13,6 @@ pub mod Sayings
 pub mod Waitings
 pub mod Hearings
 pub mod Handlings
+pub mod Verified
 pub mod Reopenings
 pub mod Refusing

@@ -18,6 +18,7 @@ use Rattle.api_core.specs.Cores.{core_state}
 use Rattle.api_core.specs.Turned.{Turns}
 use Rattle.api_core.specs.declared.serving.Core.{Core}
 use Rattle.api_server.specs.declared.handled.Handled.{Handled}
+use Rattle.api_server.specs.declared.pace.Pace.{Pace}
 use Rattle.api_server.specs.Causes.{FaultCounts, fault_counts}
 use Rattle.api_server.specs.Handled.{Fits, HasDiskCause}
 use Rattle.api_server.specs.Rounds.{AreRounds, events_of}
@@ -123,54 +124,57 @@ not_driven false is c d s ran h = record { each = by } where
 -- ---- the whole
 
 -- The beginning, the connections one after another, and the end.
-pub whole : (slice : Option ℕ) (boot fine : Bool) (c up served now : Core) (n0 n1 n2 n3 : FaultCounts) (told told_after : Option (List Exchange))
+pub whole : (pace : Pace) (boot fine : Bool) (c up served now : Core) (n0 n1 n2 n3 : FaultCounts) (told told_after : Option (List Exchange))
     (ran_before ran_up ran_served ran_after : Option (List Run))
-    (old booted ended new : History) → Boots boot slice c up n0 n1 ran_before ran_up old booted
-    → ServesAll slice up served n1 n2 told told_after ran_up ran_served booted ended
-    → Ends fine served now n2 n3 ran_served ran_after ended new → Serves slice boot fine c now n0 n3 told told_after ran_before ran_after old new
-whole slice boot fine c up served now n0 n1 n2 n3 told told_after ran_before ran_up ran_served ran_after old booted ended new boots serves ends =
+    (old booted ended new : History) → Boots boot pace.slice c up n0 n1 ran_before ran_up old booted
+    → ServesAll pace up served n1 n2 told told_after ran_up ran_served booted ended
+    → Ends fine served now n2 n3 ran_served ran_after ended new → Serves pace boot fine c now n0 n3 told told_after ran_before ran_after old new
+whole pace boot fine c up served now n0 n1 n2 n3 told told_after ran_before ran_up ran_served ran_after old booted ended new boots serves ends =
     record { each = by } where
       by : (I : Image) → IsGood I → HoldsImage I c.image → (folder : Folder) → IsImageOfFolder I folder → (W V : World) → Kept I folder W V old (core_state c)
-          → ServedBy I folder W V slice boot fine c now n0 n3 told told_after ran_before ran_after old new
+          → ServedBy I folder W V pace boot fine c now n0 n3 told told_after ran_before ran_after old new
       by I good of folder made W V kept =
           let one = boots.each I good of folder made W V kept in
           let X = after I W one.events in
           let two = serves.each I good one.image folder made X one.made.other one.made.kept in
-          let Y = after I X (events_of two.rounds) in
+          let middle = events_of two.rounds ++ two.idle in
+          let Y = after I X middle in
           let three = ends.each I good two.image folder made Y two.made.other two.made.kept in
-          let last = events_of two.rounds ++ three.events in
+          let last = middle ++ three.events in
           record {
             rounds = two.rounds;
             events = one.events ++ last;
             are = record {
               booted = one.events;
+              idle = two.idle;
               last = three.events;
               whole = refl;
               boots = one.are;
-              are = subst (λ (f : Bool). AreRounds I slice f X two.rounds) one.made.flag two.are;
+              are = subst (λ (f : Bool). AreRounds I pace f X two.rounds) one.made.flag two.are;
+              idles = two.idles;
               ends = three.are;
             };
             exchanged = two.exchanged;
-            counted = counted_then one.events last n0 n1 n3 one.counted (counted_then (events_of two.rounds) three.events n1 n2 n3 two.counted three.counted);
+            counted = counted_then one.events last n0 n1 n3 one.counted (counted_then middle three.events n1 n2 n3 two.counted three.counted);
             made = ran_more I folder W V one.events last old booted new (core_state c) (core_state up) (core_state now) one.made
-                (ran_more I folder X one.made.other (events_of two.rounds) three.events booted ended new (core_state up) (core_state served) (core_state now)
+                (ran_more I folder X one.made.other middle three.events booted ended new (core_state up) (core_state served) (core_state now)
                 two.made three.made);
             runs = runs_more I W one.events last ran_before ran_up ran_after one.runs
-                (runs_more I X (events_of two.rounds) three.events ran_up ran_served ran_after two.runs three.runs);
+                (runs_more I X middle three.events ran_up ran_served ran_after two.runs three.runs);
             image = three.image;
           }
 
 -- The same on a disk.
-pub whole_told : (slice : Option ℕ) (boot fine : Bool) (c up served now : Core) (n0 n1 n2 n3 : FaultCounts) (told told_after : Option (List Exchange))
-    (ran_before ran_up ran_served ran_after : Option (List Run)) (h0 h1 h2 h3 : Option History) → Moves h0 h1 (Boots boot slice c up n0 n1 ran_before ran_up)
-    → Moves h1 h2 (ServesAll slice up served n1 n2 told told_after ran_up ran_served)
-    → Moves h2 h3 (Ends fine served now n2 n3 ran_served ran_after) → Moves h0 h3 (Serves slice boot fine c now n0 n3 told told_after ran_before ran_after)
-whole_told slice boot fine c up served now n0 n1 n2 n3 told told_after ran_before ran_up ran_served ran_after h0 h1 h2 h3 m n o =
-    let begins : Moves h0 h2 (λ old ended. (booted : History) × Boots boot slice c up n0 n1 ran_before ran_up old booted
-    × ServesAll slice up served n1 n2 told told_after ran_up ran_served booted ended)
+pub whole_told : (pace : Pace) (boot fine : Bool) (c up served now : Core) (n0 n1 n2 n3 : FaultCounts) (told told_after : Option (List Exchange))
+    (ran_before ran_up ran_served ran_after : Option (List Run)) (h0 h1 h2 h3 : Option History) → Moves h0 h1 (Boots boot pace.slice c up n0 n1 ran_before ran_up)
+    → Moves h1 h2 (ServesAll pace up served n1 n2 told told_after ran_up ran_served)
+    → Moves h2 h3 (Ends fine served now n2 n3 ran_served ran_after) → Moves h0 h3 (Serves pace boot fine c now n0 n3 told told_after ran_before ran_after)
+whole_told pace boot fine c up served now n0 n1 n2 n3 told told_after ran_before ran_up ran_served ran_after h0 h1 h2 h3 m n o =
+    let begins : Moves h0 h2 (λ old ended. (booted : History) × Boots boot pace.slice c up n0 n1 ran_before ran_up old booted
+    × ServesAll pace up served n1 n2 told told_after ran_up ran_served booted ended)
     = moves_then (λ old booted ended boots serves. (booted, boots, serves)) m n in
     moves_then
-    (λ old ended new both ends. whole slice boot fine c up served now n0 n1 n2 n3 told told_after ran_before ran_up ran_served ran_after old both.0 ended new
+    (λ old ended new both ends. whole pace boot fine c up served now n0 n1 n2 n3 told told_after ran_before ran_up ran_served ran_after old both.0 ended new
     both.1 both.2
     ends)
     begins o

@@ -1,6 +1,6 @@
 -- A slice of turns has at most one failure of a kind among them, which is what the job has failed with.
 use Rattle.std.proofs.Common.{◌≡◌, ◌⊎◌, ◌+◌, ◌-◌, ◌&&◌, inl, inr, ℕ, Bool, true, false, List, [], ◌∷◌, Option, Some, None, Result, OnErr, refl, sym, ◌∙◌, ap}
-use Rattle.std.proofs.Common.{subst}
+use Rattle.std.proofs.Common.{subst, ◌++◌, ◌≤◌, arith}
 use Rattle.api_server.proofs.Counted.{none_rose}
 use Rattle.outside.specs.Faults.{Rose, HasCause}
 use Rattle.outside.specs.History.{History}
@@ -19,6 +19,7 @@ use Rattle.api_core.specs.Cores.{core_state}
 use Rattle.api_core.specs.Turned.{IsTurned}
 use Rattle.api_core.specs.declared.serving.Core.{Core}
 use Rattle.api_server.specs.Causes.{fails_disk, fails_to_spawn, one_more, count_of, RoseBy, fault_counts, AreCounted}
+use Rattle.api_server.specs.Rounds.{AreIdle}
 
 -- ---- a turn in which a device failed
 
@@ -128,6 +129,46 @@ none_fit I W (Asked q o ∷ es) still are = absurd are
 none_fit I W (Unread ∷ es) still are = absurd are
 none_fit I W (Began version ∷ es) still are = absurd are
 none_fit I W (Moved version held ∷ es) still are = absurd are
+
+-- Some, and then others.
+slice_then : (I : Image) (n m : ℕ) (W : World) (es fs : List Event) → IsSlice I n W es → IsSlice I m (after I W es) fs → IsSlice I (n + m) W (es ++ fs)
+slice_then I n m W [] fs (inl none) more =
+    let same : m ≡ n + m = omega (arith, none) in
+    subst (λ (k : ℕ). IsSlice I k W fs) same more
+slice_then I n m W [] fs (inr still) more =
+    subst (λ (l : List Event). IsSlice I (n + m) W l) (sym (none_fit I W fs still (slice_fits I m W fs more))) (inr still)
+slice_then I n m W (Turned a ∷ es) fs are more =
+    let some : 1 ≤ n + m = omega (arith, are.0) in
+    let left : n - 1 + m ≡ n + m - 1 = omega (arith, are.0) in (
+      some,
+      are.1,
+      are.2,
+      subst (λ (k : ℕ). IsSlice I k (turn_next I W a) (es ++ fs)) left (slice_then I (n - 1) m (turn_next I W a) es fs are.3 more),
+    )
+slice_then I n m W (Opened boot o ∷ es) fs are more = absurd are
+slice_then I n m W (Asked q o ∷ es) fs are more = absurd are
+slice_then I n m W (Unread ∷ es) fs are more = absurd are
+slice_then I n m W (Began version ∷ es) fs are more = absurd are
+slice_then I n m W (Moved version held ∷ es) fs are more = absurd are
+
+-- ---- while no client is there
+
+pub idle_none : (while_idle : Bool) (I : Image) (W : World) → AreIdle while_idle I W []
+idle_none true I W = (0, inl refl)
+idle_none false I W = refl
+
+-- Some, and then others.
+pub idle_then : (while_idle : Bool) (I : Image) (W : World) (es fs : List Event) → AreIdle while_idle I W es → AreIdle while_idle I (after I W es) fs
+    → AreIdle while_idle I W (es ++ fs)
+idle_then true I W es fs first more = (first.0 + more.0, slice_then I first.0 more.0 W es fs first.1 more.1)
+idle_then false I W es fs none more = ap (λ (l : List Event). l ++ fs) none ∙ more
+
+-- A turn.
+pub idle_turn : (while_idle : Bool) → while_idle ≡ true → (I : Image) (W : World) (es : List Event) → AreTurns I (Some 1) W es → AreIdle while_idle I W es
+idle_turn true is I W es turn = (1, turn)
+idle_turn false is I W es turn = absurd (cc is)
+
+-- ---- failures
 
 -- A failure of a kind, of which the job has failed then.
 module _ (I : Image) (p : Event → Bool) (failed : Job → Bool) (stops : (j : Job) → failed j ≡ true → is_running j ≡ false)

@@ -1,5 +1,5 @@
 -- Connections one after another, and the turns of the job between them, as events of the machine.
-use Rattle.std.specs.Prelude.{◌≡◌, ◌≢◌, ℕ, Bool, List, [], ◌∷◌, ◌++◌, Option}
+use Rattle.std.specs.Prelude.{◌≡◌, ◌≢◌, ℕ, Bool, true, false, List, [], ◌∷◌, ◌++◌, Some}
 use Rattle.outside.specs.Exchange.{Exchange}
 use Rattle.settings_machine.specs.World.{Image, World}
 use Rattle.settings_machine.specs.Requests.{Request, Reply, NotOpened}
@@ -7,6 +7,7 @@ use Rattle.settings_machine.specs.Events as events
 use Rattle.settings_machine.specs.Events.{Event, after, faulted_after}
 use Rattle.machine_disk.specs.Ran.{Handled}
 use Rattle.affected_apply.specs.Turned.{AreTurns}
+use Rattle.api_server.specs.declared.pace.Pace.{Pace}
 use Rattle.api_server.specs.Exchanged.{Said, Nothing, OutOfMemory, Unread, Replied, IsExchanged}
 
 -- The request was handled, and not given up because the store could not be opened again.
@@ -21,31 +22,38 @@ AsksFor I faulted W OutOfMemory asked = asked ≡ []
 AsksFor I faulted W (Unread r) asked = asked ≡ events.Unread ∷ []
 AsksFor I faulted W (Replied q reply) asked = IsAsked I faulted W q reply asked
 
--- One connection: what it came to, the events of its request, and the turns after it.
+-- Turns of a running job while no client was there, of which there may be any number; none, where the pace has none of these.
+abbrev pub AreIdle : Bool → Image → World → List Event → Type 0
+AreIdle true I W turned = (n : ℕ) × AreTurns I (Some n) W turned
+AreIdle false I W turned = turned ≡ []
+
+-- One connection: the turns before it, what it came to, the events of its request, and the turns after it.
 pub record Round : Type 0 where
+  pub idle : List Event
   pub said : Said
   pub asked : List Event
   pub turned : List Event
 
 -- Its events.
 abbrev pub events_of_round : Round → List Event
-events_of_round r = r.asked ++ r.turned
+events_of_round r = r.idle ++ (r.asked ++ r.turned)
 
 -- The events of connections one after another.
 abbrev pub events_of : List Round → List Event
 events_of [] = []
 events_of (r ∷ rs) = events_of_round r ++ events_of rs
 
--- From this world and this flag a connection came to its request and to a slice of turns after it.
-pub record IsRound (I : Image) (slice : Option ℕ) (faulted : Bool) (W : World) (r : Round) : Type 0 where
-  pub asks : AsksFor I faulted W r.said r.asked
-  pub turns : AreTurns I slice (after I W r.asked) r.turned
+-- From this world and this flag turns were made while no client was there, and then a connection came to its request and to a slice of turns after it.
+pub record IsRound (I : Image) (pace : Pace) (faulted : Bool) (W : World) (r : Round) : Type 0 where
+  pub idle : AreIdle pace.while_idle I W r.idle
+  pub asks : AsksFor I (faulted_after faulted r.idle) (after I W r.idle) r.said r.asked
+  pub turns : AreTurns I pace.slice (after I (after I W r.idle) r.asked) r.turned
 
--- Each connection begins where the one before it has led.
-abbrev pub AreRounds : Image → Option ℕ → Bool → World → List Round → Type 0
-AreRounds I slice faulted W [] = Unit {0}
-AreRounds I slice faulted W (r ∷ rs) =
-    IsRound I slice faulted W r × AreRounds I slice (faulted_after faulted (events_of_round r)) (after I W (events_of_round r)) rs
+-- Each begins where the one before it has led.
+abbrev pub AreRounds : Image → Pace → Bool → World → List Round → Type 0
+AreRounds I pace faulted W [] = Unit {0}
+AreRounds I pace faulted W (r ∷ rs) =
+    IsRound I pace faulted W r × AreRounds I pace (faulted_after faulted (events_of_round r)) (after I W (events_of_round r)) rs
 
 -- The connections that were accepted, the last one first: one more for each round, with its bytes.
 abbrev pub AreExchanged : List Round → List Exchange → List Exchange → Type 0

@@ -15,8 +15,9 @@ use Rattle.store_open.specs.Laws.{HoldsImage, IsImageOfFolder}
 use Rattle.affected_apply.specs.Turned.{AreTurns}
 use Rattle.api_core.specs.Cores.{core_state}
 use Rattle.api_core.specs.declared.serving.Core.{Core}
+use Rattle.api_server.specs.declared.pace.Pace.{Pace}
 use Rattle.api_server.specs.Causes.{FaultCounts, AreCounted}
-use Rattle.api_server.specs.Rounds.{IsAsked, Round, AreRounds, AreExchanged, events_of}
+use Rattle.api_server.specs.Rounds.{IsAsked, AreIdle, Round, AreRounds, AreExchanged, events_of}
 
 -- How many connections are to be accepted: where no number is given as many as a door may accept.
 abbrev pub wanted : Option ℕ → ℕ
@@ -87,21 +88,23 @@ pub record Ends (fine : Bool) (c now : Core) (counts counts_after : FaultCounts)
 
 -- ---- the whole
 
--- The events: what boot makes, the connections one after another, and the last turns.
-pub record AreServed (I : Image) (slice : Option ℕ) (boot fine faulted : Bool) (W : World) (rounds : List Round) (events : List Event) : Type 0 where
+-- The events: what boot makes, the connections one after another, the turns while no further client was there, and the last turns.
+pub record AreServed (I : Image) (pace : Pace) (boot fine faulted : Bool) (W : World) (rounds : List Round) (events : List Event) : Type 0 where
   pub booted : List Event
+  pub idle : List Event
   pub last : List Event
-  pub whole : events ≡ booted ++ (events_of rounds ++ last)
-  pub boots : AreBooted boot I slice faulted W booted
-  pub are : AreRounds I slice (faulted_after faulted booted) (after I W booted) rounds
-  pub ends : AreLast fine I (after I (after I W booted) (events_of rounds)) last
+  pub whole : events ≡ booted ++ ((events_of rounds ++ idle) ++ last)
+  pub boots : AreBooted boot I pace.slice faulted W booted
+  pub are : AreRounds I pace (faulted_after faulted booted) (after I W booted) rounds
+  pub idles : AreIdle pace.while_idle I (after I (after I W booted) (events_of rounds)) idle
+  pub ends : AreLast fine I (after I (after I W booted) (events_of rounds ++ idle)) last
 
 -- By the machine, crash included; what failed in the events was counted.
-pub record ServedBy (I : Image) (folder : Folder) (W V : World) (slice : Option ℕ) (boot fine : Bool) (c now : Core) (counts counts_after : FaultCounts)
+pub record ServedBy (I : Image) (folder : Folder) (W V : World) (pace : Pace) (boot fine : Bool) (c now : Core) (counts counts_after : FaultCounts)
     (told told_after : Option (List Exchange)) (ran_before ran_after : Option (List Run)) (old new : History) : Type 0 where
   pub rounds : List Round
   pub events : List Event
-  pub are : AreServed I slice boot fine c.faulted W rounds events
+  pub are : AreServed I pace boot fine c.faulted W rounds events
   pub exchanged : Moves told told_after (AreExchanged rounds)
   pub counted : AreCounted events counts counts_after
   pub made : Ran I folder W V events old new (core_state c) (core_state now)
@@ -109,7 +112,7 @@ pub record ServedBy (I : Image) (folder : Folder) (W V : World) (slice : Option 
   pub image : HoldsImage I now.image
 
 -- By each image that the core holds, each folder whose files make it, and in each world at which disk and core are.
-pub record Serves (slice : Option ℕ) (boot fine : Bool) (c now : Core) (counts counts_after : FaultCounts) (told told_after : Option (List Exchange))
+pub record Serves (pace : Pace) (boot fine : Bool) (c now : Core) (counts counts_after : FaultCounts) (told told_after : Option (List Exchange))
     (ran_before ran_after : Option (List Run)) (old new : History) : Type 0 where
   pub each : (I : Image) → IsGood I → HoldsImage I c.image → (folder : Folder) → IsImageOfFolder I folder → (W V : World) → Kept I folder W V old (core_state c)
-      → ServedBy I folder W V slice boot fine c now counts counts_after told told_after ran_before ran_after old new
+      → ServedBy I folder W V pace boot fine c now counts counts_after told told_after ran_before ran_after old new

@@ -6,6 +6,7 @@ ghost use Rattle.api_core.specs.Cores.{IsSound};
 ghost use Rattle.api_server.specs.Causes.{fault_counts};
 ghost use Rattle.api_server.specs.Serving.{HasAccepted, Serves};
 
+use crate::Pace;
 use crate::booting::boot_up;
 use crate::driving::drive;
 use crate::serving::serve_all;
@@ -16,11 +17,14 @@ use std::alloc::Global;
 /// Serves over an opened store. With boot the job is begun by the request `Apply` and a slice of its turns is made; then
 /// connections are served one after another, as long as they come; and then, unless an accept failed,
 /// turns are made until no job runs. False exactly where an accept failed; the running job is then left.
+///
+/// The pace says how many turns follow each connection, and whether turns are made while no client is there too: one at a time, so
+/// that a client who comes meanwhile waits for one turn at most.
 pub fn serve<D: Disk, S: Spawner, N: Door>(
     alloc: Global,
     core: &mut Core,
     boot: bool,
-    slice: Option<u32>,
+    pace: Pace,
     connections: Option<u32>,
     disk: &mut D,
     spawner: &mut S,
@@ -30,10 +34,10 @@ pub fn serve<D: Disk, S: Spawner, N: Door>(
     requires unused { (N.state door.old).accepted ≡ 0 }
     requires sound { IsSound core.old }
 
-    // It is a run of the machine: what boot makes, for each connection its request and a slice of turns, and the last turns.
-    // What failed in these events was counted.
+    // It is a run of the machine: what boot makes, for each connection the turns before it while no client was there, its request and a
+    // slice of turns, and the last turns. What failed in these events was counted.
     ensures serves { Moves (D.told disk.old) (D.told disk.new)
-        (Serves slice boot result core.old core.new (fault_counts (D.faults disk.old) (S.faults spawner.old))
+        (Serves pace boot result core.old core.new (fault_counts (D.faults disk.old) (S.faults spawner.old))
         (fault_counts (D.faults disk.new) (S.faults spawner.new)) (N.told door.old) (N.told door.new) (S.runs spawner.old) (S.runs spawner.new)) }
     ensures sound { IsSound core.new }
     ensures idle { (N.state door.new).busy ≡ false }
@@ -44,8 +48,8 @@ pub fn serve<D: Disk, S: Spawner, N: Door>(
     ensures door_faults { N.faults door.old ≤ N.faults door.new }
     ensures asked { S.asked spawner.new ≡ S.asked spawner.old }
 {
-    boot_up(alloc, core, boot, slice, disk, spawner);
-    let fine = serve_all(alloc, core, slice, connections, disk, spawner, door);
+    boot_up(alloc, core, boot, pace.slice, disk, spawner);
+    let fine = serve_all(alloc, core, pace, connections, disk, spawner, door);
     drive(alloc, core, fine, disk, spawner);
     fine
 }

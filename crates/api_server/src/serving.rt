@@ -8,7 +8,9 @@ ghost use Rattle.api_server.specs.Answered.{ServesOne, ServesAll};
 ghost use Rattle.api_server.specs.Causes.{fault_counts};
 ghost use Rattle.api_server.specs.Serving.{HasAccepted};
 
+use crate::Pace;
 use crate::answering::answer_one;
+use crate::idling::idle;
 use api_core::Core;
 use outside::{Disk, Door, Spawner};
 use std::alloc::Global;
@@ -47,11 +49,12 @@ pub fn serve_one<D: Disk, S: Spawner, N: Door>(
 }
 
 /// Serves connections, until so many were accepted, no further one comes, or an accept failed; without a number, so many as a
-/// door may accept. False exactly where an accept failed.
+/// door may accept. Before each the job makes turns while no client is there, where the pace says so. False exactly where an
+/// accept failed.
 pub(crate) fn serve_all<D: Disk, S: Spawner, N: Door>(
     alloc: Global,
     core: &mut Core,
-    slice: Option<u32>,
+    pace: Pace,
     connections: Option<u32>,
     disk: &mut D,
     spawner: &mut S,
@@ -63,7 +66,7 @@ pub(crate) fn serve_all<D: Disk, S: Spawner, N: Door>(
 
     // Each connection begins where the one before it has led. What failed in their events was counted.
     ensures serves { Moves (D.told disk.old) (D.told disk.new)
-        (ServesAll slice core.old core.new (fault_counts (D.faults disk.old) (S.faults spawner.old))
+        (ServesAll pace core.old core.new (fault_counts (D.faults disk.old) (S.faults spawner.old))
         (fault_counts (D.faults disk.new) (S.faults spawner.new)) (N.told door.old) (N.told door.new) (S.runs spawner.old) (S.runs spawner.new)) }
     ensures sound { IsSound core.new }
     ensures idle { (N.state door.new).busy ≡ false }
@@ -75,8 +78,9 @@ pub(crate) fn serve_all<D: Disk, S: Spawner, N: Door>(
     ensures asked { S.asked spawner.new ≡ S.asked spawner.old }
 {
     for _number in 0..connections.unwrap_or(u32::MAX) {
+        idle(alloc, core, pace.while_idle, disk, spawner, door);
         match door.accept() {
-            Ok(true) => serve_one(alloc, core, slice, disk, spawner, door),
+            Ok(true) => serve_one(alloc, core, pace.slice, disk, spawner, door),
             Ok(false) => return true,
             Err(_) => return false,
         }

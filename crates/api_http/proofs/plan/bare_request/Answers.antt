@@ -1,4 +1,4 @@
-use Rattle.api_http.specs.Spelled.{at_root, at_os, at_list, at_job, at_store}
+use Rattle.api_http.specs.Spelled.{at_root, at_os, at_list, at_job, at_store, at_verify}
 use Rattle.api_http.proofs.Planned.{last_bare}
 use Rattle.api_http.proofs.plan.bare_request.Goals as goal
 
@@ -14,6 +14,9 @@ returns-in-TxList c pairs body none = rw c.in-TxList.is (at_list none)
 pub returns-in-JobNow : goal.returns-in-JobNow
 returns-in-JobNow c pairs body none = rw c.in-JobNow.is (at_job none)
 
+pub returns-in-Store : goal.returns-in-Store
+returns-in-Store c pairs body none = rw c.in-Store.is (at_store none)
+
 pub returns-in_default : goal.returns-in_default
 returns-in_default c pairs body none = rw (last_bare c.args.route c.requires c.in_default.not-Root c.in_default.not-OsNames c.in_default.not-TxList
-    c.in_default.not-JobNow) (at_store none)
+    c.in_default.not-JobNow c.in_default.not-Store) (at_verify none)

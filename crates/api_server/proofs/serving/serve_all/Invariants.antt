@@ -8,7 +8,7 @@ use Rattle.api_server.proofs.serving.serve_all.Given as goal
 abbrev pub invariant-loop-number : goal.invariant-loop-number
 invariant-loop-number g l = record {
   serves : Moves (g.D.Disk.told l.initial.disk) (g.D.Disk.told l.disk)
-      (ServesAll l.slice l.initial.core l.core (fault_counts (g.D.Disk.faults l.initial.disk) (g.S.Spawner.faults l.initial.spawner))
+      (ServesAll l.pace l.initial.core l.core (fault_counts (g.D.Disk.faults l.initial.disk) (g.S.Spawner.faults l.initial.spawner))
       (fault_counts (g.D.Disk.faults l.disk) (g.S.Spawner.faults l.spawner)) (g.N.Door.told l.initial.door) (g.N.Door.told l.door)
       (g.S.Spawner.runs l.initial.spawner)
       (g.S.Spawner.runs l.spawner));

@@ -3,7 +3,7 @@ use Rattle.outside.specs.Exchange.{Exchange}
 use Rattle.outside.proofs.Told.{moves_then}
 use Rattle.api_server.specs.Answered.{ServesOne}
 use Rattle.api_server.specs.Causes.{fault_counts}
-use Rattle.api_server.proofs.Followed.{one_round}
+use Rattle.api_server.proofs.Followed.{one_connection}
 use Rattle.api_server.proofs.serving.serve_one.Goals as goal
 
 pub returns-clause-serves : goal.returns-clause-serves
@@ -13,6 +13,6 @@ returns-clause-serves g c = moves_then
     (fault_counts (g.D.Disk.faults c.args.disk.now) (g.S.Spawner.faults c.args.spawner.now))
     (fault_counts (g.D.Disk.faults c.turns.new.disk) (g.S.Spawner.faults c.turns.new.spawner)) (g.N.Door.told c.args.door.now) told
     (g.S.Spawner.runs c.args.spawner.now) (g.S.Spawner.runs c.turns.new.spawner) old new)
-    (sym c.finish.ensures.same) (one_round _ _ _ _ _ _ _ _ _ _ _ _ _ old between new answers c.answer_one.ensures.disk_faults c.turns.ensures.disk_faults
+    (sym c.finish.ensures.same) (one_connection _ _ _ _ _ _ _ _ _ _ _ _ _ old between new answers c.answer_one.ensures.disk_faults c.turns.ensures.disk_faults
     c.turns.ensures.spawner_faults turns))
     c.answer_one.ensures.answers c.turns.ensures.turns
