@@ -10,7 +10,8 @@ use Rattle.command_outcome.specs.declared.refusal.Refusal.{Refusal}
 use Rattle.command_outcome.specs.declared.refusal.Refusal.TheVariants.{Memory, Usage, Disk, Door, Spawn, NoStore}
 use Rattle.command_outcome.specs.declared.refusal.Refusal.TheVariants.{Damaged, BadLink, BadJournal, BadImage, IllTyped, NotCovered}
 use Rattle.command_outcome.specs.declared.refusal.Refusal.TheVariants.{Render, Status, Missing, Conflict, Refused, AlreadyThere}
-use Rattle.command_outcome.specs.declared.refusal.Refusal.TheVariants.{OldFormat, GeneratorStatus, GeneratorOutput, UserData, MigrationStatus, MigrationOutput}
+use Rattle.command_outcome.specs.declared.refusal.Refusal.TheVariants.{OldFormat, GeneratorStatus, GeneratorOutput, UserData}
+use Rattle.command_outcome.specs.declared.refusal.Refusal.TheVariants.{MigrationStatus, MigrationOutput, NotCurrent}
 
 -- The status of a refused command.
 abbrev pub status_of : Refusal → ℕ
@@ -38,6 +39,7 @@ status_of (GeneratorOutput key) = 16
 status_of (UserData kind at) = 17
 status_of (MigrationStatus name number) = 18
 status_of (MigrationOutput name) = 18
+status_of (NotCurrent lines) = 19
 
 -- A space and a text.
 abbrev pub spaced : List ℕ → List ℕ
@@ -69,8 +71,10 @@ told (GeneratorOutput key) = codes "generator" ++ spaced (printed key) ++ codes 
 told (UserData kind at) = codes "user data" ++ spaced kind ++ spaced at
 told (MigrationStatus name number) = codes "migration" ++ spaced name ++ codes " status " ++ decimal number
 told (MigrationOutput name) = codes "migration" ++ spaced name ++ codes " output"
+told (NotCurrent lines) = []
 
 -- What is printed of a refusal.
 abbrev pub line_of : Refusal → List ℕ
 line_of (NotCovered lines) = lines
+line_of (NotCurrent lines) = lines
 line_of refusal = codes "settings: " ++ told refusal ++ codes "\n"

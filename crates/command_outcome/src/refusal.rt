@@ -127,6 +127,11 @@ pub enum Refusal {
         /// The migration.
         name: Text,
     },
+    /// 19: not each configuration file is what its template renders to, or owed.
+    NotCurrent {
+        /// The lines that tell of each file.
+        lines: Bytes,
+    },
 }
 
 impl From<AllocError> for Refusal {

@@ -181,7 +181,7 @@ fn push_told(alloc: Global, line: &mut Vec<u8>, refusal: &Refusal) -> Result<(),
         Refusal::BadJournal { path } => push_path(line, "bad journal", path),
         Refusal::BadImage { file, kind, at } => push_image(line, file, kind, at),
         Refusal::IllTyped { key } => push_key(line, "ill typed", key),
-        Refusal::NotCovered { .. } => Ok(()),
+        Refusal::NotCovered { .. } | Refusal::NotCurrent { .. } => Ok(()),
         Refusal::Render { file, error } => push_render(line, file, error),
         Refusal::Status { service, number } => push_status(line, service, *number),
         Refusal::Missing { at, target } => push_missing(alloc, line, at, target),
@@ -234,6 +234,7 @@ impl Refusal {
             Refusal::GeneratorStatus { .. } | Refusal::GeneratorOutput { .. } => 16,
             Refusal::UserData { .. } => 17,
             Refusal::MigrationStatus { .. } | Refusal::MigrationOutput { .. } => 18,
+            Refusal::NotCurrent { .. } => 19,
         }
     }
 
@@ -243,7 +244,9 @@ impl Refusal {
         ensures { IfOk result (λ line. line.items ≡ line_of self.now) }
     {
         match self {
-            Refusal::NotCovered { lines } => lines.as_slice().to_vec(alloc),
+            Refusal::NotCovered { lines } | Refusal::NotCurrent { lines } => {
+                lines.as_slice().to_vec(alloc)
+            }
             _ => named_line(alloc, self),
         }
     }

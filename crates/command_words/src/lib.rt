@@ -2,6 +2,7 @@
 #![tactic(auto)]
 
 mod command;
+mod flag;
 mod law;
 mod number;
 mod pair;

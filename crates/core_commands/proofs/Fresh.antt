@@ -12,7 +12,7 @@ use Rattle.settings_machine.specs.World.{Key, Image, World, Job, Idle, Failed, R
 use Rattle.settings_machine.specs.Typed.{Wanted, first_wanted}
 use Rattle.settings_machine.specs.Requests.{Request, Root, OsNames, Settings, SettingsAt, SettingsBelow, Patch, Services, ConfigurationFiles}
 use Rattle.settings_machine.specs.Requests.{Affected, Pends, DropTx, TxList, Commit, Apply, CommitAndApply, JobNow}
-use Rattle.settings_machine.specs.Requests.{Set, ApplyAll, Guarded, Plan, PlanFile, Store, is_success}
+use Rattle.settings_machine.specs.Requests.{Set, ApplyAll, Guarded, Plan, PlanFile, Store, Verify, is_success}
 use Rattle.settings_machine.specs.Plans.{first_refusing}
 use Rattle.settings_machine.specs.Step.{Next, Answered, noting, asked_for, applied, committed_world, set_world, owing_all, changed_by}
 use Rattle.settings_machine.specs.Step.{patch_next, commit_next, commit_and_apply_next, set_next, unless_refusing, guarded_next, answered, request_next}
@@ -86,6 +86,7 @@ answered_fresh I W (Guarded q) fresh = guarded_fresh I W (changed_by W q) (answe
 answered_fresh I W (Plan tx) fresh = fresh
 answered_fresh I W (PlanFile file tx) fresh = fresh
 answered_fresh I W Store fresh = fresh
+answered_fresh I W Verify fresh = fresh
 
 request_fresh : (I : Image) (W : World) (q : Request) → IsFresh W.job → IsFresh (request_next I W q Answered).world.job
 unfolding request_next

@@ -8,3 +8,4 @@ pub mod Causes
 pub mod Paying
 pub mod Commits
 pub mod Stopping
+pub mod Verifications

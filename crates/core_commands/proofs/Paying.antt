@@ -9,9 +9,9 @@ use Rattle.template_eval.specs.Rendered.{Rendered}
 use Rattle.pending_tx.specs.Transactions.{changed_keys}
 use Rattle.settings_machine.specs.World.{Key, Image, World, Work, Job, Idle, Failed, Running, owes_none, rendered}
 use Rattle.settings_machine.specs.Typed.{Wanted, first_wanted}
-use Rattle.settings_machine.specs.Requests.{Request, DropTx, Patch, Apply, CommitAndApply, is_success}
+use Rattle.settings_machine.specs.Requests.{Request, DropTx, Patch, CommitAndApply, is_success}
 use Rattle.settings_machine.specs.Step.{Answered, Answer, Fine, NoRoom, FileFault, NoSpawn, SyncFault, OwedFault, Command}
-use Rattle.settings_machine.specs.Step.{noting, begun, asked_for, applied, committed_world, patch_next, commit_and_apply_next, request_next}
+use Rattle.settings_machine.specs.Step.{noting, begun, asked_for, applied, owing_all, committed_world, patch_next, commit_and_apply_next, request_next}
 use Rattle.settings_machine.specs.Step.{wrote, file_turn, ran, command_turn, resting, last_turn, after_files_turn, work_turn, job_turn, turn_next}
 use Rattle.settings_machine.specs.Events.{Event, Opened, Asked, Unread, Turned, Began, Moved, next, after}
 use Rattle.machine_disk.specs.Ran.{IsDriven}
@@ -106,9 +106,11 @@ applied_pays I W idle = by (owes_none W.held.owed) refl where
   by true is = is
   by false is = subst (λ (j : Job). Pays (asked_for I W.held.owed j) W.held.owed) (sym idle) refl
 
-apply_pays : (I : Image) (W : World) → W.job ≡ Idle → Pays (request_next I W Apply Answered).world.job (request_next I W Apply Answered).world.held.owed
+apply_pays : (I : Image) (W : World) → W.job ≡ Idle → (all : Bool) → Pays (after I W (asked_all (apply_requests all))).job
+    (after I W (asked_all (apply_requests all))).held.owed
 unfolding request_next
-apply_pays I W idle = applied_pays I W idle
+apply_pays I W idle true = applied_pays I (owing_all W) idle
+apply_pays I W idle false = applied_pays I W idle
 
 commit_pays : (I : Image) (W : World) (tx : List ℕ) → W.job ≡ Idle → is_success (request_next I W (CommitAndApply tx) Answered).reply ≡ true
     → Pays (request_next I W (CommitAndApply tx) Answered).world.job (request_next I W (CommitAndApply tx) Answered).world.held.owed
@@ -145,4 +147,4 @@ set_pays I W idle pairs asked turned ends =
     (commit_pays I Y set_tx (patch_idle I X set_tx (puts_of pairs) (drop_idle I W set_tx idle)) ends.succeeds.answered.1.1.0)
 
 pub apply_pays_all : ApplyPays
-apply_pays_all I W idle asked turned ends = ends_paid I W apply_requests asked turned ends (apply_pays I W idle)
+apply_pays_all I W idle all asked turned ends = ends_paid I W (apply_requests all) asked turned ends (apply_pays I W idle all)

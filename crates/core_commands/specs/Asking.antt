@@ -4,7 +4,7 @@ use Rattle.outside.specs.History.{History}
 use Rattle.store_open.specs.Laws.{HoldsImage}
 use Rattle.settings_machine.specs.World.{Image, World}
 use Rattle.settings_machine.specs.Requests as machine
-use Rattle.settings_machine.specs.Requests.{Request, Reply, is_success}
+use Rattle.settings_machine.specs.Requests.{Request, Reply, IsProper, reads_files, is_success}
 use Rattle.settings_machine.specs.Step.{Outcome, Answered, request_next}
 use Rattle.settings_machine.specs.Events.{Event, Asked, next, after}
 use Rattle.settings_machine.specs.Paid.{IsGood}
@@ -17,6 +17,11 @@ use Rattle.command_outcome.specs.declared.refusal.Refusal.TheVariants as refused
 use Rattle.core_commands.specs.Handing.{Tells}
 use Rattle.api_core.specs.Cores.{core_state}
 use Rattle.api_core.specs.declared.serving.Core.{Core}
+
+-- The core plans it: its keys begin with `settings`, and it reads no configuration files.
+pub record IsPlannable (q : Request) : Type 0 where
+  pub proper : IsProper q
+  pub no_files : reads_files q ≡ false
 
 -- The requests that are asked.
 abbrev pub requests : List asked.Request → List Request

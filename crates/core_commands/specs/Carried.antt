@@ -1,5 +1,5 @@
 -- What a command over an open store comes to, and what it makes of the machine's run.
-use Rattle.std.specs.Prelude.{◌≡◌, ◌⊎◌, ℕ, false, List, [], ◌∷◌, ◌++◌, Option, Result, Ok, Err, codes, map}
+use Rattle.std.specs.Prelude.{◌≡◌, ◌⊎◌, ℕ, Bool, false, if◌then◌else◌, List, [], ◌∷◌, ◌++◌, Option, Result, Ok, Err, codes, map}
 use Rattle.outside.specs.History.{History}
 use Rattle.outside.specs.Spawner.{Run}
 use Rattle.outside.specs.Told.{Moves}
@@ -8,7 +8,7 @@ use Rattle.json_trees.specs.declared.pending.Pending.TheVariants as pending
 use Rattle.json_trees.specs.declared.scalar.Scalar.{Scalar}
 use Rattle.settings_machine.specs.World.{Key, Image, World, Job, Idle, Failed}
 use Rattle.settings_machine.specs.Requests as machine
-use Rattle.settings_machine.specs.Requests.{Request, DropTx, Patch, Apply, CommitAndApply, Reply, NoMemory, DiskFault}
+use Rattle.settings_machine.specs.Requests.{Request, DropTx, Patch, Apply, ApplyAll, CommitAndApply, Reply, NoMemory, DiskFault}
 use Rattle.settings_machine.specs.Events.{Event, after}
 use Rattle.settings_machine.specs.Paid.{IsGood}
 use Rattle.settings_machine.specs.declared.cause.Cause.TheVariants as cause
@@ -39,9 +39,9 @@ puts_of pairs = map (λ p. (p.0, pending.Put p.1)) pairs
 abbrev pub set_requests : List (Key × Scalar) → List Request
 set_requests pairs = DropTx set_tx ∷ Patch set_tx (puts_of pairs) ∷ CommitAndApply set_tx ∷ []
 
--- `apply` applies.
-abbrev pub apply_requests : List Request
-apply_requests = Apply ∷ []
+-- `apply` applies what is owed, or owes all and applies it.
+abbrev pub apply_requests : Bool → List Request
+apply_requests all = (if all then ApplyAll else Apply) ∷ []
 
 -- ---- what a command comes to, once the store is open
 

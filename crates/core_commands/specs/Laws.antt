@@ -1,5 +1,5 @@
 -- Laws of commands that end well.
-use Rattle.std.specs.Prelude.{◌≡◌, true, List}
+use Rattle.std.specs.Prelude.{◌≡◌, Bool, true, List}
 use Rattle.json_trees.specs.declared.scalar.Scalar.{Scalar}
 use Rattle.settings_machine.specs.World.{Key, Image, World, Idle, owes_none}
 use Rattle.settings_machine.specs.Events.{Event, after}
@@ -13,5 +13,5 @@ SetPays = (I : Image) (W : World) → W.job ≡ Idle → (pairs : List (Key × S
 
 -- The same of `apply`.
 abbrev pub ApplyPays : Type 0
-ApplyPays = (I : Image) (W : World) → W.job ≡ Idle → (asked turned : List Event) → HasEnded I W apply_requests Idle asked turned
+ApplyPays = (I : Image) (W : World) → W.job ≡ Idle → (all : Bool) (asked turned : List Event) → HasEnded I W (apply_requests all) Idle asked turned
     → owes_none (after I (after I W asked) turned).held.owed ≡ true

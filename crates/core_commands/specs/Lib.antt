@@ -5,3 +5,4 @@ pub mod Handing
 pub mod Laws
 pub mod Lines
 pub mod Telling
+pub mod Verifying

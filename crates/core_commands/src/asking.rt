@@ -3,10 +3,9 @@ ghost use Rattle.std.specs.Prelude.{◌≡◌, All, IfOk, IfErr, OnOk, false};
 ghost use Rattle.outside.specs.Told.{Moves};
 ghost use Rattle.outside.specs.Faults.{HasCauseOf};
 ghost use Rattle.settings_machine.specs.Asked.{request_of};
-ghost use Rattle.settings_machine.specs.Requests.{IsProper};
 ghost use Rattle.api_core.specs.Cores.{core_state, IsSound};
 ghost use Rattle.machine_answers.specs.Replies.{reply_of, MayPrint};
-ghost use Rattle.core_commands.specs.Asking.{AsksEach, AsksFor, TellsReply, requests};
+ghost use Rattle.core_commands.specs.Asking.{AsksEach, AsksFor, IsPlannable, TellsReply, requests};
 ghost use Rattle.core_commands.specs.Committing.{IsBodyLine};
 ghost use Rattle.core_commands.specs.Handing.{IsOfRequest};
 
@@ -38,7 +37,7 @@ fn ask<D: Disk>(
 ) -> Result<(), Refusal>
     requires sound { IsSound core.old }
     requires calm { (core_state core.old).faulted ≡ false }
-    requires proper { IsProper (request_of request.now) }
+    requires plannable { IsPlannable (request_of request.now) }
     ensures asks { Moves (D.told disk.old) (D.told disk.new)
         (AsksFor (request_of request.now) (λ reply done. Unit {0}) result core.old core.new) }
     ensures sound { IsSound core.new }
@@ -52,7 +51,7 @@ fn ask<D: Disk>(
 }
 
 /// Asks one request after another, until one isn't answered with success. No call of the disk has failed since the store was opened,
-/// and each key of a `Patch` or a `Set` begins with `settings`.
+/// each key of a `Patch` or a `Set` begins with `settings`, and none of them reads the configuration files.
 ///
 /// `Refused` comes exactly where the machine refuses a request, `Disk` where the disk failed, and `Memory` where it ran out of memory.
 pub(crate) fn ask_each<D: Disk>(
@@ -63,7 +62,7 @@ pub(crate) fn ask_each<D: Disk>(
 ) -> Result<(), Refusal>
     requires sound { IsSound core.old }
     requires calm { (core_state core.old).faulted ≡ false }
-    requires proper { All (λ ask. IsProper (request_of ask)) asks.now }
+    requires plannable { All (λ ask. IsPlannable (request_of ask)) asks.now }
 
     // They are requests of the machine, on the disk and in the core, crash included.
     ensures asks { Moves (D.told disk.old) (D.told disk.new)
@@ -102,7 +101,7 @@ pub(crate) fn ask_and_print<D: Disk>(
 ) -> Result<Bytes, Refusal>
     requires sound { IsSound core.old }
     requires calm { (core_state core.old).faulted ≡ false }
-    requires proper { IsProper (request_of request.now) }
+    requires plannable { IsPlannable (request_of request.now) }
     ensures asks { Moves (D.told disk.old) (D.told disk.new)
         (AsksFor (request_of request.now) IsBodyLine result core.old core.new) }
     ensures sound { IsSound core.new }

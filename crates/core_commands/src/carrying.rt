@@ -4,10 +4,9 @@ ghost use Rattle.std.specs.Result.{result_and};
 ghost use Rattle.outside.specs.Told.{Moves};
 ghost use Rattle.outside.specs.Faults.{HasCauseOf};
 ghost use Rattle.settings_machine.specs.Asked.{request_of};
-ghost use Rattle.settings_machine.specs.Requests.{IsProper};
 ghost use Rattle.store_open.specs.Opening.{IsSoundOpened};
 ghost use Rattle.api_core.specs.Cores.{core_state, IsSound};
-ghost use Rattle.core_commands.specs.Asking.{requests};
+ghost use Rattle.core_commands.specs.Asking.{IsPlannable, requests};
 ghost use Rattle.core_commands.specs.Carried.{CarriesOut, GoesOn, HoldsAll, IsOver};
 ghost use Rattle.core_commands.specs.Handing.{HasSpawnCause};
 
@@ -31,7 +30,7 @@ fn ask_and_drive<D: Disk, S: Spawner>(
 ) -> Result<(), Refusal>
     requires sound { IsSound core.old }
     requires calm { (core_state core.old).faulted ≡ false }
-    requires proper { All (λ ask. IsProper (request_of ask)) asks.now }
+    requires plannable { All (λ ask. IsPlannable (request_of ask)) asks.now }
     ensures goes { (store : Opened) → IsOver core.old store → Moves (D.told disk.old) (D.told disk.new)
         (GoesOn (requests asks.now) (λ W done. HoldsAll W core.new) store result (S.runs spawner.old) (S.runs spawner.new)) }
     ensures cause { HasCauseOf Refusal.Disk (D.faults disk.old) (D.faults disk.new) result }
@@ -58,7 +57,7 @@ fn go_on<D: Disk, S: Spawner>(
     spawner: &mut S,
 ) -> Result<Core, Refusal>
     requires opened { IsSoundOpened store }
-    requires proper { All (λ ask. IsProper (request_of ask)) asks.now }
+    requires plannable { All (λ ask. IsPlannable (request_of ask)) asks.now }
     ensures goes { Moves (D.told disk.old) (D.told disk.new)
         (GoesOn (requests asks.now) HoldsAll store result (S.runs spawner.old) (S.runs spawner.new)) }
     ensures cause { HasCauseOf Refusal.Disk (D.faults disk.old) (D.faults disk.new) result }
@@ -81,7 +80,7 @@ pub(crate) fn carry<D: Disk, S: Spawner>(
     disk: &mut D,
     spawner: &mut S,
 ) -> Result<Core, Refusal>
-    requires proper { All (λ ask. IsProper (request_of ask)) asks.now }
+    requires plannable { All (λ ask. IsPlannable (request_of ask)) asks.now }
     ensures carries { CarriesOut (requests asks.now) HoldsAll result
         (S.runs spawner.old) (S.runs spawner.new) (D.told disk.old) (D.told disk.new) }
     ensures cause { HasCauseOf Refusal.Disk (D.faults disk.old) (D.faults disk.new) result }

@@ -5,10 +5,9 @@ ghost use Rattle.outside.specs.Faults.{HasCauseOf};
 ghost use Rattle.key_names.specs.Key.{is_prefix};
 ghost use Rattle.settings_tree.specs.Content.{settings_key};
 ghost use Rattle.settings_machine.specs.Asked.{request_of};
-ghost use Rattle.settings_machine.specs.Requests.{IsProper};
 ghost use Rattle.store_open.specs.Opening.{IsSoundOpened};
 ghost use Rattle.api_core.specs.Cores.{core_state, IsSound};
-ghost use Rattle.core_commands.specs.Asking.{requests};
+ghost use Rattle.core_commands.specs.Asking.{IsPlannable, requests};
 ghost use Rattle.core_commands.specs.Carried.{IsOver};
 ghost use Rattle.core_commands.specs.Handing.{IsOfRequest};
 ghost use Rattle.core_commands.specs.Committing.{patch_requests, Commits};
@@ -33,7 +32,7 @@ fn patch_asks(
 ) -> Result<[Request; 2], AllocError>
     requires settings { All (λ pair. IsTrue (is_prefix settings_key pair.0)) pairs.now }
     ensures requests { IfOk result (λ asks. requests asks ≡ patch_requests tx.now pairs.now) }
-    ensures proper { IfOk result (λ asks. All (λ ask. IsProper (request_of ask)) asks) }
+    ensures plannable { IfOk result (λ asks. All (λ ask. IsPlannable (request_of ask)) asks) }
 {
     let puts = puts_of(alloc, pairs)?;
     Ok([

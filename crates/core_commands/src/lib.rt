@@ -12,6 +12,7 @@ mod law;
 mod lines;
 mod setting;
 mod telling;
+mod verifying;
 
 pub use applying::apply;
 pub use committing::commit_pairs;
@@ -19,3 +20,4 @@ pub use handing::not_opened;
 pub use law::laws;
 pub use lines::tree_line;
 pub use setting::set;
+pub use verifying::verify;

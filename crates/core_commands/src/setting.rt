@@ -4,8 +4,7 @@ ghost use Rattle.outside.specs.Faults.{HasCauseOf};
 ghost use Rattle.key_names.specs.Key.{is_prefix};
 ghost use Rattle.settings_tree.specs.Content.{settings_key};
 ghost use Rattle.settings_machine.specs.Asked.{request_of};
-ghost use Rattle.settings_machine.specs.Requests.{IsProper};
-ghost use Rattle.core_commands.specs.Asking.{requests};
+ghost use Rattle.core_commands.specs.Asking.{IsPlannable, requests};
 ghost use Rattle.core_commands.specs.Carried.{Carried, set_tx, puts_of, set_requests};
 ghost use Rattle.core_commands.specs.Handing.{HasSpawnCause};
 ghost use Rattle.core_commands.specs.Lines.{IsSettingsLine};
@@ -46,7 +45,7 @@ pub(crate) fn puts_of(
 fn set_asks(alloc: Global, pairs: &[(Key, Scalar)]) -> Result<[Request; 3], AllocError>
     requires settings { All (λ pair. IsTrue (is_prefix settings_key pair.0)) pairs.now }
     ensures requests { IfOk result (λ asks. requests asks ≡ set_requests pairs.now) }
-    ensures proper { IfOk result (λ asks. All (λ ask. IsProper (request_of ask)) asks) }
+    ensures plannable { IfOk result (λ asks. All (λ ask. IsPlannable (request_of ask)) asks) }
 {
     let puts = puts_of(alloc, pairs)?;
     let tx = set_tx(alloc)?;

@@ -4,8 +4,7 @@ ghost use Rattle.outside.specs.Faults.{HasCauseOf};
 ghost use Rattle.settings_tree.specs.Content.{settings_key};
 ghost use Rattle.settings_machine.specs.World.{World, Idle};
 ghost use Rattle.settings_machine.specs.Asked.{request_of};
-ghost use Rattle.settings_machine.specs.Requests.{IsProper};
-ghost use Rattle.core_commands.specs.Asking.{requests};
+ghost use Rattle.core_commands.specs.Asking.{IsPlannable, requests};
 ghost use Rattle.core_commands.specs.Carried.{CarriesOut};
 ghost use Rattle.core_commands.specs.Handing.{HasSpawnCause};
 ghost use Rattle.core_commands.specs.Lines.{IsTreeLine, IsJobLine};
@@ -69,7 +68,7 @@ pub(crate) fn carry_and_tell<D: Disk, S: Spawner>(
     disk: &mut D,
     spawner: &mut S,
 ) -> Result<Bytes, Refusal>
-    requires proper { All (λ ask. IsProper (request_of ask)) asks.now }
+    requires plannable { All (λ ask. IsPlannable (request_of ask)) asks.now }
     ensures carries { CarriesOut (requests asks.now) (Tells telling) result
         (S.runs spawner.old) (S.runs spawner.new) (D.told disk.old) (D.told disk.new) }
     ensures cause { HasCauseOf Refusal.Disk (D.faults disk.old) (D.faults disk.new) result }

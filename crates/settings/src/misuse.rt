@@ -3,12 +3,13 @@ use command_words::{Command, WordsError};
 use std::alloc::{AllocError, Global};
 
 // The words of all commands.
-const COMMANDS: [&str; 11] = [
+const COMMANDS: [&str; 12] = [
     "init",
     "serve",
     "set",
     "get",
     "apply",
+    "verify",
     "check",
     "migrate",
     "prune",
@@ -83,8 +84,9 @@ fn wanted_by(command: &str) -> &'static str {
         "init" => "--version V, three numbers as 1.5.2",
         "migrate" => "--to V, three numbers as 1.5.2",
         "serve" =>
-            "[--boot] [--slice N] [--connections N], N at most 4294967295 and a slice at least 1",
+            "[--boot] [--slice N] [--while-idle] [--connections N], N at most 4294967295 and a slice at least 1",
         "set" => "KEY=JSON ...",
+        "apply" => "[--all]",
         "user-data" => "PATH, a path below the working folder",
         "load" => "N, from 1 to 10000",
         _ => "no word behind it",

@@ -4,13 +4,15 @@
 pub const PAGE: &str = "usage: settings COMMAND, in the folder of the host
 
   init --version V     begins a store at the version V, as in 1.5.2
-  serve [--boot] [--slice N] [--connections N]
+  serve [--boot] [--slice N] [--while-idle] [--connections N]
                        answers requests at the socket api.sock: with --boot all is applied
                        first, with --slice at most N turns of the job follow each request,
-                       and with --connections it ends after N of them
+                       with --while-idle turns are made while no client is there too, and
+                       with --connections it ends after N of them
   set KEY=JSON ...     sets settings, as in set 'settings.motd=\"hi\"', and applies them
   get [KEY ...]        prints what is set at the keys and below them, or all settings
-  apply                writes the files and restarts the services that are owed
+  apply [--all]        writes the files and restarts the services that are owed, or all
+  verify               tells of each configuration file whether it is what its template gives
   check                tells of each configuration file whether it is covered
   migrate --to V       moves the store to the version V
   prune                removes the files of other versions

@@ -2,7 +2,7 @@
 use Rattle.std.proofs.Common.{arith, ◌≡◌, ◌≤◌, inl, inr, ℕ, Option, Err, refl, sym, ◌∙◌, ap, subst}
 use Rattle.outside.specs.Door.{DoorState}
 use Rattle.outside.proofs.Told.{where_all}
-use Rattle.command_words.specs.Orders.{Order, order_of, init, serve, set, get, apply, check, migrate, prune, load, generate, user_data}
+use Rattle.command_words.specs.Orders.{Order, order_of, init, serve, set, get, apply, verify, check, migrate, prune, load, generate, user_data}
 use Rattle.command_words.specs.declared.command.Command.{Command}
 use Rattle.command_outcome.specs.Ends.{Outcome}
 use Rattle.command_outcome.specs.declared.refusal.Refusal.TheVariants as refused
@@ -29,11 +29,12 @@ none_accepted connections door unused =
 -- It ran out of memory before it was known what is ordered.
 pub does_nothing : (now : Devices) → now.door.accepted ≡ 0 → (order : Order) → Does order (Err refused.Memory) now now
 does_nothing now unused (init version) = inr (refl, refl)
-does_nothing now unused (serve boot slice connections) =
+does_nothing now unused (serve boot slice while_idle connections) =
     (inr (record { outcome_is = refl; no_connections = refl; no_runs = refl; same = refl }), none_accepted connections now.door unused)
 does_nothing now unused (set pairs) = inr (record { result_is = refl; no_runs = refl; same = refl })
 does_nothing now unused (get keys) = inr (refl, refl)
-does_nothing now unused apply = inr (record { result_is = refl; no_runs = refl; same = refl })
+does_nothing now unused (apply all) = inr (record { result_is = refl; no_runs = refl; same = refl })
+does_nothing now unused verify = inr (refl, refl)
 does_nothing now unused check = inr (refl, refl)
 does_nothing now unused (migrate to) =
     inl (record { refusal = refused.Memory; answers = refl; tells = where_all (λ h. tt); same = refl; unasked = refl })

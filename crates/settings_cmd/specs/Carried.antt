@@ -55,13 +55,13 @@ pub record IsLoaded (count : ℕ) (outcome : Outcome) (d d' : Option History) : 
 
 -- The words order no `serve`.
 abbrev pub ServesNot : List (List ℕ) → Type 0
-ServesNot words = (boot : Bool) (slice connections : Option ℕ) → Spells words (serve boot slice connections) → ⊥
+ServesNot words = (boot : Bool) (slice : Option ℕ) (while_idle : Bool) (connections : Option ℕ) → Spells words (serve boot slice while_idle connections) → ⊥
 
 -- The words order nothing that runs programs.
 pub record RunsNothing (words : List (List ℕ)) : Type 0 where
   pub serves_not : ServesNot words
   pub sets_not : (pairs : List (List (List ℕ) × Scalar)) → Spells words (set pairs) → ⊥
-  pub applies_not : Spells words apply → ⊥
+  pub applies_not : (all : Bool) → Spells words (apply all) → ⊥
 
 -- The words order nothing that asks programs.
 pub record AsksNothing (words : List (List ℕ)) : Type 0 where

@@ -1,14 +1,16 @@
 -- What each order does, by what the devices tell before and after.
-use Rattle.std.specs.Prelude.{ℕ, Option, List}
+use Rattle.std.specs.Prelude.{ℕ, Bool, Option, List}
 use Rattle.outside.specs.Door.{DoorState}
 use Rattle.outside.specs.Exchange.{Exchange}
 use Rattle.outside.specs.History.{History}
 use Rattle.outside.specs.Spawner.{Run, Question}
 use Rattle.api_server.specs.Causes.{FaultCounts, fault_counts}
+use Rattle.api_server.specs.declared.pace.Pace.{Pace}
 use Rattle.command_outcome.specs.Ends.{Outcome}
-use Rattle.command_words.specs.Orders.{Order, init, serve, set, get, apply, check, migrate, prune, load, generate, user_data}
+use Rattle.command_words.specs.Orders.{Order, init, serve, set, get, apply, verify, check, migrate, prune, load, generate, user_data}
 use Rattle.core_commands.specs.Carried.{Carried as Commanded, set_requests, apply_requests}
 use Rattle.core_commands.specs.Lines.{IsSettingsLine, IsJobLine}
+use Rattle.core_commands.specs.Verifying.{HasVerified}
 use Rattle.settings_cmd.specs.Carried.{Carried, IsBegun, IsGot, IsChecked, IsMigrated, IsPruned, GeneratesOrNot, IsProvided, IsLoaded}
 use Rattle.settings_cmd.specs.Serving.{HasServed, HasAccepted}
 
@@ -41,15 +43,21 @@ abbrev pub devices : Option History → DoorState → Option (List Exchange) →
 devices disk door connections asked runs failed =
     record { disk = disk; door = door; connections = connections; asked = asked; runs = runs; faults = failed }
 
+-- When `serve` makes turns: how many follow each connection, and whether they are made while no client is there too.
+abbrev pub pace_of : Option ℕ → Bool → Pace
+pace_of slice while_idle = record { slice = slice; while_idle = while_idle }
+
 -- The order is carried out, and comes to this.
 abbrev pub Does : Order → Outcome → Devices → Devices → Type 0
 Does (init version) outcome old new = Carried (IsBegun version) outcome old.disk new.disk
-Does (serve boot slice connections) outcome old new =
-    HasServed boot slice (counts_of old.faults) (counts_of new.faults) old.connections new.connections old.runs new.runs outcome old.disk new.disk
+Does (serve boot slice while_idle connections) outcome old new =
+    HasServed boot (pace_of slice while_idle) (counts_of old.faults) (counts_of new.faults) old.connections new.connections old.runs new.runs outcome
+    old.disk new.disk
     × HasAccepted connections outcome old.door new.door
 Does (set pairs) outcome old new = Commanded (set_requests pairs) IsSettingsLine outcome old.runs new.runs old.disk new.disk
 Does (get keys) outcome old new = Carried (IsGot keys) outcome old.disk new.disk
-Does apply outcome old new = Commanded apply_requests IsJobLine outcome old.runs new.runs old.disk new.disk
+Does (apply all) outcome old new = Commanded (apply_requests all) IsJobLine outcome old.runs new.runs old.disk new.disk
+Does verify outcome old new = Carried HasVerified outcome old.disk new.disk
 Does check outcome old new = Carried IsChecked outcome old.disk new.disk
 Does (migrate to) outcome old new = IsMigrated to old.asked new.asked outcome old.disk new.disk
 Does prune outcome old new = Carried IsPruned outcome old.disk new.disk

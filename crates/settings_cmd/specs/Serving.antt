@@ -22,6 +22,7 @@ use Rattle.core_commands.specs.Handing.{not_opened}
 use Rattle.api_server.specs.Causes.{FaultCounts, AreCounted}
 use Rattle.api_server.specs.Rounds.{Round, AreExchanged}
 use Rattle.api_server.specs.Serving.{wanted, AreServed}
+use Rattle.api_server.specs.declared.pace.Pace.{Pace}
 
 -- How `serve` ends once the store is open: with nothing to print, or because an accept failed.
 abbrev pub served : Bool → Outcome
@@ -36,14 +37,14 @@ pub record HasAccepted (connections : Option ℕ) (outcome : Outcome) (old new :
   pub kept : (IsErrOf outcome refused.Door → ⊥) → new.broken ≡ old.broken
   pub failed : IsErrOf outcome refused.Door → new.broken ≡ true
 
--- From the world in which the store is open: what boot makes, for each connection its request and a slice of turns, and the last turns,
+-- From the world in which the store is open: what boot makes, for each connection the turns before it, its request and a slice of turns, and the last turns,
 -- crash included; with the bytes of each connection, and the programs that were run. What failed in the events was counted.
-pub record ServesOn (I : Image) (folder : Folder) (W V : World) (boot : Bool) (slice : Option ℕ) (fine : Bool) (before : CoreState)
+pub record ServesOn (I : Image) (folder : Folder) (W V : World) (boot : Bool) (pace : Pace) (fine : Bool) (before : CoreState)
     (counts counts_after : FaultCounts) (told_before told_after : Option (List Exchange)) (ran_before ran_after : Option (List Run)) (old new : History)
     : Type 0 where
   pub rounds : List Round
   pub events : List Event
-  pub are : AreServed I slice boot fine false W rounds events
+  pub are : AreServed I pace boot fine false W rounds events
   pub exchanged : Moves told_before told_after (AreExchanged rounds)
   pub counted : AreCounted events counts counts_after
   pub now : CoreState
@@ -51,28 +52,28 @@ pub record ServesOn (I : Image) (folder : Folder) (W V : World) (boot : Bool) (s
   pub runs : RunsBy I W events ran_before ran_after
 
 -- By each image that was read with the store and that the folder makes, in each world at which the disk is with the store open.
-pub record Serves (boot : Bool) (slice : Option ℕ) (fine : Bool) (store : Opened) (counts counts_after : FaultCounts)
+pub record Serves (boot : Bool) (pace : Pace) (fine : Bool) (store : Opened) (counts counts_after : FaultCounts)
     (told_before told_after : Option (List Exchange)) (ran_before ran_after : Option (List Run)) (old new : History) : Type 0 where
   pub each : (I : Image) → IsGood I → HoldsImage I store.image → (folder : Folder) → IsImageOfFolder I folder → (W V : World)
       → Kept I folder W V old (core_over store)
-      → ServesOn I folder W V boot slice fine (core_over store) counts counts_after told_before told_after ran_before ran_after old new
+      → ServesOn I folder W V boot pace fine (core_over store) counts counts_after told_before told_after ran_before ran_after old new
 
 -- What comes after an opening: it is served where the opening succeeded; why it did not is reported as it is, and then no connection is
 -- accepted, and no program run.
-abbrev pub FollowsOpening : Bool → Option ℕ → Bool → Result Opened OpenError → Outcome → FaultCounts → FaultCounts → Option (List Exchange)
+abbrev pub FollowsOpening : Bool → Pace → Bool → Result Opened OpenError → Outcome → FaultCounts → FaultCounts → Option (List Exchange)
     → Option (List Exchange) → Option (List Run) → Option (List Run) → Option History → Option History → Type 0
-FollowsOpening boot slice fine (Ok store) outcome n n' x x' r r' between d' =
-    (outcome ≡ served fine) × Moves between d' (Serves boot slice fine store n n' x x' r r')
-FollowsOpening boot slice fine (Err e) outcome n n' x x' r r' between d' = (outcome ≡ Err (not_opened e)) × (d' ≡ between) × (x' ≡ x) × (r' ≡ r)
+FollowsOpening boot pace fine (Ok store) outcome n n' x x' r r' between d' =
+    (outcome ≡ served fine) × Moves between d' (Serves boot pace fine store n n' x x' r r')
+FollowsOpening boot pace fine (Err e) outcome n n' x x' r r' between d' = (outcome ≡ Err (not_opened e)) × (d' ≡ between) × (x' ≡ x) × (r' ≡ r)
 
 -- The store is opened, with boot or without, and served.
-pub record IsServed (boot : Bool) (slice : Option ℕ) (counts counts_after : FaultCounts) (told_before told_after : Option (List Exchange))
+pub record IsServed (boot : Bool) (pace : Pace) (counts counts_after : FaultCounts) (told_before told_after : Option (List Exchange))
     (ran_before ran_after : Option (List Run)) (outcome : Outcome) (d d' : Option History) : Type 0 where
   pub opening : Result Opened OpenError
   pub fine : Bool
   pub between : Option History
   pub opens : Moves d between (Opens boot opening)
-  pub follows : FollowsOpening boot slice fine opening outcome counts counts_after told_before told_after ran_before ran_after between d'
+  pub follows : FollowsOpening boot pace fine opening outcome counts counts_after told_before told_after ran_before ran_after between d'
 
 -- It ran out of memory before it began: no connection was accepted, and no program run.
 pub record HasNotBegun (told_before told_after : Option (List Exchange)) (ran_before ran_after : Option (List Run)) (outcome : Outcome)
@@ -83,6 +84,6 @@ pub record HasNotBegun (told_before told_after : Option (List Exchange)) (ran_be
   pub same : d' ≡ d
 
 -- The store was opened and served, or it ran out of memory before.
-abbrev pub HasServed : Bool → Option ℕ → FaultCounts → FaultCounts → Option (List Exchange) → Option (List Exchange) → Option (List Run) → Option (List Run)
+abbrev pub HasServed : Bool → Pace → FaultCounts → FaultCounts → Option (List Exchange) → Option (List Exchange) → Option (List Run) → Option (List Run)
     → Outcome → Option History → Option History → Type 0
-HasServed boot slice n n' x x' r r' outcome d d' = IsServed boot slice n n' x x' r r' outcome d d' ⊎ HasNotBegun x x' r r' outcome d d'
+HasServed boot pace n n' x x' r r' outcome d d' = IsServed boot pace n n' x x' r r' outcome d d' ⊎ HasNotBegun x x' r r' outcome d d'

@@ -15,9 +15,10 @@ use crate::migrating::migrate_to;
 use crate::provisioning::provision;
 use crate::pruning::prune_others;
 use crate::serving::serve_store;
+use api_server::Pace;
 use command_outcome::Refusal;
 use command_words::{Command, WordsError};
-use core_commands::{apply, set};
+use core_commands::{apply, set, verify};
 use key_names::Bytes;
 use load_input::load;
 use outside::{Asker, Disk, Door};
@@ -60,12 +61,17 @@ pub fn carry_out<D: Disk, S: Asker, N: Door>(
             Command::Serve {
                 boot,
                 slice,
+                while_idle,
                 connections,
             },
-        ) => serve_store(alloc, boot, slice, connections, disk, spawner, door),
+        ) => {
+            let pace = Pace { slice, while_idle };
+            serve_store(alloc, boot, pace, connections, disk, spawner, door)
+        }
         Ok(Command::Set { pairs }) => set(alloc, &pairs, disk, spawner),
         Ok(Command::Get { keys }) => get(alloc, disk, &keys),
-        Ok(Command::Apply) => apply(alloc, disk, spawner),
+        Ok(Command::Apply { all }) => apply(alloc, all, disk, spawner),
+        Ok(Command::Verify) => verify(alloc, disk),
         Ok(Command::Check) => check(alloc, disk),
         Ok(Command::Migrate { to }) => migrate_to(alloc, disk, spawner, &to),
         Ok(Command::Prune) => prune_others(alloc, disk),

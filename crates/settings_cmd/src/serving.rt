@@ -6,7 +6,7 @@ ghost use Rattle.api_server.specs.Causes.{fault_counts};
 ghost use Rattle.settings_cmd.specs.Serving.{served, IsServed, HasAccepted};
 
 use api_core::Core;
-use api_server::serve;
+use api_server::{Pace, serve};
 use command_outcome::Refusal;
 use core_commands::not_opened;
 use key_names::Bytes;
@@ -32,7 +32,7 @@ fn ended(alloc: Global, fine: bool) -> Result<Bytes, Refusal>
 pub(crate) fn serve_store<D: Disk, S: Spawner, N: Door>(
     alloc: Global,
     boot: bool,
-    slice: Option<u32>,
+    pace: Pace,
     connections: Option<u32>,
     disk: &mut D,
     spawner: &mut S,
@@ -40,7 +40,7 @@ pub(crate) fn serve_store<D: Disk, S: Spawner, N: Door>(
 ) -> Result<Bytes, Refusal>
     requires idle { (N.state door.old).busy ≡ false }
     requires unused { (N.state door.old).accepted ≡ 0 }
-    ensures served { IsServed boot slice (fault_counts (D.faults disk.old) (S.faults spawner.old)) (fault_counts (D.faults disk.new) (S.faults spawner.new))
+    ensures served { IsServed boot pace (fault_counts (D.faults disk.old) (S.faults spawner.old)) (fault_counts (D.faults disk.new) (S.faults spawner.new))
         (N.told door.old) (N.told door.new) (S.runs spawner.old) (S.runs spawner.new) result (D.told disk.old) (D.told disk.new) }
     ensures idle { (N.state door.new).busy ≡ false }
     ensures accepted { HasAccepted connections result (N.state door.old) (N.state door.new) }
@@ -56,7 +56,7 @@ pub(crate) fn serve_store<D: Disk, S: Spawner, N: Door>(
                 alloc,
                 &mut core,
                 boot,
-                slice,
+                pace,
                 connections,
                 disk,
                 spawner,

@@ -47,6 +47,11 @@ returns-in-Ok-Apply-clause-does g c = λ order spelled.
     does_read c.apply.result _ _ c.in-Ok-Apply.field-0 _ order c.in-Ok-Apply.field-0-is (c.in-Ok-Apply.ensures.exact order spelled)
     (inl c.apply.ensures.carried)
 
+pub returns-in-Ok-Verify-clause-does : goal.returns-in-Ok-Verify-clause-does
+returns-in-Ok-Verify-clause-does g c = λ order spelled.
+    does_read c.verify.result _ _ c.in-Ok-Verify.field-0 _ order c.in-Ok-Verify.field-0-is (c.in-Ok-Verify.ensures.exact order spelled)
+    (inl c.verify.ensures.verified)
+
 pub returns-in-Ok-Check-clause-does : goal.returns-in-Ok-Check-clause-does
 returns-in-Ok-Check-clause-does g c = λ order spelled.
     does_read c.check.result _ _ c.in-Ok-Check.field-0 _ order c.in-Ok-Check.field-0-is (c.in-Ok-Check.ensures.exact order spelled)
@@ -102,6 +107,15 @@ returns-in-Ok-Set-clause-door_fault g c = λ is. absurd (c.set.ensures.spawn.no_
 
 pub returns-in-Ok-Apply-clause-door_fault : goal.returns-in-Ok-Apply-clause-door_fault
 returns-in-Ok-Apply-clause-door_fault g c = λ is. absurd (c.apply.ensures.spawn.no_door is)
+
+pub returns-in-Ok-Verify-clause-spawn_cause : goal.returns-in-Ok-Verify-clause-spawn_cause
+returns-in-Ok-Verify-clause-spawn_cause g c = λ serves_not. c.verify.ensures.quiet _
+
+pub returns-in-Ok-Verify-clause-spawn_fault : goal.returns-in-Ok-Verify-clause-spawn_fault
+returns-in-Ok-Verify-clause-spawn_fault g c = λ name is. (c.verify.ensures.quiet _).failed name is
+
+pub returns-in-Ok-Verify-clause-door_fault : goal.returns-in-Ok-Verify-clause-door_fault
+returns-in-Ok-Verify-clause-door_fault g c = λ is. absurd ((c.verify.ensures.quiet 0).no_door is)
 
 pub returns-in-Ok-Generate-clause-door_fault : goal.returns-in-Ok-Generate-clause-door_fault
 returns-in-Ok-Generate-clause-door_fault g c = λ is. absurd (c.generate.ensures.spawn.no_door is)

@@ -19,7 +19,7 @@ returns-in-Ok-clause-served g c = record {
   follows = (
     c.ended.ensures,
     moves_map
-        (λ old new serves. serves_store c.args.boot c.args.slice c.serve-fine.result c.in-Ok.store c.new-core.result c.serve-fine.new.core
+        (λ old new serves. serves_store c.args.boot c.args.pace c.serve-fine.result c.in-Ok.store c.new-core.result c.serve-fine.new.core
         _ _ _ _ _ _ _ old new c.new-core.ensures.state c.new-core.ensures.image serves
         (ap (λ (d : ℕ). fault_counts d (g.S.Spawner.faults c.args.spawner.now)) (sym c.in-Ok.ensures.cause.kept)))
         c.serve-fine.ensures.serves,
