@@ -2,7 +2,7 @@
 use Rattle.std.proofs.Common.{◌≡◌, inl, inr, ℕ, Bool, true, false, List, [], ◌∷◌, ◌++◌, Ok, Err, OnOk, refl, ◌∙◌, ap}
 use Rattle.settings_machine.specs.World.{Image, World, Idle, Failed, is_running}
 use Rattle.settings_machine.specs.Requests.{Request}
-use Rattle.settings_machine.specs.Step.{turn_next, opened}
+use Rattle.settings_machine.specs.Step.{Answered, WithoutMemory, Unopened, Faulted, turn_next, opened}
 use Rattle.settings_machine.specs.Events.{Event, Opened, Asked, Unread, Turned, Began, Moved, is_disk_fault, after, faulted_after}
 use Rattle.settings_machine.specs.declared.cause.Cause.{Cause}
 use Rattle.settings_machine.specs.declared.cause.Cause.TheVariants as cause
@@ -12,13 +12,13 @@ use Rattle.api_server.proofs.Slices.{turn_fails}
 use Rattle.command_outcome.specs.Ends.{Outcome}
 use Rattle.core_commands.specs.Asking.{asked_all}
 use Rattle.core_commands.specs.Carried.{HasEnded}
-use Rattle.settings_run.specs.Laws.{RequestEvents, GetEvents}
+use Rattle.settings_run.specs.Laws.{RequestEvents, GetEvents, VerifyEvents}
 
 -- ---- turns until no job runs
 
 module _ (I : Image) where
   -- A failed job makes no turn.
-  stays_failed : (W : World) (c : Cause) (es : List Event) → W.job ≡ Failed c → IsDriven I W es → (after I W es).job ≡ Failed c
+  pub stays_failed : (W : World) (c : Cause) (es : List Event) → W.job ≡ Failed c → IsDriven I W es → (after I W es).job ≡ Failed c
   stays_failed W c [] failed driven = failed
   stays_failed W c (Turned a ∷ es) failed driven = let stopped : is_running W.job ≡ false = ap is_running failed in absurd (cc (driven.0, stopped))
   stays_failed W c (Opened boot o ∷ es) failed driven = absurd driven
@@ -72,6 +72,16 @@ gets_calm I W keys said events (inl (is, answers)) = ap (faulted_after false) is
 gets_calm I W keys said events (inr (inl (taken, is, inl told))) = absurd (cc told)
 gets_calm I W keys said events (inr (inl (taken, is, inr told))) = absurd (cc told)
 gets_calm I W keys said events (inr (inr (is, e, refusal, told))) = absurd (cc told)
+
+-- A reading that was answered is no fault.
+pub verifies_calm : (I : Image) (W : World) (said : List ℕ) (events : List Event) → VerifyEvents I W (Ok said) events → faulted_after false events ≡ false
+verifies_calm I W said events (inl (Answered, opens, is, tells)) = ap (faulted_after false) is
+verifies_calm I W said events (inl (WithoutMemory, opens, is, tells)) = absurd (cc tells)
+verifies_calm I W said events (inl (Faulted taken, opens, is, tells)) = absurd (cc tells)
+verifies_calm I W said events (inl (Unopened at, opens, is, tells)) = absurd tells
+verifies_calm I W said events (inr (inl (taken, is, inl told))) = absurd (cc told)
+verifies_calm I W said events (inr (inl (taken, is, inr told))) = absurd (cc told)
+verifies_calm I W said events (inr (inr (is, e, refusal, told))) = absurd (cc told)
 
 -- Of a run that ended well it holds that no call of the disk has failed since its opening.
 pub ends_calm : (events : List Event) (outcome : Outcome) → ((said : List ℕ) → outcome ≡ Ok said → faulted_after false events ≡ false)

@@ -10,11 +10,12 @@ use Rattle.outside.proofs.Told.{moves_same}
 use Rattle.settings_tree.specs.declared.held.Held.{Held}
 use Rattle.settings_machine.specs.World.{Image, World, Job, Idle, is_running}
 use Rattle.settings_machine.specs.Opening.{added_keys}
-use Rattle.settings_machine.specs.Requests.{Request}
+use Rattle.settings_machine.specs.Requests.{Request, Verify}
 use Rattle.settings_machine.specs.Step.{noting, opened}
-use Rattle.settings_machine.specs.Events.{Event, Opened, Succeeded, Failing, after, next, boots}
+use Rattle.settings_machine.specs.Events.{Event, Opened, Asked, Succeeded, Failing, after, next, boots}
 use Rattle.settings_machine.specs.Paid.{IsGood}
 use Rattle.settings_machine.proofs.PaidLaws.{openings_pay, booted_paid}
+use Rattle.settings_machine.proofs.Programs.{request_runs}
 use Rattle.machine_disk.specs.Kept.{Folder, Kept}
 use Rattle.machine_disk.specs.Ran.{Before, StayPaid, OpensTo, OpensNot, RunsBy}
 use Rattle.machine_disk.proofs.Runs.{ran_none, opens_kept}
@@ -32,10 +33,13 @@ use Rattle.command_outcome.specs.declared.refusal.Refusal.TheVariants as refused
 use Rattle.core_commands.specs.Lines.{IsSettingsLine, IsJobLine}
 use Rattle.core_commands.specs.Carried.{set_requests, apply_requests, core_over, Follows, GoesOn, FollowsOpening}
 use Rattle.core_commands.specs.Handing.{not_opened}
+use Rattle.core_commands.specs.Verifying.{IsVerified, Verifies, VerifiesAfter}
 use Rattle.settings_cmd.specs.Gets.{Answers, AnswersOpening}
 use Rattle.api_server.specs.Causes.{FaultCounts}
+use Rattle.api_server.specs.declared.pace.Pace.{Pace}
 use Rattle.settings_cmd.specs.Serving.{served, ServesOn, Serves, FollowsOpening as FollowsServing}
 use Rattle.settings_run.specs.Laws.{Begins, IsRun, IsUnopened, RequestEvents, RequestsRun, SetsRun, AppliesRun, ServeEvents, ServesRun, GetEvents, GetsRun}
+use Rattle.settings_run.specs.Laws.{VerifyEvents, VerifiesRun}
 use Rattle.settings_run.proofs.Served.{comes_served, all_served}
 
 -- An opening begins no job.
@@ -150,33 +154,33 @@ module _ (I : Image) (good : IsGood I) (folder : Folder) (is : IsImageOfFolder I
 
   -- ---- serve
 
-  module _ (boot : Bool) (slice : Option ℕ) (n n' : FaultCounts) (x x' : Option (List Exchange)) (outcome : Outcome)
+  module _ (boot : Bool) (pace : Pace) (n n' : FaultCounts) (x x' : Option (List Exchange)) (outcome : Outcome)
       (r r' : Option (List Run)) (fine : Bool) where
     serves_on : (store : answer.Opened) (between : History) → outcome ≡ served fine → Opens boot (Ok store) old between
-        → Serves boot slice fine store n n' x x' r r' between new
-        → IsRun I folder W (ServeEvents I W boot slice n n' x x' outcome) r r' old new
+        → Serves boot pace fine store n n' x x' r r' between new
+        → IsRun I folder W (ServeEvents I W boot pace n n' x x' outcome) r r' old new
     serves_on store between told opens serves =
         let run = opening_run boot store between opens in
-        let s : ServesOn I folder (opened I W boot) (opened I W boot) boot slice fine (core_over store) n n' x x' r r' between new =
+        let s : ServesOn I folder (opened I W boot) (opened I W boot) boot pace fine (core_over store) n n' x x' r r' between new =
         serves.each I good run.1 folder is (opened I W boot) (opened I W boot) (open_kept boot store between run.0) in
         record {
           events = Opened boot Succeeded ∷ s.events;
           form_is = inl (fine, s.rounds, s.events, refl, s.are, s.counted, s.exchanged, told);
           runs_to = runs_to I good folder W boot s.events old between new store.place store.held (core_over store) s.now idle run.0 refl
-              (all_served I slice boot fine false (opened I W boot) s.rounds s.events s.are) s.made;
+              (all_served I pace boot fine false (opened I W boot) s.rounds s.events s.are) s.made;
           touches = runs_touch I folder W boot s.events old between new store.place store.held (core_over store) s.now run.0 s.made;
           ran = runs_after boot s.events r r' s.runs;
         }
 
     pub by_serving : (result : Result answer.Opened OpenError) (between : Option History) → Moves (Some old) between (Opens boot result)
-        → FollowsServing boot slice fine result outcome n n' x x' r r' between (Some new) → IsRun I folder W (ServeEvents I W boot slice n n' x x' outcome) r r'
+        → FollowsServing boot pace fine result outcome n n' x x' r r' between (Some new) → IsRun I folder W (ServeEvents I W boot pace n n' x x' outcome) r r'
         old new
     by_serving (Ok store) None opens follows = absurd opens.told
     by_serving (Ok store) (Some mid) opens follows = serves_on store mid follows.0 opens.told follows.1.told
     by_serving (Err e) between opens follows =
         let here : Moves (Some old) (Some new) (Opens boot (Err e)) = subst (λ (d : Option History). Moves (Some old) d (Opens boot (Err e))) (sym follows.1)
         opens in
-        unopened_run (ServeEvents I W boot slice n n' x x' outcome) r r' boot outcome (λ events un. inr (un, follows.2)) follows.3 e follows.0 here.told
+        unopened_run (ServeEvents I W boot pace n n' x x' outcome) r r' boot outcome (λ events un. inr (un, follows.2)) follows.3 e follows.0 here.told
 
 pub requests_run : (qs : List Request) (Tells : World → List ℕ → Type 0) → RequestsRun qs Tells
 requests_run qs Tells I good folder is W outcome r r' old new begins carries =
@@ -186,11 +190,11 @@ pub sets_run : SetsRun
 sets_run pairs = requests_run (set_requests pairs) IsSettingsLine
 
 pub applies_run : AppliesRun
-applies_run = requests_run apply_requests IsJobLine
+applies_run all = requests_run (apply_requests all) IsJobLine
 
 pub serves_run : ServesRun
-serves_run I good folder is W boot slice n n' x x' outcome r r' old new begins serves =
-    by_serving I good folder is W old new begins boot slice n n' x x' outcome r r' serves.fine serves.opening serves.between serves.opens serves.follows
+serves_run I good folder is W boot pace n n' x x' outcome r r' old new begins serves =
+    by_serving I good folder is W old new begins boot pace n n' x x' outcome r r' serves.fine serves.opening serves.between serves.opens serves.follows
 
 -- ---- get
 
@@ -220,3 +224,37 @@ module _ (I : Image) (good : IsGood I) (folder : Folder) (is : IsImageOfFolder I
 
 pub gets_run : GetsRun
 gets_run I good folder is W keys outcome r old new begins got = gets I good folder is W old new begins keys outcome r got.result got.opens.told got.answers
+
+-- ---- verify
+
+module _ (I : Image) (good : IsGood I) (folder : Folder) (is : IsImageOfFolder I folder) (W : World) (old new : History) (begins : Begins I folder W old)
+    (outcome : Outcome) (r : Option (List Run)) where
+  verifies : (store : answer.Opened) (between : History) → Opens false (Ok store) old between → Verifies store outcome between new
+      → IsRun I folder W (VerifyEvents I W outcome) r r old new
+  verifies store between opens on =
+      let run = opening_run I good folder is W old new begins false store between opens in
+      let v : IsVerified I folder (opened I W false) (opened I W false) outcome (core_over store) between new =
+      on.each I good run.1 folder (opened I W false) (opened I W false) (open_kept I good folder is W old new begins false store between run.0) in
+      let reads : List Event = Asked Verify v.reading ∷ [] in
+      record {
+        events = Opened false Succeeded ∷ reads;
+        form_is = inl (v.reading, v.opens, refl, v.tells);
+        runs_to = runs_to I good folder W false reads old between new store.place store.held (core_over store) v.now (ap is_running begins.idle) run.0 refl refl
+            v.made;
+        touches = runs_touch I folder W false reads old between new store.place store.held (core_over store) v.now run.0 v.made;
+        ran = runs_after I good folder is W old new begins false reads r r
+            (moves_same refl (λ s was. was ∙ sym (request_runs I (opened I W false) Verify v.reading)));
+      }
+
+  by_verifying : (result : Result answer.Opened OpenError) (between : Option History) → Moves (Some old) between (Opens false result)
+      → VerifiesAfter result outcome between (Some new) → Some new ≡ between → IsRun I folder W (VerifyEvents I W outcome) r r old new
+  by_verifying (Ok store) None opens follows same = absurd opens.told
+  by_verifying (Ok store) (Some mid) opens follows same = verifies store mid opens.told follows.told
+  by_verifying (Err e) between opens follows same =
+      let here : Moves (Some old) (Some new) (Opens false (Err e)) =
+      subst (λ (d : Option History). Moves (Some old) d (Opens false (Err e))) (sym same) opens in
+      unopened_run I good folder is W old new begins (VerifyEvents I W outcome) r r false outcome (λ events un. inr un) refl e follows here.told
+
+pub verifies_run : VerifiesRun
+verifies_run I good folder is W outcome r old new begins verified =
+    by_verifying I good folder is W old new begins outcome r verified.opening verified.between verified.opens verified.follows verified.same

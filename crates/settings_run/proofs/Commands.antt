@@ -21,21 +21,23 @@ use Rattle.migrate_chain.proofs.Migrated.{touched_since}
 use Rattle.store_events.proofs.Stays.{prunings_stay}
 use Rattle.command_outcome.specs.Ends.{Outcome}
 use Rattle.command_outcome.specs.declared.refusal.Refusal.TheVariants as refused
-use Rattle.command_words.specs.Orders.{Order, init, serve, set, get, apply, check, prune, load}
+use Rattle.command_words.specs.Orders.{Order, init, serve, set, get, apply, verify, check, prune, load}
 use Rattle.core_commands.specs.Carried.{set_requests, apply_requests, FollowsOpening, CarriesOut, Carried as Commanded}
 use Rattle.core_commands.specs.Lines.{IsSettingsLine, IsJobLine}
+use Rattle.core_commands.specs.Verifying.{HasVerified}
 use Rattle.settings_cmd.specs.Carried.{Carried, IsBegun, IsGot, IsChecked, IsPruned, IsLoaded}
+use Rattle.api_server.specs.declared.pace.Pace.{Pace}
 use Rattle.settings_cmd.specs.Serving.{FollowsOpening as FollowsServing, IsServed, HasServed}
-use Rattle.settings_cmd.specs.Does.{Devices, counts_of}
+use Rattle.settings_cmd.specs.Does.{Devices, counts_of, pace_of}
 use Rattle.settings_run.specs.Laws as runs
-use Rattle.settings_run.specs.Laws.{RequestEvents, ServeEvents, GetEvents}
-use Rattle.settings_run.proofs.CommandRuns.{requests_run, serves_run, gets_run}
+use Rattle.settings_run.specs.Laws.{RequestEvents, ServeEvents, GetEvents, VerifyEvents}
+use Rattle.settings_run.proofs.CommandRuns.{requests_run, serves_run, gets_run, verifies_run}
 use Rattle.settings_run.specs.Events.{Makes}
 use Rattle.settings_run.specs.Headline.{RunsOver, RunsOverAll}
 use Rattle.settings_run.proofs.Answered.{run_of, stays, untouched}
 use Rattle.settings_run.specs.Touched.{MayTouch}
 use Rattle.settings_run.proofs.Touched.{changes_only, own_elsewhere}
-use Rattle.settings_run.proofs.Calm.{ends_calm, requests_calm, gets_calm}
+use Rattle.settings_run.proofs.Calm.{ends_calm, requests_calm, gets_calm, verifies_calm}
 
 module _ (b n : Devices) (outcome : Outcome) where
   -- The disk is as before, and there is no event.
@@ -121,8 +123,9 @@ module _ (b n : Devices) (outcome : Outcome) where
   sets pairs = commanded (set pairs) (set_requests pairs) IsSettingsLine (λ I folder W h events is. inl is) (λ memory I folder W h. inr (memory, refl))
       (λ I events directory path may. may)
 
-  pub applies : (d d' : Option History) → Commanded apply_requests IsJobLine outcome b.runs n.runs d d' → Moves d d' (RunsOverAll apply b n outcome)
-  applies = commanded apply apply_requests IsJobLine (λ I folder W h events is. inl is) (λ memory I folder W h. inr (memory, refl))
+  pub applies : (all : Bool) (d d' : Option History) → Commanded (apply_requests all) IsJobLine outcome b.runs n.runs d d'
+      → Moves d d' (RunsOverAll (apply all) b n outcome)
+  applies all = commanded (apply all) (apply_requests all) IsJobLine (λ I folder W h events is. inl is) (λ memory I folder W h. inr (memory, refl))
       (λ I events directory path may. may)
 
   -- ---- get
@@ -148,26 +151,57 @@ module _ (b n : Devices) (outcome : Outcome) where
     gets d d' (inl is) = got_by d d' is
     gets d d' (inr none) = unmoved (get keys) d d' none.1 no_runs (λ I folder W h. inr (none.0, refl))
 
+  -- ---- verify
+
+  module _ (no_runs : n.runs ≡ b.runs) where
+    verified : (old new : History) → HasVerified outcome (Some old) (Some new) → RunsOverAll verify b n outcome old new
+    verified old new is I good folder image W at =
+        let run : runs.IsRun I folder W (VerifyEvents I W outcome) b.runs n.runs old new =
+        subst (λ (s : Option (List Run)). runs.IsRun I folder W (VerifyEvents I W outcome) b.runs s old new) (sym no_runs)
+        (verifies_run I good folder image W outcome b.runs old new at is) in
+        inl (run_of verify I good folder W b n outcome old new at run.events (inl run.form_is) run.runs_to run.ran
+        (own_elsewhere verify I run.events old new (λ directory path may. may) run.touches)
+        (λ all. ends_calm run.events outcome
+        (λ said told. verifies_calm I W said run.events (subst (λ (o : Outcome). VerifyEvents I W o run.events) told run.form_is))))
+
+    verified_by : (d d' : Option History) → HasVerified outcome d d' → Moves d d' (RunsOverAll verify b n outcome)
+    verified_by d d' is = by d d' is.between is is.opens is.same where
+      by : (d d' between : Option History) → HasVerified outcome d d' → Moves d between (Opens false is.opening) → d' ≡ between
+          → Moves d d' (RunsOverAll verify b n outcome)
+      by None None between is opens same = record { told = tt }
+      by (Some old) (Some new) between is opens same = record { told = verified old new is }
+      by None (Some new) None is opens same = absurd (cc same)
+      by None (Some new) (Some mid) is opens same = absurd opens.told
+      by (Some old) None (Some mid) is opens same = absurd (cc same)
+      by (Some old) None None is opens same = absurd opens.told
+
+    pub verifies : (d d' : Option History) → Carried HasVerified outcome d d' → Moves d d' (RunsOverAll verify b n outcome)
+    verifies d d' (inl is) = verified_by d d' is
+    verifies d d' (inr none) = unmoved verify d d' none.1 no_runs (λ I folder W h. inr (none.0, refl))
+
   -- ---- serve
 
-  module _ (boot : Bool) (slice connections : Option ℕ) where
-    served : (old new : History) → IsServed boot slice (counts_of b.faults) (counts_of n.faults) b.connections n.connections b.runs n.runs outcome (Some old)
+  module _ (boot : Bool) (slice : Option ℕ) (while_idle : Bool) (connections : Option ℕ) where
+    abbrev pub pace : Pace
+    pace = pace_of slice while_idle
+
+    served : (old new : History) → IsServed boot pace (counts_of b.faults) (counts_of n.faults) b.connections n.connections b.runs n.runs outcome (Some old)
         (Some new)
-        → RunsOverAll (serve boot slice connections) b n outcome old new
+        → RunsOverAll (serve boot slice while_idle connections) b n outcome old new
     served old new is I good folder image W at =
-        let run : runs.IsRun I folder W (ServeEvents I W boot slice (counts_of b.faults) (counts_of n.faults) b.connections n.connections outcome) b.runs n.runs
+        let run : runs.IsRun I folder W (ServeEvents I W boot pace (counts_of b.faults) (counts_of n.faults) b.connections n.connections outcome) b.runs n.runs
         old new =
-        serves_run I good folder image W boot slice (counts_of b.faults) (counts_of n.faults) b.connections n.connections outcome b.runs n.runs old new at is in
-        inl (run_of (serve boot slice connections) I good folder W b n outcome old new at run.events (inl run.form_is) run.runs_to run.ran
-        (own_elsewhere (serve boot slice connections) I run.events old new (λ directory path may. may) run.touches)
+        serves_run I good folder image W boot pace (counts_of b.faults) (counts_of n.faults) b.connections n.connections outcome b.runs n.runs old new at is in
+        inl (run_of (serve boot slice while_idle connections) I good folder W b n outcome old new at run.events (inl run.form_is) run.runs_to run.ran
+        (own_elsewhere (serve boot slice while_idle connections) I run.events old new (λ directory path may. may) run.touches)
         (λ all. absurd (cc all)))
 
-    served_by : (d d' : Option History) → IsServed boot slice (counts_of b.faults) (counts_of n.faults) b.connections n.connections b.runs n.runs outcome d d'
-        → Moves d d' (RunsOverAll (serve boot slice connections) b n outcome)
+    served_by : (d d' : Option History) → IsServed boot pace (counts_of b.faults) (counts_of n.faults) b.connections n.connections b.runs n.runs outcome d d'
+        → Moves d d' (RunsOverAll (serve boot slice while_idle connections) b n outcome)
     served_by d d' is = by is.opening is.between is.opens is.follows where
       by : (opening : Result Opened OpenError) (between : Option History) → Moves d between (Opens boot opening)
-          → FollowsServing boot slice is.fine opening outcome (counts_of b.faults) (counts_of n.faults) b.connections n.connections b.runs n.runs between d'
-          → Moves d d' (RunsOverAll (serve boot slice connections) b n outcome)
+          → FollowsServing boot pace is.fine opening outcome (counts_of b.faults) (counts_of n.faults) b.connections n.connections b.runs n.runs between d'
+          → Moves d d' (RunsOverAll (serve boot slice while_idle connections) b n outcome)
       by (Ok store) between opens follows =
           moves_then (λ old mid new o f. served old new (record {
             opening = Ok store;
@@ -189,8 +223,8 @@ module _ (b n : Devices) (outcome : Outcome) where
           }))
           (subst (λ (t : Option History). Moves d t (Opens boot (Err e))) (sym follows.1) opens)
 
-    pub serves : (d d' : Option History) → HasServed boot slice (counts_of b.faults) (counts_of n.faults) b.connections n.connections b.runs n.runs outcome d d'
-        → Moves d d' (RunsOverAll (serve boot slice connections) b n outcome)
+    pub serves : (d d' : Option History) → HasServed boot pace (counts_of b.faults) (counts_of n.faults) b.connections n.connections b.runs n.runs outcome d d'
+        → Moves d d' (RunsOverAll (serve boot slice while_idle connections) b n outcome)
     serves d d' (inl is) = served_by d d' is
-    serves d d' (inr none) = unmoved (serve boot slice connections) d d' none.same none.no_runs
+    serves d d' (inr none) = unmoved (serve boot slice while_idle connections) d d' none.same none.no_runs
         (λ I folder W h. inr ((none.outcome_is, refl), none.no_connections))

@@ -32,6 +32,7 @@ door_alone (refused.GeneratorOutput key) is = absurd (omega (arith, is))
 door_alone (refused.UserData kind at) is = absurd (omega (arith, is))
 door_alone (refused.MigrationStatus name number) is = absurd (omega (arith, is))
 door_alone (refused.MigrationOutput name) is = absurd (omega (arith, is))
+door_alone (refused.NotCurrent lines) is = absurd (omega (arith, is))
 door_alone (refused.Spawn name) is = absurd (omega (arith, is))
 
 rose : (outcome : Outcome) {P : Type 0} → (IsErrOf outcome refused.Door → P) → status_in outcome ≡ 4 → P
@@ -71,6 +72,7 @@ not_done (refused.GeneratorOutput key) is = omega (arith, is)
 not_done (refused.UserData kind at) is = omega (arith, is)
 not_done (refused.MigrationStatus name number) is = omega (arith, is)
 not_done (refused.MigrationOutput name) is = omega (arith, is)
+not_done (refused.NotCurrent lines) is = omega (arith, is)
 not_done (refused.Spawn name) is = omega (arith, is)
 
 fine : (outcome : Outcome) → status_in outcome ≡ 0 → IsOk outcome

@@ -2,16 +2,16 @@
 use Rattle.std.proofs.Common.{◌≡◌, ℕ, List, Option}
 use Rattle.outside.specs.Told.{Moves}
 use Rattle.command_outcome.specs.Ends.{Outcome, Ends}
-use Rattle.command_words.specs.Orders.{Order, Spells, SpellsNone, init, serve, set, get, apply, check, migrate, prune, load, generate, user_data}
+use Rattle.command_words.specs.Orders.{Order, Spells, SpellsNone, init, serve, set, get, apply, verify, check, migrate, prune, load, generate, user_data}
 use Rattle.settings_cmd.specs.Carried.{Carried, IsMisused, RunsNothing}
 use Rattle.settings_cmd.specs.Does.{Devices, Does}
 use Rattle.settings_run.specs.Headline.{HasCauses, RunsOverAll, Headline}
 use Rattle.settings_run.proofs.Beginnings.{begins_store}
-use Rattle.settings_run.proofs.Commands.{inits, checks, prunes, sets, applies, gets, serves, loads}
+use Rattle.settings_run.proofs.Commands.{inits, checks, prunes, sets, applies, verifies, gets, serves, loads}
 use Rattle.settings_run.proofs.Inputs.{generates, provides}
 use Rattle.settings_run.proofs.Moves.{migrates}
 use Rattle.settings_run.proofs.Words.{init_runs_nothing, get_runs_nothing, check_runs_nothing, migrate_runs_nothing, prune_runs_nothing, load_runs_nothing}
-use Rattle.settings_run.proofs.Words.{generate_runs_nothing, user_data_runs_nothing}
+use Rattle.settings_run.proofs.Words.{generate_runs_nothing, user_data_runs_nothing, verify_runs_nothing}
 
 module _ (words : List (List ℕ)) (outcome : Outcome) (b n : Devices) (unrun : RunsNothing words → n.runs ≡ b.runs)
     (does : (order : Order) → Spells words order → Does order outcome b n) where
@@ -20,14 +20,16 @@ module _ (words : List (List ℕ)) (outcome : Outcome) (b n : Devices) (unrun : 
   runs (init version) spells =
       inits b n outcome version b.disk n.disk (unrun (init_runs_nothing words version spells))
       (does (init version) spells)
-  runs (serve boot slice connections) spells =
-      serves b n outcome boot slice connections b.disk n.disk
-      (does (serve boot slice connections) spells).0
+  runs (serve boot slice while_idle connections) spells =
+      serves b n outcome boot slice while_idle connections b.disk n.disk
+      (does (serve boot slice while_idle connections) spells).0
   runs (set pairs) spells = sets b n outcome pairs b.disk n.disk (does (set pairs) spells)
   runs (get keys) spells =
       gets b n outcome keys (unrun (get_runs_nothing words keys spells)) b.disk n.disk
       (does (get keys) spells)
-  runs apply spells = applies b n outcome b.disk n.disk (does apply spells)
+  runs (apply all) spells = applies b n outcome all b.disk n.disk (does (apply all) spells)
+  runs verify spells =
+      verifies b n outcome (unrun (verify_runs_nothing words spells)) b.disk n.disk (does verify spells)
   runs check spells =
       checks b n outcome b.disk n.disk (unrun (check_runs_nothing words spells)) (does check spells)
   runs (migrate to) spells =

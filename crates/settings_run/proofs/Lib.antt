@@ -24,3 +24,6 @@ pub mod Lives
 pub mod NewLives
 pub mod LastingFiles
 pub mod PaidOff
+pub mod OneTree
+pub mod Determined
+pub mod Agreeing

@@ -9,7 +9,7 @@ use Rattle.settings_machine.specs.Events.{Event, after}
 use Rattle.settings_machine.proofs.Sequences.{after-append}
 use Rattle.machine_disk.specs.Kept.{Folder}
 use Rattle.command_outcome.specs.Ends.{Outcome}
-use Rattle.command_words.specs.Orders.{Order, init, serve, set, get, apply, check, migrate, prune, load, generate, user_data}
+use Rattle.command_words.specs.Orders.{Order, init, serve, set, get, apply, verify, check, migrate, prune, load, generate, user_data}
 use Rattle.core_commands.specs.Carried.{HasEnded, set_requests, apply_requests}
 use Rattle.core_commands.specs.Lines.{IsSettingsLine, IsJobLine}
 use Rattle.core_commands.proofs.Paying.{set_pays, apply_pays_all}
@@ -54,11 +54,12 @@ module _ (run : Invocation) (I : Image) (folder : Folder) (W : World) (rests : R
       → (X : World) × Begins I folder X run.new × (owes_none X.held.owed ≡ true)
   by_order (set pairs) to_apply (inl r) = paid_off (set pairs) refl r
       (owes_nothing I W (set_requests pairs) IsSettingsLine (set_pays I (opened I W false) idle pairs) run.promised.outcome r.events ok r.machine.made)
-  by_order apply to_apply (inl r) = paid_off apply refl r
-      (owes_nothing I W apply_requests IsJobLine (apply_pays_all I (opened I W false) idle) run.promised.outcome r.events ok r.machine.made)
+  by_order (apply all) to_apply (inl r) = paid_off (apply all) refl r
+      (owes_nothing I W (apply_requests all) IsJobLine (apply_pays_all I (opened I W false) idle all) run.promised.outcome r.events ok r.machine.made)
   by_order (init version) to_apply is = absurd (false≢true to_apply)
-  by_order (serve boot slice connections) to_apply is = absurd (false≢true to_apply)
+  by_order (serve boot slice while_idle connections) to_apply is = absurd (false≢true to_apply)
   by_order (get keys) to_apply is = absurd (false≢true to_apply)
+  by_order verify to_apply is = absurd (false≢true to_apply)
   by_order check to_apply is = absurd (false≢true to_apply)
   by_order (migrate to) to_apply is = absurd (false≢true to_apply)
   by_order prune to_apply is = absurd (false≢true to_apply)

@@ -13,8 +13,9 @@ use Rattle.core_commands.specs.Asking.{asked_all, Succeeds, Stops}
 use Rattle.core_commands.specs.Carried.{HasStopped, HasEnded, Comes}
 use Rattle.core_commands.specs.Committing.{ComesTo}
 use Rattle.core_commands.proofs.Requested.{succeeds_runs, stops_runs}
+use Rattle.api_server.specs.declared.pace.Pace.{Pace}
 use Rattle.api_server.specs.Exchanged.{Said, Nothing, OutOfMemory, Unread as Refused, Replied}
-use Rattle.api_server.specs.Rounds.{AsksFor, Round, AreRounds, events_of_round, events_of}
+use Rattle.api_server.specs.Rounds.{AsksFor, AreIdle, Round, AreRounds, events_of_round, events_of}
 use Rattle.api_server.specs.Serving.{AreBooted, AreLast, AreServed}
 use Rattle.command_outcome.specs.Ends.{Outcome}
 use Rattle.command_outcome.specs.declared.refusal.Refusal.{Refusal}
@@ -73,6 +74,7 @@ module _ (I : Image) (W : World) (qs : List Request) where
   comes_served Tells (Err (refused.UserData kind at)) asked turned comes = absurd comes
   comes_served Tells (Err (refused.MigrationStatus name number)) asked turned comes = absurd comes
   comes_served Tells (Err (refused.MigrationOutput name)) asked turned comes = absurd comes
+  comes_served Tells (Err (refused.NotCurrent lines)) asked turned comes = absurd comes
 
 -- ---- commits of pairs
 
@@ -116,6 +118,7 @@ module _ (I : Image) (W : World) (tx : List ℕ) (pairs : List (Key × Scalar)) 
   commits_plain (Err (refused.UserData kind at)) events comes = absurd comes
   commits_plain (Err (refused.MigrationStatus name number)) events comes = absurd comes
   commits_plain (Err (refused.MigrationOutput name)) events comes = absurd comes
+  commits_plain (Err (refused.NotCurrent lines)) events comes = absurd comes
 
 -- ---- connections
 
@@ -138,35 +141,43 @@ turns_served : (I : Image) (slice : Option ℕ) (W : World) (es : List Event) �
 turns_served I None W es are = driven_served I W es are
 turns_served I (Some n) W es are = slice_served I n W es are
 
-module _ (I : Image) (slice : Option ℕ) where
+idle_served : (I : Image) (while_idle : Bool) (W : World) (es : List Event) → AreIdle while_idle I W es → are_served es ≡ true
+idle_served I true W es are = slice_served I are.0 W es are.1
+idle_served I false W es are = ap are_served are
+
+module _ (I : Image) (pace : Pace) where
   asks_served : (faulted : Bool) (W : World) (said : Said) (es : List Event) → AsksFor I faulted W said es → are_served es ≡ true
   asks_served faulted W Nothing es is = ap are_served is
   asks_served faulted W OutOfMemory es is = ap are_served is
   asks_served faulted W (Refused r) es is = ap are_served is
   asks_served faulted W (Replied q reply) es is = handled_served I faulted W _ reply es is.handled
 
-  rounds_served : (faulted : Bool) (W : World) (rounds : List Round) → AreRounds I slice faulted W rounds → are_served (events_of rounds) ≡ true
+  rounds_served : (faulted : Bool) (W : World) (rounds : List Round) → AreRounds I pace faulted W rounds → are_served (events_of rounds) ≡ true
   rounds_served faulted W [] are = refl
   rounds_served faulted W (r ∷ rounds) are =
-      both (r.asked ++ r.turned) (events_of rounds)
-      (both r.asked r.turned (asks_served faulted W r.said r.asked are.0.asks) (turns_served I slice (after I W r.asked) r.turned are.0.turns))
+      both (events_of_round r) (events_of rounds)
+      (both r.idle (r.asked ++ r.turned) (idle_served I pace.while_idle W r.idle are.0.idle)
+      (both r.asked r.turned (asks_served (faulted_after faulted r.idle) (after I W r.idle) r.said r.asked are.0.asks)
+      (turns_served I pace.slice (after I (after I W r.idle) r.asked) r.turned are.0.turns)))
       (rounds_served (faulted_after faulted (events_of_round r)) (after I W (events_of_round r)) rounds are.1)
 
-  booted_served : (boot faulted : Bool) (W : World) (es : List Event) → AreBooted boot I slice faulted W es → are_served es ≡ true
+  booted_served : (boot faulted : Bool) (W : World) (es : List Event) → AreBooted boot I pace.slice faulted W es → are_served es ≡ true
   booted_served false faulted W es is = ap are_served is
   booted_served true faulted W es is =
       ap are_served is.whole ∙ both is.asked is.turned (handled_served I faulted W _ is.reply is.asked is.request.handled)
-      (turns_served I slice (after I W is.asked) is.turned is.turns)
+      (turns_served I pace.slice (after I W is.asked) is.turned is.turns)
 
   last_served : (fine : Bool) (W : World) (es : List Event) → AreLast fine I W es → are_served es ≡ true
   last_served true W es is = driven_served I W es is
   last_served false W es is = ap are_served is
 
   -- What is served.
-  pub all_served : (boot fine faulted : Bool) (W : World) (rounds : List Round) (es : List Event) → AreServed I slice boot fine faulted W rounds es
+  pub all_served : (boot fine faulted : Bool) (W : World) (rounds : List Round) (es : List Event) → AreServed I pace boot fine faulted W rounds es
       → are_served es ≡ true
   all_served boot fine faulted W rounds es is =
       ap are_served is.whole
-      ∙ both is.booted (events_of rounds ++ is.last) (booted_served boot faulted W is.booted is.boots)
-      (both (events_of rounds) is.last (rounds_served (faulted_after faulted is.booted) (after I W is.booted) rounds is.are)
+      ∙ both is.booted ((events_of rounds ++ is.idle) ++ is.last) (booted_served boot faulted W is.booted is.boots)
+      (both (events_of rounds ++ is.idle) is.last
+      (both (events_of rounds) is.idle (rounds_served (faulted_after faulted is.booted) (after I W is.booted) rounds is.are)
+      (idle_served I pace.while_idle _ is.idle is.idles))
       (last_served fine _ is.last is.ends))

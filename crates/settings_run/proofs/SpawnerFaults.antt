@@ -55,6 +55,7 @@ spawn_alone (refused.GeneratorOutput key) is = absurd (omega (arith, is))
 spawn_alone (refused.UserData kind at) is = absurd (omega (arith, is))
 spawn_alone (refused.MigrationStatus name number) is = absurd (omega (arith, is))
 spawn_alone (refused.MigrationOutput name) is = absurd (omega (arith, is))
+spawn_alone (refused.NotCurrent lines) is = absurd (omega (arith, is))
 
 rose : (outcome : Outcome) {P : Type 0} → ((name : List ℕ) → IsErrOf outcome (refused.Spawn name) → P) → status_in outcome ≡ 5 → P
 rose (Ok text) failed is = absurd (omega (arith, is))

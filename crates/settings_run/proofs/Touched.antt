@@ -16,7 +16,7 @@ use Rattle.version_links.specs.Chain.{Resolves, found}
 use Rattle.version_links.specs.Names.{store, name_of, numbers}
 use Rattle.version_links.specs.declared.version.Version.{Version}
 use Rattle.migrate_chain.specs.Store.{IsInOther}
-use Rattle.command_words.specs.Orders.{Order, init, serve, set, get, apply, check, migrate, prune, load, generate, user_data}
+use Rattle.command_words.specs.Orders.{Order, init, serve, set, get, apply, verify, check, migrate, prune, load, generate, user_data}
 use Rattle.settings_run.specs.Touched.{ChangesOnly, MayTouch, StaysElsewhere, TouchesWithin, OtherStoresStay}
 
 pub changes_only : (P : Names → Type 0) (old new : History) → Touches P old new → ChangesOnly P old new
@@ -72,10 +72,12 @@ module _ (I : Image) (events : List Event) (tree : Tree) (version : Version) (di
 
 pub touches_within : TouchesWithin
 touches_within (init to) I events tree version directory leads path may = absurd may
-touches_within (serve boot slice connections) I events tree version directory leads path may = change_within I events tree version directory leads path may
+touches_within (serve boot slice while_idle connections) I events tree version directory leads path may =
+    change_within I events tree version directory leads path may
 touches_within (set pairs) I events tree version directory leads path may = change_within I events tree version directory leads path may
 touches_within (get keys) I events tree version directory leads path may = change_within I events tree version directory leads path may
-touches_within apply I events tree version directory leads path may = change_within I events tree version directory leads path may
+touches_within (apply all) I events tree version directory leads path may = change_within I events tree version directory leads path may
+touches_within verify I events tree version directory leads path may = change_within I events tree version directory leads path may
 touches_within check I events tree version directory leads path may = absurd may
 touches_within (migrate to) I events tree version directory leads path may = inl may
 touches_within prune I events tree version directory leads path may = inl (other_in_store directory path may)

@@ -3,7 +3,7 @@ use Rattle.std.proofs.Common.{◌≡◌, ℕ, true, false, List, [], ◌∷◌, 
 use Rattle.std.specs.Str.{bytes_eq}
 use Rattle.std.proofs.lemmas.Slice.Eq.{bytes_eq-Decides}
 use Rattle.version_links.specs.declared.version.Version.{Version}
-use Rattle.command_words.specs.Orders.{Order, Spells, word_of, init, serve, set, get, apply, check, migrate, prune, load, generate, user_data}
+use Rattle.command_words.specs.Orders.{Order, Spells, word_of, init, serve, set, get, apply, verify, check, migrate, prune, load, generate, user_data}
 use Rattle.settings_cmd.specs.Carried.{RunsNothing}
 
 -- Texts that differ by their bytes are not the same.
@@ -19,9 +19,9 @@ one_word (word ∷ words) order other one two = sym one.0 ∙ two.0
 runs_nothing : (words : List (List ℕ)) (order : Order) → Spells words order → (word_of order ≡ codes "serve" → ⊥) → (word_of order ≡ codes "set" → ⊥)
     → (word_of order ≡ codes "apply" → ⊥) → RunsNothing words
 runs_nothing words order spells no_serve no_set no_apply = record {
-  serves_not = λ boot slice connections is. no_serve (one_word words order (serve boot slice connections) spells is);
+  serves_not = λ boot slice while_idle connections is. no_serve (one_word words order (serve boot slice while_idle connections) spells is);
   sets_not = λ pairs is. no_set (one_word words order (set pairs) spells is);
-  applies_not = λ is. no_apply (one_word words order apply spells is);
+  applies_not = λ all is. no_apply (one_word words order (apply all) spells is);
 }
 
 module _ (words : List (List ℕ)) where
@@ -32,6 +32,10 @@ module _ (words : List (List ℕ)) where
   pub get_runs_nothing : (keys : List (List (List ℕ))) → Spells words (get keys) → RunsNothing words
   get_runs_nothing keys spells = runs_nothing words (get keys) spells
       (differs (codes "get") (codes "serve") refl) (differs (codes "get") (codes "set") refl) (differs (codes "get") (codes "apply") refl)
+
+  pub verify_runs_nothing : Spells words verify → RunsNothing words
+  verify_runs_nothing spells = runs_nothing words verify spells
+      (differs (codes "verify") (codes "serve") refl) (differs (codes "verify") (codes "set") refl) (differs (codes "verify") (codes "apply") refl)
 
   pub check_runs_nothing : Spells words check → RunsNothing words
   check_runs_nothing spells = runs_nothing words check spells

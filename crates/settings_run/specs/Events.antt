@@ -11,12 +11,12 @@ use Rattle.migrate_chain.specs.Tasks.{Mapped}
 use Rattle.store_events.specs.Laws.{MoveEvents}
 use Rattle.command_outcome.specs.Ends.{Outcome}
 use Rattle.command_outcome.specs.declared.refusal.Refusal.TheVariants as refused
-use Rattle.command_words.specs.Orders.{Order, init, serve, set, get, apply, check, migrate, prune, load, generate, user_data}
+use Rattle.command_words.specs.Orders.{Order, init, serve, set, get, apply, verify, check, migrate, prune, load, generate, user_data}
 use Rattle.core_commands.specs.Carried.{set_requests, apply_requests}
 use Rattle.core_commands.specs.Lines.{IsSettingsLine, IsJobLine}
-use Rattle.settings_cmd.specs.Does.{Devices, counts_of}
+use Rattle.settings_cmd.specs.Does.{Devices, counts_of, pace_of}
 use Rattle.settings_cmd.specs.Releases.{IsReleaseIn}
-use Rattle.settings_run.specs.Laws.{RequestEvents, ServeEvents, GetEvents, GenerateEvents, ProvisionEvents}
+use Rattle.settings_run.specs.Laws.{RequestEvents, ServeEvents, GetEvents, VerifyEvents, GenerateEvents, ProvisionEvents}
 
 -- The release of the image, and what its migrations made, led from W to the version by these events: one, or none where the store was there
 -- in format 2.
@@ -39,12 +39,13 @@ IsUnbegun outcome events = (outcome ≡ Err refused.Memory) × (events ≡ [])
 -- that the door has accepted, the programs that were asked, and how often the devices have failed are those before and after.
 abbrev pub Makes : Order → Image → Folder → World → Devices → Devices → Outcome → History → List Event → Type 0
 Makes (init version) I folder W b n outcome old events = events ≡ []
-Makes (serve boot slice connections) I folder W b n outcome old events =
-    ServeEvents I W boot slice (counts_of b.faults) (counts_of n.faults) b.connections n.connections outcome events
+Makes (serve boot slice while_idle connections) I folder W b n outcome old events =
+    ServeEvents I W boot (pace_of slice while_idle) (counts_of b.faults) (counts_of n.faults) b.connections n.connections outcome events
     ⊎ (IsUnbegun outcome events × (n.connections ≡ b.connections))
 Makes (set pairs) I folder W b n outcome old events = RequestEvents I W (set_requests pairs) IsSettingsLine outcome events ⊎ IsUnbegun outcome events
 Makes (get keys) I folder W b n outcome old events = GetEvents I W keys outcome events ⊎ IsUnbegun outcome events
-Makes apply I folder W b n outcome old events = RequestEvents I W apply_requests IsJobLine outcome events ⊎ IsUnbegun outcome events
+Makes (apply all) I folder W b n outcome old events = RequestEvents I W (apply_requests all) IsJobLine outcome events ⊎ IsUnbegun outcome events
+Makes verify I folder W b n outcome old events = VerifyEvents I W outcome events ⊎ IsUnbegun outcome events
 Makes check I folder W b n outcome old events = events ≡ []
 Makes (migrate to) I folder W b n outcome old events = MigrateEvents folder W to outcome events
 Makes prune I folder W b n outcome old events = events ≡ []

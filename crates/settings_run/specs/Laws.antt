@@ -9,13 +9,14 @@ use Rattle.outside.specs.Told.{Moves}
 use Rattle.outside.specs.Tree.{node_at, file_in}
 use Rattle.json_trees.specs.declared.scalar.Scalar.{Scalar}
 use Rattle.settings_machine.specs.World.{Key, Image, World, Idle}
-use Rattle.settings_machine.specs.Requests.{Request}
+use Rattle.settings_machine.specs.Requests.{Request, Verify}
+use Rattle.settings_machine.specs.Step as step
 use Rattle.settings_machine.specs.Step.{opened}
-use Rattle.settings_machine.specs.Events.{Event, Opened, Succeeded, Failing, Began, next, after}
+use Rattle.settings_machine.specs.Events.{Event, Opened, Asked, Succeeded, Failing, Began, next, after}
 use Rattle.settings_machine.specs.Paid.{IsGood}
 use Rattle.machine_disk.specs.Kept.{Folder, DiskAt}
 use Rattle.machine_disk.specs.Touched.{TouchesOwn}
-use Rattle.machine_disk.specs.Ran.{RunsTo, RunsBy}
+use Rattle.machine_disk.specs.Ran.{RunsTo, RunsBy, Reopens}
 use Rattle.machine_disk.specs.Store.{bytes_at}
 use Rattle.store_open.specs.Laws.{IsImageOfFolder, IsRefusal}
 use Rattle.store_open.specs.Opening.{Opens}
@@ -28,9 +29,11 @@ use Rattle.core_commands.specs.Carried.{set_requests, apply_requests, Comes, Car
 use Rattle.core_commands.specs.Committing.{ComesTo}
 use Rattle.core_commands.specs.Lines.{IsSettingsLine, IsJobLine}
 use Rattle.core_commands.specs.Handing.{not_opened}
+use Rattle.core_commands.specs.Verifying.{TellsStates, HasVerified}
 use Rattle.api_server.specs.Causes.{FaultCounts, AreCounted}
 use Rattle.api_server.specs.Rounds.{Round, AreExchanged}
 use Rattle.api_server.specs.Serving.{AreServed}
+use Rattle.api_server.specs.declared.pace.Pace.{Pace}
 use Rattle.version_links.specs.declared.version.Version.{Version}
 use Rattle.release_file.specs.declared.release.Release.{Release}
 use Rattle.migrate_chain.specs.Tasks.{Mapped}
@@ -86,25 +89,25 @@ SetsRun = (pairs : List (Key × Scalar)) → RequestsRun (set_requests pairs) Is
 
 -- and an `apply`, with its job and what is owed.
 abbrev pub AppliesRun : Type 0
-AppliesRun = RequestsRun apply_requests IsJobLine
+AppliesRun = (all : Bool) → RequestsRun (apply_requests all) IsJobLine
 
 -- ---- serve
 
 -- The opening, and what is served from the opened world on, with the bytes of each connection, where each failure among the events was counted by its
 -- device; or the store was not opened, and no connection accepted.
-abbrev pub ServeEvents : Image → World → Bool → Option ℕ → FaultCounts → FaultCounts → Option (List Exchange) → Option (List Exchange) → Outcome
+abbrev pub ServeEvents : Image → World → Bool → Pace → FaultCounts → FaultCounts → Option (List Exchange) → Option (List Exchange) → Outcome
     → List Event → Type 0
-ServeEvents I W boot slice n n' x x' outcome events =
+ServeEvents I W boot pace n n' x x' outcome events =
     ((fine : Bool) × (rounds : List Round) × (later : List Event) × (events ≡ Opened boot Succeeded ∷ later)
-    × AreServed I slice boot fine false (opened I W boot) rounds later × AreCounted later n n' × Moves x x' (AreExchanged rounds) × (outcome ≡ served fine))
+    × AreServed I pace boot fine false (opened I W boot) rounds later × AreCounted later n n' × Moves x x' (AreExchanged rounds) × (outcome ≡ served fine))
     ⊎ (IsUnopened boot outcome events × (x' ≡ x))
 
 -- A `serve` is a run of these events.
 abbrev pub ServesRun : Type 0
-ServesRun = (I : Image) → IsGood I → (folder : Folder) → IsImageOfFolder I folder → (W : World) (boot : Bool) (slice : Option ℕ) (n n' : FaultCounts)
+ServesRun = (I : Image) → IsGood I → (folder : Folder) → IsImageOfFolder I folder → (W : World) (boot : Bool) (pace : Pace) (n n' : FaultCounts)
     (x x' : Option (List Exchange)) (outcome : Outcome) (ran_before ran_after : Option (List Run)) (old new : History) → Begins I folder W old
-    → IsServed boot slice n n' x x' ran_before ran_after outcome (Some old) (Some new)
-    → IsRun I folder W (ServeEvents I W boot slice n n' x x' outcome) ran_before ran_after old new
+    → IsServed boot pace n n' x x' ran_before ran_after outcome (Some old) (Some new)
+    → IsRun I folder W (ServeEvents I W boot pace n n' x x' outcome) ran_before ran_after old new
 
 -- ---- get
 
@@ -118,6 +121,20 @@ abbrev pub GetsRun : Type 0
 GetsRun = (I : Image) → IsGood I → (folder : Folder) → IsImageOfFolder I folder → (W : World) (keys : List (List (List ℕ))) (outcome : Outcome)
     (r : Option (List Run))
     (old new : History) → Begins I folder W old → IsGot keys outcome (Some old) (Some new) → IsRun I folder W (GetEvents I W keys outcome) r r old new
+
+-- ---- verify
+
+-- The opening, and a reading of the files of its world, which is reported; or the store was not opened.
+abbrev pub VerifyEvents : Image → World → Outcome → List Event → Type 0
+VerifyEvents I W outcome events =
+    ((reading : step.Outcome) × Reopens false reading [] × (events ≡ Opened false Succeeded ∷ Asked Verify reading ∷ [])
+    × TellsStates I (opened I W false) reading outcome)
+    ⊎ IsUnopened false outcome events
+
+-- A `verify` is a run of these events.
+abbrev pub VerifiesRun : Type 0
+VerifiesRun = (I : Image) → IsGood I → (folder : Folder) → IsImageOfFolder I folder → (W : World) (outcome : Outcome) (r : Option (List Run))
+    (old new : History) → Begins I folder W old → HasVerified outcome (Some old) (Some new) → IsRun I folder W (VerifyEvents I W outcome) r r old new
 
 -- ---- generate and user-data
 

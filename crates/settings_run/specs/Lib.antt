@@ -1,5 +1,6 @@
 pub mod Events
 pub mod Headline
 pub mod Touched
+pub mod Agreeing
 pub mod Laws
 pub mod Life

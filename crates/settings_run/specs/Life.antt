@@ -252,7 +252,7 @@ FilesLast = (I : Image) (folder : Folder) (W : World) (passages : List Passage) 
 -- The order is to apply: a `set`, or an `apply`.
 abbrev pub is_to_apply : Order → Bool
 is_to_apply (set pairs) = true
-is_to_apply apply = true
+is_to_apply (apply all) = true
 is_to_apply _ = false
 
 -- After exit status 0 of such a run nothing is owed in the world at which the disk is, alone, and at which the next run may begin.

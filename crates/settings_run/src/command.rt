@@ -42,7 +42,8 @@ pub fn run<D: Disk, S: Asker, N: Door, O: Sink>(
         (faults (D.faults disk.new) (N.faults door.new) (S.faults spawner.new)))
         (O.told out.old) (O.told out.new) }
 
-    ensures served { (boot : Bool) (slice connections : Option ℕ) → Spells (texts words.now) (ServeOrder boot slice connections)
+    ensures served { (boot : Bool) (slice : Option ℕ) (while_idle : Bool) (connections : Option ℕ)
+        → Spells (texts words.now) (ServeOrder boot slice while_idle connections)
         → result ≡ 0 → ((N.state door.new).accepted ≡ wanted connections) ⊎ ((N.state door.new).ended ≡ true) }
 
     // Programs are asked by `migrate` and `generate` alone, and run by `serve`, `set` and `apply` alone; connections are served by `serve` alone.

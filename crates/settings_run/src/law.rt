@@ -1,7 +1,8 @@
 //! The runs of commands.
-ghost use Rattle.settings_run.specs.Laws.{InitsRun, ServesRun, SetsRun, GetsRun, AppliesRun, MigratesRun, GeneratesRun, ProvisionsRun};
+ghost use Rattle.settings_run.specs.Laws.{InitsRun, ServesRun, SetsRun, GetsRun, AppliesRun, VerifiesRun, MigratesRun, GeneratesRun, ProvisionsRun};
 ghost use Rattle.settings_run.specs.Touched.{TouchesWithin, OtherStoresStay};
 ghost use Rattle.settings_run.specs.Life.{LivesAreRuns, NewLivesAreRuns, FilesLast, PaysAll};
+ghost use Rattle.settings_run.specs.Agreeing.{CalmRunsAgree};
 
 /// Where the disk is at one world, whose job is idle, each command that opens the store is a run of the machine: of the
 /// opening, and of its requests and turns. At its end the tree is that of the last world. On the way each covered file is paid
@@ -17,14 +18,15 @@ ghost use Rattle.settings_run.specs.Life.{LivesAreRuns, NewLivesAreRuns, FilesLa
 /// Every life of a host is one list of the machine's events, by what the headline says of each run: those of its runs, one after
 /// another, each cut where the run was killed or a crash came, and no cut loses an event that was acknowledged by then. It begins at
 /// one world, or without a store; images may be laid between two runs. Over one image each covered file that was paid at the start, and
-/// after a boot each, is paid at the end. After exit status 0 of a `set` or an `apply` nothing is owed. It does nothing: its clauses are
-/// the law.
+/// after a boot each, is paid at the end. After exit status 0 of a `set` or an `apply` nothing is owed. Two runs of the same `set`, `get`,
+/// `apply` or `verify` from one world in which nothing failed came to the same. It does nothing: its clauses are the law.
 pub fn laws()
     ensures init { InitsRun }
     ensures serve { ServesRun }
     ensures set { SetsRun }
     ensures get { GetsRun }
     ensures apply { AppliesRun }
+    ensures verify { VerifiesRun }
     ensures migrate { MigratesRun }
     ensures generate { GeneratesRun }
     ensures user_data { ProvisionsRun }
@@ -34,4 +36,5 @@ pub fn laws()
     ensures new_life { NewLivesAreRuns }
     ensures files { FilesLast }
     ensures pays { PaysAll }
+    ensures calm { CalmRunsAgree }
 {}

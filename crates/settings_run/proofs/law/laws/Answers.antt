@@ -1,8 +1,9 @@
-use Rattle.settings_run.proofs.CommandRuns.{sets_run, applies_run, serves_run, gets_run}
+use Rattle.settings_run.proofs.CommandRuns.{sets_run, applies_run, serves_run, gets_run, verifies_run}
 use Rattle.settings_run.proofs.Lives.{lives_are_runs}
 use Rattle.settings_run.proofs.NewLives.{new_lives_are_runs}
 use Rattle.settings_run.proofs.LastingFiles.{files_last}
 use Rattle.settings_run.proofs.PaidOff.{pays_all}
+use Rattle.settings_run.proofs.Agreeing.{calm_runs_agree}
 use Rattle.settings_run.proofs.MoveRuns.{inits_run, migrates_run}
 use Rattle.settings_run.proofs.Pairs.{generates_run, provisions_run}
 use Rattle.settings_run.proofs.Touched.{touches_within, other_stores_stay}
@@ -15,6 +16,7 @@ returns c = record {
   set = sets_run;
   get = gets_run;
   apply = applies_run;
+  verify = verifies_run;
   migrate = migrates_run;
   generate =
       generates_run;
@@ -25,4 +27,5 @@ returns c = record {
   new_life = new_lives_are_runs;
   files = files_last;
   pays = pays_all;
+  calm = calm_runs_agree;
 }
