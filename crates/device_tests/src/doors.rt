@@ -114,6 +114,32 @@ fn a_client_gets_its_whole_answer(rt: HostRuntime) -> Result<(), Fail> {
     remove_folder(&rt, folder.as_str())
 }
 
+// A client is awaited from when its request is whole until it is accepted.
+fn await_client<N: Door, L: Link>(rt: &impl Abort, door: &mut N, link: &mut L) -> Result<(), Fail>
+    requires { N.state door.old ≡ unused }
+{
+    assert!(rt; !door.is_awaited());
+    link.connect()?;
+    assert!(rt; link.write(b"not yet") == Ok(7));
+    assert!(rt; !door.is_awaited());
+    assert!(rt; link.write(b" now.") == Ok(5));
+    assert!(rt; door.is_awaited() && door.is_awaited());
+    assert!(rt; door.accept()?);
+    door.finish();
+    assert!(rt; !door.is_awaited());
+    Ok(())
+}
+
+#[test]
+fn a_door_is_awaited_once_a_request_is_whole(rt: HostRuntime) -> Result<(), Fail> {
+    let folder = new_folder(&rt, "awaited")?;
+    let mut link = link_at(&rt, folder.as_str())?;
+    let mut door = door_at(&rt, folder.as_str())?;
+    assert!(rt; door.listen().is_ok());
+    await_client(&rt, &mut door, &mut link)?;
+    remove_folder(&rt, folder.as_str())
+}
+
 // More bytes than a socket takes while its client reads nothing.
 fn many_bytes(alloc: Global) -> Result<Vec<u8>, Fail> {
     let count = "300000".parse::<usize>()?;

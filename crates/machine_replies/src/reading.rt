@@ -41,6 +41,11 @@ fn store(alloc: Global, machine: &PlainMachine) -> Result<Told, AllocError> {
     said(alloc, &Body::Store { version, held })
 }
 
+// The state of each configuration file.
+fn states(alloc: Global, image: &PlainImage, machine: &PlainMachine) -> Result<Told, AllocError> {
+    said(alloc, &Body::States(machine.verify(alloc, image)?))
+}
+
 // All live values, without what isn't a service, a file or a setting.
 fn root(alloc: Global, machine: &PlainMachine) -> Result<Told, AllocError> {
     let mut entries = live_below(alloc, machine, b"configuration-files")?;
@@ -185,6 +190,7 @@ pub(crate) fn read(
         Request::TxList => said(alloc, &Body::Names(pending_tx::list(alloc, &machine.held)?)),
         Request::JobNow => job(alloc, machine),
         Request::Store => store(alloc, machine),
+        Request::Verify => states(alloc, image, machine),
         _ => Ok(Told::Empty),
     }
 }

@@ -7,3 +7,4 @@ pub mod TypedHeld
 pub mod StoreOpened
 pub mod ChangesMade
 pub mod PlansMade
+pub mod Verifications

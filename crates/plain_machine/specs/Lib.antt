@@ -5,3 +5,4 @@ pub mod Jobs
 pub mod Turns
 pub mod Openings
 pub mod Changes
+pub mod Verified

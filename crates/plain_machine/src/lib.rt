@@ -20,6 +20,7 @@ mod todo;
 mod transactions;
 mod turn_answer;
 mod turns;
+mod verifying;
 
 pub use image::PlainImage;
 pub use machine::PlainMachine;

@@ -11,7 +11,7 @@ ghost use Rattle.plain_machine.specs.Steps.{IsTurned};
 ghost use Rattle.plain_machine.specs.Turns.{IsWritten, IsFileTurn, IsCommandRun, IsCommandTurn, IsLastTurn, fault_of, resting_job, unrested};
 ghost use Rattle.plain_machine.specs.Worlds.{world_of};
 
-use crate::files::{path_of, set_file};
+use crate::files::set_file;
 use crate::image::PlainImage;
 use crate::job_steps::{pass_command, pass_file};
 use crate::machine::PlainMachine;
@@ -20,7 +20,7 @@ use crate::todo::{Todo, next_todo};
 use crate::turn_answer::TurnAnswer;
 use key_names::{Bytes, Text};
 use metadata_links::Manifest;
-use settings_machine::{Cause, Job, begun, file_bytes, owes_none};
+use settings_machine::{Cause, Job, begun, file_bytes, owes_none, path_of};
 use settings_tree::{KeyList, Owed};
 use std::alloc::{AllocError, Global};
 use template_eval::RenderError;

@@ -75,7 +75,7 @@ impl Disks {
 
     /// Ends a step of this word that began at so many calls: none fails from here on, unless the word is about the next step or tells of the one before.
     pub fn end_step(&mut self, alloc: Global, word: &str, began: u64) {
-        if matches!(word, "fail" | "stop" | "program" | "calls") {
+        if matches!(word, "fail" | "stop" | "program" | "absent" | "calls") {
             return;
         }
         self.last = self.disk.calls().saturating_sub(began);

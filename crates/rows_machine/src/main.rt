@@ -6,6 +6,7 @@
 //! - `turn HOW` makes a turn, and `turns HOW` nine of them: a program ends with the status HOW, or it is `no-room`, `no-spawn`, `file-fault`, `sync-fault`
 //!   or `owed-fault`.
 //! - `open HOW` opens the store again, `at-boot` or `later`, or the disk fails the opening, which is `taken` or `untaken`.
+//! - `write PATH` writes a configuration file as someone else would, of the lines below, and `take PATH` takes it away.
 //! - `file PATH` tells a configuration file, `weak` the weak keys, and `runs` the programs that were run since it told them last.
 //! - `values KEY JSON` and `pairs JSON` come to the replies of the server's own with these values below the key, and this patch of the settings.
 #![tactic(auto)]
@@ -13,7 +14,7 @@
 mod replies;
 mod steps;
 
-use crate::steps::{booted, path_of, step};
+use crate::steps::{booted, path_of, put_file, step};
 use disk_memory::MemoryDisk;
 use machine_replies::Host;
 use outside::Disk;
@@ -50,6 +51,10 @@ impl Subject for Rows {
                 self.host = None;
                 self.host = Some(booted(alloc, &mut self.disk)?);
                 Vec::new(alloc)
+            }
+            "write" | "take" => {
+                let host = self.host.as_mut().ok_or(bad())?;
+                put_file(alloc, host, text, given.lines)?
             }
             "values" => replies::values(alloc, text)?,
             "pairs" => replies::pending(alloc, text)?,

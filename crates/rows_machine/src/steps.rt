@@ -2,7 +2,7 @@
 use crate::replies::said;
 use api_http::Reply;
 use disk_memory::MemoryDisk;
-use key_names::Key;
+use key_names::{Bytes, Key};
 use machine_replies::Host;
 use outside::Path;
 use plain_machine::{OpeningAnswer, Ran, TurnAnswer};
@@ -93,6 +93,26 @@ fn file(alloc: Global, host: &Host, path: &str) -> io::Result<Vec<u8>> {
     let path = path_of(alloc, path)?;
     let bytes = host.machine.etc.get(&path).map(|file| file.as_slice());
     Ok(bytes.unwrap_or(b"no file\n").to_vec(alloc)?)
+}
+
+/// The configuration file has these bytes from then on; without any it is taken away. It tells nothing.
+pub fn put_file(
+    alloc: Global,
+    host: &mut Host,
+    path: &str,
+    bytes: Option<&[u8]>,
+) -> io::Result<Vec<u8>> {
+    let path = path_of(alloc, path)?;
+    match bytes {
+        Some(bytes) => {
+            let bytes = Bytes::of(bytes.to_vec(alloc)?);
+            host.machine.etc.insert(path, bytes)?;
+        }
+        None => {
+            host.machine.etc.remove(&path);
+        }
+    }
+    Ok(Vec::new(alloc))
 }
 
 // Adds a line with the words of a program.

@@ -107,6 +107,7 @@ pub fn request(out: &mut String, request: &Request) -> Result<(), AllocError> {
             transaction(out, tx)
         }
         Request::Store => out.push_str("store"),
+        Request::Verify => out.push_str("verify"),
     }
 }
 

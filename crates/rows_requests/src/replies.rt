@@ -1,9 +1,10 @@
 //! The bytes of replies.
 use api_http::{Refusal, Reply, print_answer, print_refusal, print_text};
 use key_names::{Bytes, Key, Text};
-use machine_answers::Answer;
-use row_files::{bad, parts};
-use settings_machine::Refusal as Refused;
+use machine_answers::{Answer, Body};
+use outside::Path;
+use row_files::{bad, parts, words_of};
+use settings_machine::{FileState, Refusal as Refused, VerifiedFile};
 use settings_tree::TxName;
 use std::alloc::{AllocError, Global};
 use std::io;
@@ -77,6 +78,40 @@ fn file_reply(alloc: Global, text: &str) -> Result<Reply, AllocError> {
     print_answer(alloc, &Answer::File(bytes))
 }
 
+// The state of the word, which one that refuses has with why.
+fn state_of(alloc: Global, text: &str) -> io::Result<FileState> {
+    Ok(match parts(text) {
+        ("current", "") => FileState::Current,
+        ("owed", "") => FileState::Owed,
+        ("differs", "") => FileState::Differs,
+        ("absent", "") => FileState::Absent,
+        ("refused", why) => FileState::Refused {
+            error: error_of(alloc, why)?,
+        },
+        _ => return Err(bad()),
+    })
+}
+
+// The file of this name, at this path, with its state.
+fn verified_file(alloc: Global, text: &str) -> io::Result<VerifiedFile> {
+    let (name, told) = text.split_once(' ').ok_or(bad())?;
+    let (path, state) = told.split_once(' ').ok_or(bad())?;
+    Ok(VerifiedFile {
+        name: Text::from_str(alloc, name)?,
+        path: Path::read(alloc, path.as_bytes()).ok().ok_or(bad())?,
+        state: state_of(alloc, state)?,
+    })
+}
+
+// The reply that says the states of the files, with commas between them.
+fn states_reply(alloc: Global, text: &str) -> io::Result<Reply> {
+    let mut files = Vec::new(alloc);
+    for file in &words_of(alloc, text, ',')? {
+        files.push(verified_file(alloc, file.as_str())?)?;
+    }
+    Ok(print_answer(alloc, &Answer::Said(Body::States(files)))?)
+}
+
 // The reply of the refusal of the word, of the machine or of HTTP.
 fn refusal_reply(alloc: Global, word: &str, text: &str) -> io::Result<Reply> {
     match refused(alloc, word, text)? {
@@ -93,6 +128,7 @@ fn reply_of(alloc: Global, word: &str, text: &str) -> io::Result<Reply> {
         ("json", _) => Ok(print_text(alloc, &Text::from_str(alloc, text)?)?),
         ("empty", _) => Ok(print_answer(alloc, &Answer::Empty)?),
         ("file", _) => Ok(file_reply(alloc, text)?),
+        ("states", _) => states_reply(alloc, text),
         _ => refusal_reply(alloc, word, text),
     }
 }

@@ -19,6 +19,8 @@ pub struct Coming {
     pub write: u64,
     /// The accept that fails, from 1.
     pub accept: u64,
+    /// How many looks before each accept find no client.
+    pub absent: u64,
     /// The byte of the output from which on it fails.
     pub output: u64,
 }
@@ -36,6 +38,7 @@ impl Coming {
             read: u64::MAX,
             write: u64::MAX,
             accept: u64::MAX,
+            absent: 0,
             output: u64::MAX,
         }
     }
@@ -51,6 +54,12 @@ impl Coming {
             "output" => self.output = number,
             _ => return Err(bad()),
         }
+        Ok(Vec::new(alloc))
+    }
+
+    /// Lets so many looks before each accept find no client.
+    pub fn stay_away(&mut self, alloc: Global, text: &str) -> io::Result<Vec<u8>> {
+        self.absent = text.parse::<u64>().ok().ok_or(bad())?;
         Ok(Vec::new(alloc))
     }
 

@@ -5,7 +5,8 @@
 //! that the last run asked, and `load-sends N PLACE` a request of the run `load N`.
 //!
 //! What comes to the next run: `program ends N` and `program fails` for one program that is run after another, `program answers N`, with what it says below,
-//! and `program is missing` for those that are asked; `fail accept|read|write N` and `fail output BYTE` for a call that fails. The disk has `row_disks`' words.
+//! and `program is missing` for those that are asked; `fail accept|read|write N` and `fail output BYTE` for a call that fails; `absent N` for so many looks
+//! before each accept that find no client. The disk has `row_disks`' words.
 #![tactic(auto)]
 
 mod coming;
@@ -46,6 +47,7 @@ impl Words for RunWords {
             "given" => Ok(self.given.to_vec(alloc)?),
             "load-sends" => loads::sent(alloc, text),
             "program" => self.coming.program(alloc, given),
+            "absent" => self.coming.stay_away(alloc, text),
             "fail" if !text.starts_with("disk ") => self.coming.fail(alloc, text),
             _ => disks.make(alloc, word, given),
         }

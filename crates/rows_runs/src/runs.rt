@@ -22,6 +22,7 @@ fn over(
     let came = inputs.len();
     let mut door = MemoryDoor::of_inputs(alloc, inputs);
     door.fail_accept(coming.accept);
+    door.keep_away(coming.absent);
     let mut sink = MemorySink::fail_from(alloc, coming.output);
     let status = run(alloc, words, disk, spawner, &mut door, &mut sink);
     let mut out = sink.written().to_vec(alloc)?;
