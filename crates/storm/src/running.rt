@@ -6,7 +6,7 @@ use disk_memory::{Input, MemoryDisk, MemoryDoor, MemorySink, MemorySpawner};
 use settings_run::run;
 use std::alloc::{AllocError, Global};
 use storm_machine::{Seen, spawned_lines};
-use storm_steps::{Fault, Sent, Step};
+use storm_steps::{Fault, Order, Sent, Step};
 
 fn input(alloc: Global, sent: &Sent) -> Result<Input, AllocError> {
     let (first, second) = sent.bytes.split_at(sent.cut.min(sent.bytes.len()));
@@ -82,6 +82,14 @@ fn run_over(
     })
 }
 
+// How many looks before each accept find no client.
+fn away(step: &Step) -> u64 {
+    match &step.order {
+        Order::Serve(serving) => u64::from(serving.away),
+        _ => 0,
+    }
+}
+
 /// Makes the step, but for the failing of the power after it. A disk whose calls fail ever serves again only after a crash.
 pub fn run_step(alloc: Global, disk: &mut MemoryDisk, step: &Step) -> Result<Seen, AllocError> {
     let statuses = step.statuses.to_vec(alloc)?;
@@ -89,6 +97,7 @@ pub fn run_step(alloc: Global, disk: &mut MemoryDisk, step: &Step) -> Result<See
     let mut spawner = MemorySpawner::of_statuses(alloc, statuses);
     let mut door = MemoryDoor::of_inputs(alloc, inputs);
     door.fail_accept(step.accept_fails.unwrap_or(NEVER));
+    door.keep_away(away(step));
     let mut out = MemorySink::new(alloc);
     run_over(alloc, disk, &mut spawner, &mut door, &mut out, step)
 }

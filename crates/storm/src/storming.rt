@@ -4,8 +4,10 @@ use crate::running::run_step;
 use crate::tally::Tally;
 use disk_memory::{Bytes, MemoryDisk, Pick};
 use std::alloc::{AllocError, Global};
-use storm_machine::{Replay, Run, Trouble, follow, go_on};
-use storm_steps::{Dice, step_of};
+use storm_machine::{
+    Planned, Replay, Run, Seen, Trouble, check_planned, check_verified, follow, go_on,
+};
+use storm_steps::{Dice, Step, step_of};
 
 fn pick(alloc: Global, dice: &mut Dice) -> Result<Pick, AllocError> {
     Ok(match dice.below(4) {
@@ -38,6 +40,36 @@ fn crash(alloc: Global, disk: &mut MemoryDisk, dice: &mut Dice) -> Result<(), Al
     Ok(())
 }
 
+// The step is run. What was planned in it has to have come.
+fn run_planned(
+    alloc: Global,
+    replay: &Replay,
+    disk: &mut MemoryDisk,
+    step: &Step,
+    tally: &mut Tally,
+) -> Result<Seen, Trouble> {
+    if !step.is_planned {
+        return Ok(run_step(alloc, disk, step)?);
+    }
+    let before = disk.crash(&[])?;
+    let seen = run_step(alloc, disk, step)?;
+    let planned = Planned {
+        step,
+        seen: &seen,
+        before: &before,
+        after: disk,
+    };
+    tally.add_plan(check_planned(alloc, &replay.host.image, &planned)?);
+    Ok(seen)
+}
+
+// `verify` is run over a copy of the disk.
+fn verify(alloc: Global, disk: &MemoryDisk) -> Result<(), Trouble> {
+    let mut copy = disk.crash(&[])?;
+    let seen = run_step(alloc, &mut copy, &Step::verify(alloc)?)?;
+    check_verified(alloc, &seen)
+}
+
 // One step: it is run, the power fails after it or not, the machine follows, and becomes the one with which the next step goes on.
 fn go_step(
     alloc: Global,
@@ -47,9 +79,10 @@ fn go_step(
     tally: &mut Tally,
 ) -> Result<(), Trouble> {
     let step = step_of(alloc, dice)?;
-    let seen = run_step(alloc, disk, &step)?;
+    let seen = run_planned(alloc, replay, disk, &step, tally)?;
     if step.crash {
         crash(alloc, disk, dice)?;
+        verify(alloc, disk)?;
     }
     let run = Run {
         step: &step,

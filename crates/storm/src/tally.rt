@@ -19,6 +19,8 @@ pub struct Tally {
     pub stops: u64,
     /// Moves to other versions.
     pub moves: u64,
+    /// Plans that came true.
+    pub plans: u64,
 }
 
 impl Tally {
@@ -31,7 +33,13 @@ impl Tally {
         faults: 0,
         stops: 0,
         moves: 0,
+        plans: 0,
     };
+
+    /// Adds a plan that came true, where there was one.
+    pub fn add_plan(&mut self, came: bool) {
+        self.plans = self.plans.saturating_add(u64::from(came));
+    }
 
     /// Adds a run that the machine went through.
     pub fn add(&mut self, run: &Run, replay: &Replay) {
@@ -52,10 +60,10 @@ impl fmt::Display for Tally {
     fn fmt<W: fmt::Write>(&self, f: &mut fmt::Formatter<W>) -> fmt::Result {
         let (seeds, steps, requests) = (self.seeds, self.steps, self.requests);
         let (programs, faults) = (self.programs, self.faults);
-        let (stops, moves) = (self.stops, self.moves);
+        let (stops, moves, plans) = (self.stops, self.moves, self.plans);
         write!(
             f,
-            "{seeds} seeds, {steps} steps, {requests} requests, {programs} programs, {faults} faults, {stops} stops, {moves} moves"
+            "{seeds} seeds, {steps} steps, {requests} requests, {programs} programs, {faults} faults, {stops} stops, {moves} moves, {plans} plans"
         )
     }
 }

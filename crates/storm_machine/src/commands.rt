@@ -5,9 +5,9 @@ use crate::replay::Replay;
 use crate::trouble::{Trouble, differs};
 use api_http::{Reading, read_request};
 use command_outcome::Refusal;
-use machine_answers::job_text;
+use machine_answers::{job_text, states_text};
 use machine_replies::{Host, Told, settings_text};
-use settings_machine::{Job, JobStatus};
+use settings_machine::{Job, JobStatus, Request};
 use std::alloc::{AllocError, Global};
 use std::mem;
 use storm_steps::{Order, Sent, Step};
@@ -58,6 +58,24 @@ fn carry(alloc: Global, replay: &mut Replay, asks: &[Sent]) -> Result<Option<Ref
         return Ok(Some(Refusal::Disk));
     }
     Ok(refusal_of(take_job(&mut replay.host)))
+}
+
+// The states of the files, as lines.
+fn states(alloc: Global, host: &Host) -> Result<Outcome, AllocError> {
+    let files = host.machine.verify(alloc, &host.image)?;
+    let lines = states_text(alloc, &files)?;
+    if files.iter().all(|file| file.state.is_kept()) {
+        return Ok(Ok(lines));
+    }
+    Ok(Err(Refusal::NotCurrent { lines }))
+}
+
+/// What `verify` comes to.
+pub fn verifies(alloc: Global, replay: &mut Replay) -> Result<Outcome, AllocError> {
+    if !replay.open(alloc, false)? || replay.ask(alloc, &Request::Verify)?.is_none() {
+        return Ok(Err(Refusal::Disk));
+    }
+    states(alloc, &replay.host)
 }
 
 // The line that the command prints.

@@ -1,5 +1,5 @@
 //! The machine follows a run: in each way that the disk may have failed it, until one agrees with all that was seen.
-use crate::commands::{begins, carried, migrates, prints};
+use crate::commands::{begins, carried, migrates, prints, verifies};
 use crate::faults::Strike;
 use crate::found::{check_files, check_programs, check_store};
 use crate::outcomes::{Outcome, check_end};
@@ -28,6 +28,7 @@ fn outcome(alloc: Global, replay: &mut Replay, run: &Run) -> Result<Outcome, Tro
         Order::Serve(serving) => serve(alloc, replay, run, serving),
         Order::Set | Order::Apply | Order::Get => carried(alloc, replay, run.step),
         Order::Check => Ok(prints(alloc, replay, COVERED)?),
+        Order::Verify => Ok(verifies(alloc, replay)?),
         Order::Prune => prunes(alloc, replay, run.seen),
         Order::Migrate(to) => migrates(alloc, replay, to),
     }

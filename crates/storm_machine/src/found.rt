@@ -76,9 +76,9 @@ pub fn check_programs(alloc: Global, machine: &PlainMachine, seen: &Seen) -> Res
     )
 }
 
-// The bytes of the configuration file on the disk; none where it isn't there.
-fn bytes_on<'a>(disk: &'a MemoryDisk, image: &PlainImage, name: &Text) -> Option<&'a [u8]> {
-    let row = image.manifest.file(name.as_str().as_bytes())?;
+/// The bytes of the configuration file on the disk; none where it isn't there.
+pub fn bytes_on<'a>(disk: &'a MemoryDisk, image: &PlainImage, name: &str) -> Option<&'a [u8]> {
+    let row = image.manifest.file(name.as_bytes())?;
     match disk.node(&row.path) {
         Some(Node::File(bytes)) => Some(bytes.as_slice()),
         _ => None,
@@ -112,7 +112,7 @@ fn check_current(
     let (image, live) = (&host.image, &host.machine.held.live);
     match file_bytes(alloc, &image.templates, &image.os, live, name) {
         Ok(wanted) => {
-            let shown = bytes_on(disk, image, name).unwrap_or(b"no file");
+            let shown = bytes_on(disk, image, name.as_str()).unwrap_or(b"no file");
             same(alloc, shown, &wanted, "what is rendered")
         }
         Err(_) => Err(differs(alloc, "a file that isn't owed is refused")),
@@ -121,7 +121,10 @@ fn check_current(
 
 // The file on the disk has to be the machine's.
 fn check_file(alloc: Global, host: &Host, disk: &MemoryDisk, name: &Text) -> Result<(), Trouble> {
-    let (shown, wanted) = (bytes_on(disk, &host.image, name), bytes_in(host, name));
+    let (shown, wanted) = (
+        bytes_on(disk, &host.image, name.as_str()),
+        bytes_in(host, name),
+    );
     let shown = shown.unwrap_or(b"no file");
     let wanted = wanted.unwrap_or(b"no file");
     let at = name.as_str();
@@ -165,7 +168,7 @@ fn take_file(
     };
     let path = row.path.copy()?;
     host.machine.etc.remove(&path);
-    if let Some(bytes) = bytes_on(disk, &host.image, name) {
+    if let Some(bytes) = bytes_on(disk, &host.image, name.as_str()) {
         host.machine
             .etc
             .insert(path, Bytes::of(bytes.to_vec(alloc)?))?;

@@ -75,6 +75,11 @@ fn left(host: &Host) -> Result<Option<Bytes>, AllocError> {
     }
 }
 
+// Whether the request may need the disk: it changes something, or reads files.
+fn needs_disk(request: &Request) -> bool {
+    changes(request) || matches!(request, Request::Verify)
+}
+
 // The machine makes a request that the disk failed and stored all the same: the job stays as it was.
 fn take(alloc: Global, host: &mut Host, request: &Request) -> Result<(), AllocError>
     requires { IsProper (request_of request.now) }
@@ -153,7 +158,7 @@ impl Replay {
         if !self.open_again(alloc)? {
             return Ok(None);
         }
-        if !changes(request) || !self.faults.strikes() {
+        if !needs_disk(request) || !self.faults.strikes() {
             return Ok(Some(self.host.ask(alloc, request)?));
         }
         if self.faults.is_taken() {

@@ -54,18 +54,27 @@ fn connection(
     Ok(replay.turns(alloc, slice)?)
 }
 
+// The turns before an accept, one for each look that finds no client.
+fn idle(alloc: Global, replay: &mut Replay, serving: &Serving) -> Result<(), AllocError> {
+    if serving.while_idle {
+        replay.turns(alloc, Some(serving.away))?;
+    }
+    Ok(())
+}
+
 fn connections(
     alloc: Global,
     replay: &mut Replay,
     sent: &[Sent],
     replies: &[Vec<u8>],
-    slice: Option<u32>,
+    serving: &Serving,
 ) -> Result<(), Trouble> {
     if sent.len() != replies.len() {
         return Err(differs(alloc, "other connections were accepted"));
     }
     for (one, seen) in sent.iter().zip(replies) {
-        connection(alloc, replay, one, seen, slice)?;
+        idle(alloc, replay, serving)?;
+        connection(alloc, replay, one, seen, serving.slice)?;
     }
     Ok(())
 }
@@ -102,8 +111,9 @@ pub fn serve(
         replay.turns(alloc, serving.slice)?;
     }
     let sent = accepted(run.step, serving);
-    connections(alloc, replay, sent, &run.seen.replies, serving.slice)?;
+    connections(alloc, replay, sent, &run.seen.replies, serving)?;
     if door_fails(run.step, serving, sent.len()) {
+        idle(alloc, replay, serving)?;
         return Ok(Err(Refusal::Door));
     }
     replay.turns(alloc, None)?;

@@ -4,9 +4,11 @@
 
 mod dice;
 mod making;
+mod planning;
 mod requests;
 mod step;
 
 pub use dice::Dice;
 pub use making::step_of;
+pub use planning::{FILES, LOOKS};
 pub use step::{Fault, Order, Sent, Serving, Step};

@@ -1,5 +1,6 @@
 //! Random steps.
 use crate::dice::Dice;
+use crate::planning::planned;
 use crate::requests::{clients, random_change};
 use crate::step::{Fault, Order, Sent, Serving, Step};
 use std::alloc::{AllocError, Global};
@@ -20,6 +21,8 @@ fn serving(dice: &mut Dice) -> Serving {
         boot: dice.chance(20),
         slice: number(dice, 60, 4, 1),
         connections: number(dice, 15, 9, 0),
+        while_idle: dice.chance(40),
+        away: dice.below(4) as u32,
     }
 }
 
@@ -43,6 +46,9 @@ fn serve_line(alloc: Global, serving: &Serving) -> Result<String, AllocError> {
     }
     add_number(alloc, &mut line, "--slice", serving.slice)?;
     add_number(alloc, &mut line, "--connections", serving.connections)?;
+    if serving.while_idle {
+        line.push_str(" --while-idle")?;
+    }
     Ok(line)
 }
 
@@ -54,6 +60,18 @@ fn serve(alloc: Global, dice: &mut Dice) -> Result<Step, AllocError> {
     if dice.chance(5) {
         step.accept_fails = Some(dice.below(6).saturating_add(1));
     }
+    Ok(step)
+}
+
+// A run that begins no job but the planned one, and in which no accept fails.
+fn serve_planned(alloc: Global, dice: &mut Dice) -> Result<Step, AllocError> {
+    let mut serving = serving(dice);
+    serving.boot = false;
+    serving.connections = None;
+    let line = serve_line(alloc, &serving)?;
+    let sent = planned(alloc, dice)?;
+    let mut step = Step::calm(alloc, Order::Serve(serving), line.as_str(), sent)?;
+    step.is_planned = true;
     Ok(step)
 }
 
@@ -80,9 +98,14 @@ fn set(alloc: Global, dice: &mut Dice) -> Result<Step, AllocError> {
     Step::calm(alloc, Order::Set, line.as_str(), sent)
 }
 
-fn apply(alloc: Global) -> Result<Step, AllocError> {
-    let sent = asks(alloc, &["POST /tx/apply"])?;
-    Step::calm(alloc, Order::Apply, "apply", sent)
+fn apply(alloc: Global, all: bool) -> Result<Step, AllocError> {
+    let (line, asked) = if all {
+        ("apply --all", "POST /tx/apply?all")
+    } else {
+        ("apply", "POST /tx/apply")
+    };
+    let sent = asks(alloc, &[asked])?;
+    Step::calm(alloc, Order::Apply, line, sent)
 }
 
 // A step that asks for nothing.
@@ -97,14 +120,16 @@ fn migrate(alloc: Global, dice: &mut Dice) -> Result<Step, AllocError> {
 }
 
 fn calm_step(alloc: Global, dice: &mut Dice) -> Result<Step, AllocError> {
-    match dice.below(20) {
+    match dice.below(25) {
         0..=8 => serve(alloc, dice),
-        9..=11 => set(alloc, dice),
-        12 | 13 => apply(alloc),
-        14 => plain(alloc, Order::Get, "get"),
-        15 => plain(alloc, Order::Check, "check"),
-        16 => plain(alloc, Order::Prune, "prune"),
-        17 => Step::begin(alloc),
+        9..=12 => serve_planned(alloc, dice),
+        13..=15 => set(alloc, dice),
+        16 | 17 => apply(alloc, dice.chance(30)),
+        18 => plain(alloc, Order::Get, "get"),
+        19 => plain(alloc, Order::Check, "check"),
+        20 => plain(alloc, Order::Prune, "prune"),
+        21 => Step::begin(alloc),
+        22 => Step::verify(alloc),
         _ => migrate(alloc, dice),
     }
 }

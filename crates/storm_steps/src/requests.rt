@@ -3,7 +3,8 @@ use crate::dice::Dice;
 use crate::step::Sent;
 use std::alloc::{AllocError, Global};
 
-const TXS: &[&str] = &["default", "a", "B-2"];
+/// The names of transactions.
+pub const TXS: &[&str] = &["default", "a", "B-2"];
 
 const MOTDS: &[&str] = &[
     "\"one\"",
@@ -102,10 +103,19 @@ pub fn random_change(alloc: Global, dice: &mut Dice, gone: bool) -> Result<Chang
     Ok(change)
 }
 
-fn patch(alloc: Global, dice: &mut Dice, tx: &str) -> Result<String, AllocError> {
+/// The line of a patch of the transaction.
+pub fn patch(alloc: Global, dice: &mut Dice, tx: &str) -> Result<String, AllocError> {
     let change = random_change(alloc, dice, true)?;
     let body = change.body.as_str();
     format!(in alloc; "PATCH /settings?tx={tx} {{{body}}}")
+}
+
+// The line of a change at once.
+fn set(alloc: Global, dice: &mut Dice) -> Result<String, AllocError> {
+    let change = random_change(alloc, dice, true)?;
+    let body = change.body.as_str();
+    let target = dice.pick(&["/set", "/set?check=render"]);
+    format!(in alloc; "POST {target} {{{body}}}")
 }
 
 const READINGS: &[&str] = &[
@@ -120,23 +130,45 @@ const READINGS: &[&str] = &[
     "GET /configuration-files?names=chrony,motd",
     "GET /metadata/affected-services?keys=settings.ntp.x,settings.motd,settings.other",
     "GET /tx/list",
+    "GET /store",
+    "GET /verify",
+    "GET /plan",
+    "GET /plan/file?name=sysctl",
+    "GET /plan/file?name=none",
     "PUT /settings",
     "GET /none",
     "GET /tx?x=1",
     "PATCH /settings [1]",
 ];
 
+// What follows the target of a commit: a guard, or nothing.
+const GUARDS: &[&str] = &["", "", "&check=render"];
+
+/// The line of a commit of the transaction.
+pub fn commit(
+    alloc: Global,
+    dice: &mut Dice,
+    target: &str,
+    tx: &str,
+) -> Result<String, AllocError> {
+    let guard = dice.pick(GUARDS);
+    format!(in alloc; "POST {target}?tx={tx}{guard}")
+}
+
 // The line of a request.
 fn line(alloc: Global, dice: &mut Dice) -> Result<String, AllocError> {
     let tx = dice.pick(TXS);
-    match dice.below(16) {
+    match dice.below(20) {
         0..=3 => patch(alloc, dice, tx),
-        4 | 5 => format!(in alloc; "POST /tx/commit?tx={tx}"),
-        6 | 7 => format!(in alloc; "POST /tx/commit_and_apply?tx={tx}"),
+        4 | 5 => commit(alloc, dice, "/tx/commit", tx),
+        6 | 7 => commit(alloc, dice, "/tx/commit_and_apply", tx),
         8 => format!(in alloc; "DELETE /tx?tx={tx}"),
         9 => format!(in alloc; "GET /tx?tx={tx}"),
-        10 | 11 => String::from_str(alloc, "POST /tx/apply"),
+        10 | 11 => String::from_str(alloc, dice.pick(&["POST /tx/apply", "POST /tx/apply?all"])),
         12 | 13 => String::from_str(alloc, "GET /job"),
+        14 => set(alloc, dice),
+        15 => format!(in alloc; "GET /plan?tx={tx}"),
+        16 => format!(in alloc; "GET /plan/file?name=motd&tx={tx}"),
         _ => String::from_str(alloc, dice.pick(READINGS)),
     }
 }

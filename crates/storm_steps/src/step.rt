@@ -10,6 +10,10 @@ pub struct Serving {
     pub slice: Option<u32>,
     /// How many connections are served; without a number all.
     pub connections: Option<u32>,
+    /// Whether turns are made while no client is there.
+    pub while_idle: bool,
+    /// So many looks before each accept find no client.
+    pub away: u32,
 }
 
 /// What a step runs.
@@ -27,6 +31,8 @@ pub enum Order {
     Get,
     /// `check`.
     Check,
+    /// `verify`.
+    Verify,
     /// `prune`.
     Prune,
     /// `migrate`, to the version with this text.
@@ -76,6 +82,8 @@ pub struct Step {
     pub words: Vec<String>,
     /// What the clients of `serve` send; for `set` and `apply`, the requests that the command makes itself.
     pub sent: Vec<Sent>,
+    /// Whether the last of them are those of `planned`.
+    pub is_planned: bool,
     /// The number of the accept that fails, from 1.
     pub accept_fails: Option<u64>,
     /// The statuses with which programs end, 0 after these. One without a status can't be run.
@@ -107,6 +115,7 @@ impl Step {
             order,
             words: words_of(alloc, line)?,
             sent,
+            is_planned: false,
             accept_fails: None,
             statuses: Vec::new(alloc),
             fault: Fault::Never,
@@ -117,6 +126,11 @@ impl Step {
     /// The step that begins a store.
     pub fn begin(alloc: Global) -> Result<Step, AllocError> {
         Step::calm(alloc, Order::Init, "init --version 1.5.2", Vec::new(alloc))
+    }
+
+    /// The step that reads each configuration file.
+    pub fn verify(alloc: Global) -> Result<Step, AllocError> {
+        Step::calm(alloc, Order::Verify, "verify", Vec::new(alloc))
     }
 }
 
