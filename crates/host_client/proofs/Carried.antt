@@ -1,5 +1,5 @@
 -- Questions that were asked one after another, each over a link of its own.
-use Rattle.std.proofs.Common.{◌≡◌, ◌<◌, ℕ, List, Option, None, inl, inr, map, length, get_or, refl, sym, ◌∙◌, ap, subst}
+use Rattle.std.proofs.Common.{◌≡◌, ◌<◌, ℕ, List, Option, None, inl, inr, map, length, get_or, sym, ◌∙◌, ap, subst}
 use Rattle.std.specs.Prelude.{Result, Err, IsErrOf}
 use Rattle.std.proofs.Math.ListN.{set}
 use Rattle.std.proofs.Math.Seq.{map-set_same, lt-length-set}

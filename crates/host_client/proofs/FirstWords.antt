@@ -95,10 +95,6 @@ edit_none tx rest none (order.edit other body) said =
     none body (subst (λ (ws : List (List ℕ)). SaysChanges ws body) (sym (rest_is tx other rest said.0 tail)) said.2)
 edit_none tx rest none other said = false≢true (first_is (codes "edit") (tx ∷ rest) other said)
 
-pub edit_nothing : SpellsNone (codes "edit" ∷ [])
-edit_nothing (order.edit tx body) said = let tail = rest_is _ _ [] (tx ∷ said.0) said.1 in cc
-edit_nothing other said = false≢true (first_is (codes "edit") [] other said)
-
 -- after `plan` there is no transaction and there are no changes
 pub plan_none : (rest : List (List ℕ)) → ((body : List ℕ) → SaysChanges rest body → ⊥) → (rest ≡ [] → ⊥) → ((tx : List ℕ) → rest ≡ tx ∷ [] → ⊥)
     → SpellsNone (codes "plan" ∷ rest)

@@ -6,3 +6,5 @@ pub mod Checked
 pub mod Replies
 pub mod FirstWords
 pub mod Listed
+pub mod Merging
+pub mod Enough

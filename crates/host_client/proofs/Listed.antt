@@ -1,6 +1,6 @@
 -- Lists in JSON values.
-use Rattle.std.proofs.Common.{◌≡◌, List, [], ◌∷◌, Some, None, map, refl, sym, ap, ◌∙◌}
-use Rattle.serde_json.specs.Data.{Data, null, boolean, number, string, array, object, Items}
+use Rattle.std.proofs.Common.{◌≡◌, List, [], ◌∷◌, Some, map, refl, ap, ◌∙◌}
+use Rattle.serde_json.specs.Data.{Data, null, boolean, number, string, array, object}
 use Rattle.serde_json.specs.Find.{as_array}
 use Rattle.serde_json.specs.View.{view, items_view}
 use Rattle.serde_json.specs.declared.value.Value.{Value}
@@ -19,12 +19,3 @@ items_are (number n) vs e = cc
 items_are (string s) vs e = cc
 items_are (array ds) vs e = let same : items_view vs ≡ ds = cc in values_are vs ∙ ap values_of same
 items_are (object ms) vs e = cc
-
--- what is no list has none
-pub no_items_are : (d : Data) → None ≡ as_array d → [] ≡ items_in d
-no_items_are null e = refl
-no_items_are (boolean b) e = refl
-no_items_are (number n) e = refl
-no_items_are (string s) e = refl
-no_items_are (array ds) e = cc
-no_items_are (object ms) e = refl

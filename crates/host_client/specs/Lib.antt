@@ -6,5 +6,7 @@ pub mod Orders
 pub mod Jobs
 pub mod Members
 pub mod Lines
+pub mod Trees
 pub mod Steps
+pub mod Paces
 pub mod Ended

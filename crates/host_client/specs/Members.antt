@@ -1,6 +1,6 @@
 -- Members of a JSON object in a reply, and the items of its lists. What isn't there, or is no text, counts as an empty text.
-use Rattle.std.specs.Prelude.{ℕ, Bool, List, [], ◌++◌, codes, Option, Some, None, is_some, option_and_then, unwrap_or}
-use Rattle.serde_json.specs.Data.{Data, null, boolean, number, string, array, object}
+use Rattle.std.specs.Prelude.{ℕ, Bool, List, [], Option, Some, None, is_some, option_and_then, unwrap_or}
+use Rattle.serde_json.specs.Data.{Data, array}
 use Rattle.serde_json.specs.Find.{get, at, as_str}
 use Rattle.json_trees.specs.Scalar.{values_of}
 use Rattle.host_client.specs.Jobs.{text_in, list_in}

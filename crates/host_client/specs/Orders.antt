@@ -1,5 +1,5 @@
 -- What the words of the command line order.
-use Rattle.std.specs.Prelude.{◌≡◌, ◌≤◌, ◌+◌, ◌⊎◌, ℕ, min, Bool, true, false, ◌||◌, IsTrue, List, [], ◌∷◌, codes, Option, Some, None}
+use Rattle.std.specs.Prelude.{◌≡◌, ◌≤◌, ℕ, Bool, true, false, ◌||◌, IsTrue, List, [], ◌∷◌, codes, Option, Some, None}
 use Rattle.std.specs.Option.{option_copied}
 use Rattle.std.specs.Str.{bytes_eq}
 use Rattle.std.specs.Str.Parse.{digits_value}
@@ -10,7 +10,6 @@ use Rattle.host_client.specs.Reply.{is_number}
 use Rattle.host_client.specs.Words.{AsksFor}
 use Rattle.host_client.specs.declared.command.Command.{Command}
 use Rattle.host_client.specs.declared.command.Command.TheVariants as command
-use Rattle.host_client.specs.declared.command.Pace.{Pace}
 
 -- What is ordered: one question by its method, target and body, or what a verb names. Keys, files and transactions are as they were typed;
 -- changes are the body that asks for them.
@@ -92,20 +91,6 @@ Spells words verify = words ≡ codes "verify" ∷ []
 -- The words spell no order.
 abbrev pub SpellsNone : List (List ℕ) → Type 0
 SpellsNone words = (order : Order) → ¬ Spells words order
-
--- How many questions an order asks at most, one a second of a job for as long as it is waited for, and how many of them at once.
-abbrev pub pace_of : Order → Pace
-pace_of (set body) = record { at_once = 2; most = 302 }
-pace_of (commit tx) = record { at_once = 2; most = 302 }
-pace_of (apply all) = record { at_once = 2; most = 302 }
-pace_of (try_out body) = record { at_once = 4; most = 4 }
-pace_of (wait None) = record { at_once = 2; most = 301 }
-pace_of (wait (Some seconds)) = record { at_once = 2; most = min seconds 3600 + 1 }
-pace_of _ = record { at_once = 2; most = 2 }
-
--- So many questions are asked at most, and none of words that order nothing.
-abbrev pub AsksAtMost : List (List ℕ) → Pace → Type 0
-AsksAtMost words pace = (SpellsNone words × (pace ≡ record { at_once = 0; most = 0 })) ⊎ ((order : Order) × Spells words order × (pace ≡ pace_of order))
 
 -- The word is that of a verb.
 abbrev pub is_verb : List ℕ → Bool

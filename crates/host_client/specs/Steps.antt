@@ -5,19 +5,20 @@ use Rattle.std.specs.List.{flat_map, list_any}
 use Rattle.std.specs.Str.{bytes_eq}
 use Rattle.percent_encoding.specs.Percent.{percent_encode}
 use Rattle.host_client.specs.Question.{is_question}
-use Rattle.serde_json.specs.Data.{Data, Members}
+use Rattle.serde_json.specs.Data.{Data, object, Members}
 use Rattle.serde_json.specs.Find.{as_object}
 use Rattle.serde_json.specs.Find as find
+use Rattle.serde_json.specs.Written.{has_float, compact_text}
 use Rattle.json_trees.specs.Json.{data_of}
 use Rattle.host_client.specs.Orders.{Order, plain, get, set, edit, pending, discard, transactions, commit, plan, try_out, show, apply, wait, verify}
 use Rattle.host_client.specs.Orders as order
 use Rattle.host_client.specs.Lines.{is_plan, plan_lines, plan_status, state_lines, state_status, is_status, status_lines}
 use Rattle.host_client.specs.Jobs.{job_of, cause_status}
+use Rattle.host_client.specs.Trees.{one_tree}
 use Rattle.host_client.specs.declared.job.Job.{Job}
 use Rattle.host_client.specs.declared.job.Job.TheVariants.{Running, Done, Owed, Failed, Unknown}
 use Rattle.host_client.specs.declared.reply.Got.{Got}
 use Rattle.host_client.specs.declared.step.Question.{Question}
-use Rattle.host_client.specs.declared.step.Ending.{Ending}
 use Rattle.host_client.specs.declared.step.Step.{Step}
 use Rattle.host_client.specs.declared.step.Step.TheVariants.{Ask, End}
 use Rattle.host_client.specs.declared.target.TheConstants.{ESCAPED}
@@ -79,6 +80,10 @@ own_tx = codes "settingsctl-plan"
 -- The settings at a key and below it.
 abbrev pub below_question : List ℕ → Question
 below_question key = question (codes "GET") (codes "/settings?prefix=" ++ escaped key)
+
+-- The settings at one key.
+abbrev pub key_question : List ℕ → Question
+key_question key = question (codes "GET") (codes "/settings?keys=" ++ escaped key)
 
 -- How the job goes.
 abbrev pub job_question : Question
@@ -216,17 +221,46 @@ after_store store (job ∷ replies) = if is_success job.status then status_told 
 abbrev pub after_status : Got → List Got → Step
 after_status reply replies = if is_success reply.status then after_store reply replies else refused_by [] reply
 
+-- Nothing is at a key or below it.
+abbrev pub is_nothing : Got → Bool
+is_nothing below = is_success below.status && bytes_eq below.body (codes "{}")
+
 -- One key without a value of its own has settings below it, or nothing is there and its refusal stays.
 abbrev pub after_below : Got → Got → Step
-after_below reply below = if is_success below.status && bytes_eq below.body (codes "{}") then ended_by reply else ended_by below
+after_below reply below = if is_nothing below then ended_by reply else ended_by below
 
 abbrev pub next_below : List ℕ → Got → List Got → Step
 next_below key reply [] = asking (below_question key)
 next_below key reply (below ∷ replies) = after_below reply below
 
+-- A tree by its compact text. No setting is a fraction, so a tree has none.
+abbrev pub tree_read : Data → Step
+tree_read tree = if has_float tree then bad_reply else ended 0 (line_of (compact_text tree))
+
+abbrev pub tree_told : Option Members → Step
+tree_told None = bad_reply
+tree_told (Some members) = tree_read (object members)
+
+-- Nothing is at one of several keys or below it: that key alone is asked for, which is refused.
+abbrev pub after_nothing : List ℕ → List Got → Step
+after_nothing key [] = asking (key_question key)
+after_nothing key (alone ∷ replies) = ended_by alone
+
+-- Several keys, one of them without a value of its own: what is at each or below it is asked for, and printed as one tree.
+abbrev pub after_each : List (List ℕ) → List Got → List Got → Step
+after_each [] replies all = tree_told (one_tree all)
+after_each (key ∷ keys) [] all = asking (below_question key)
+after_each (key ∷ keys) (below ∷ replies) all =
+    if is_nothing below then after_nothing key replies else (if is_success below.status then after_each keys replies all else refused_by [] below)
+
+-- A key has no value of its own.
+abbrev pub after_missing : List (List ℕ) → Got → List Got → Step
+after_missing [] reply replies = ended_by reply
+after_missing (key ∷ []) reply replies = next_below key reply replies
+after_missing keys reply replies = after_each keys replies replies
+
 abbrev pub after_get : List (List ℕ) → Got → List Got → Step
-after_get (key ∷ []) reply replies = if reply.status == 404 then next_below key reply replies else ended_by reply
-after_get _ reply replies = ended_by reply
+after_get keys reply replies = if reply.status == 404 then after_missing keys reply replies else ended_by reply
 
 -- By the job: it is asked again while it runs. The bytes are printed first at the end.
 abbrev pub by_job : List ℕ → Job → Step

@@ -2,7 +2,7 @@
 ghost use Rattle.std.specs.Prelude.{◌≡◌, ◌++◌, codes, Some, IfOk};
 ghost use Rattle.std.specs.Option.{option_copied};
 ghost use Rattle.host_client.specs.Orders.{order_of};
-ghost use Rattle.host_client.specs.Steps.{question, sending, below_question, job_question, edit_question, discard_question, plan_question};
+ghost use Rattle.host_client.specs.Steps.{question, sending, below_question, key_question, job_question, edit_question, discard_question, plan_question};
 ghost use Rattle.host_client.specs.Steps.{first_question, pending_target, apply_target, escaped, tx_part};
 
 use crate::command::Command;
@@ -123,6 +123,14 @@ pub(crate) fn below_question(alloc: Global, key: &[u8]) -> Result<Question, Allo
     ensures { IfOk result (λ q. q ≡ below_question key.now) }
 {
     let target = with_value(alloc, "/settings?prefix=", key)?;
+    bare(alloc, b"GET", target)
+}
+
+/// The settings at the key.
+pub(crate) fn key_question(alloc: Global, key: &[u8]) -> Result<Question, AllocError>
+    ensures { IfOk result (λ q. q ≡ key_question key.now) }
+{
+    let target = with_value(alloc, "/settings?keys=", key)?;
     bare(alloc, b"GET", target)
 }
 

@@ -27,7 +27,7 @@ fn printed<O: Sink>(out: &mut O, status: u8, line: &[u8]) -> u8
 ///
 /// | Words | Asks | Prints |
 /// |---|---|---|
-/// | `get KEY ..` | `GET /settings` with `keys`; for one key without a value of its own then with `prefix` | the tree |
+/// | `get KEY ..` | `GET /settings` with `keys`; where a key has no value of its own then with `prefix` for each | the tree |
 /// | `set KEY=JSON ..`, `unset KEY ..` | `POST /set`, and then as `wait` | the keys |
 /// | `edit TX KEY=JSON ..` | `PATCH /settings` | nothing |
 /// | `pending TX`, `pending` | `GET /tx` | the tree of what is pending |
@@ -54,7 +54,7 @@ fn printed<O: Sink>(out: &mut O, status: u8, line: &[u8]) -> u8
 /// | 10 | the job doesn't run, and something is owed | `settingsctl: owed` |
 /// | 10 | a file of a plan refuses | the lines of the plan |
 /// | 12 | only where the output failed, in place of any other status but 1 | what was taken |
-/// | 13 | a reply of another status; nothing is at the key of `get` or below it | `settingsctl: refused STATUS BODY` |
+/// | 13 | a reply of another status; nothing is at a key of `get` or below it | `settingsctl: refused STATUS BODY` |
 /// | 19 | a file is neither current nor owed | the lines of `verify` |
 /// | 21 | the input up to its end is no reply (`read_reply`), or tells not what was asked | `settingsctl: bad reply` |
 /// | 22 | the input has more than 16,777,216 bytes | `settingsctl: reply too long` |

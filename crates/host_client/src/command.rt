@@ -1,7 +1,8 @@
 //! The words of the command line are read.
 ghost use Rattle.std.specs.Prelude.{◌≡◌, IfOk, MatchOption};
 ghost use Rattle.outside.specs.Spawner.{texts};
-ghost use Rattle.host_client.specs.Orders.{Order, Spells, SpellsNone, AsksAtMost, order_of, pace_of, is_verb};
+ghost use Rattle.host_client.specs.Orders.{Order, Spells, SpellsNone, order_of, is_verb};
+ghost use Rattle.host_client.specs.Paces.{AsksAtMost, IsEnough, unpaced, most_of, pace_of};
 
 use crate::changing::{edit_in, plan_in, set_in, unset_in};
 use crate::verbs::{
@@ -136,26 +137,44 @@ fn waiting(most: usize) -> Pace
     Pace { at_once: 2, most }
 }
 
+// So many questions at most, all of them at once.
+fn unpaced(most: usize) -> Pace
+    ensures { result ≡ unpaced most }
+{
+    Pace {
+        at_once: most,
+        most,
+    }
+}
+
+// One key is asked for twice at most, several once together, then each, and then one at which nothing is.
+fn most_of(keys: &[String]) -> usize
+    ensures { result ≡ most_of (texts keys.now) }
+{
+    if keys.len() < 2 { 2 } else { keys.len() + 2 }
+}
+
+#[tactic(auto, using(crate::proofs::Enough::enough))]
 fn pace_of(command: &Command<'_>) -> Pace
-    ensures { result ≡ pace_of (order_of command.now) }
+    ensures pace { result ≡ pace_of (order_of command.now) }
+    ensures enough { IsEnough (order_of command.now) result.most }
 {
     match command {
         Command::Set { .. } | Command::Commit { .. } | Command::Apply { .. } => waiting(302),
-        Command::TryOut { .. } => Pace {
-            at_once: 4,
-            most: 4,
-        },
+        Command::Get { keys } => unpaced(most_of(keys)),
+        Command::TryOut { .. } => unpaced(4),
         Command::Wait { seconds: None } => waiting(301),
         Command::Wait {
             seconds: Some(seconds),
         } => waiting((*seconds).min(MOST_SECONDS) + 1),
-        _ => waiting(2),
+        _ => unpaced(2),
     }
 }
 
 /// How many questions the words ask at most: none where they order nothing, as many as there are seconds to wait and
 /// one more for `wait`, by default 301, one more than that for `set`, `unset`, `commit` and `apply`, 4 for a plan of
-/// changes, and else 2. All but those that wait for a job are asked at once. The only error is out of memory.
+/// changes, two more than there are keys for `get` of several keys, and else 2. Only those that wait for a job may have
+/// more to ask after so many replies, and only they are not all asked at once. The only error is out of memory.
 pub fn pace_in(alloc: Global, words: &[String]) -> Result<Pace, AllocError>
     ensures { IfOk result (AsksAtMost (texts words.now)) }
 {

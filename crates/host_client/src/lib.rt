@@ -26,6 +26,7 @@ mod status;
 mod step;
 mod stop;
 mod target;
+mod trees;
 mod turns;
 mod verbs;
 

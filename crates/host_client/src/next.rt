@@ -2,11 +2,11 @@
 ghost use Rattle.std.specs.Prelude.{◌≡◌, ◌++◌, ◌∷◌, IfOk};
 ghost use Rattle.std.specs.Option.{option_copied};
 ghost use Rattle.host_client.specs.Orders.{order_of};
-ghost use Rattle.host_client.specs.Steps.{IsSound, below_question, first_question, asking, by_job, by_last};
-ghost use Rattle.host_client.specs.Steps.{next_below, after_get, after_change, last_of, follow, next};
+ghost use Rattle.host_client.specs.Steps.{IsSound, below_question, key_question, first_question, asking, by_job, by_last};
+ghost use Rattle.host_client.specs.Steps.{is_nothing, next_below, after_nothing, after_each, after_missing, after_get, after_change, last_of, follow, next};
 ghost use Rattle.outside.specs.Spawner.{texts};
 
-use crate::asked::{below_question, first_question, job_question};
+use crate::asked::{below_question, first_question, job_question, key_question};
 use crate::command::Command;
 use crate::ending::{asking, body_line, ended, ended_by, is_success, joined, refused_by, shown_by};
 use crate::job::{Job, cause_status, job_of};
@@ -15,6 +15,7 @@ use crate::reply::Got;
 use crate::states::by_states;
 use crate::status::after_status;
 use crate::step::Step;
+use crate::trees::by_trees;
 use std::alloc::{AllocError, Global};
 
 fn ask_below(alloc: Global, key: &[u8]) -> Result<Step, AllocError>
@@ -25,16 +26,74 @@ fn ask_below(alloc: Global, key: &[u8]) -> Result<Step, AllocError>
     asking(alloc, question)
 }
 
+fn ask_alone(alloc: Global, key: &[u8]) -> Result<Step, AllocError>
+    ensures step { IfOk result (λ step. step ≡ asking (key_question key.now)) }
+    ensures sound { IfOk result IsSound }
+{
+    let question = key_question(alloc, key)?;
+    asking(alloc, question)
+}
+
+// Whether nothing is at a key or below it.
+fn is_nothing(below: &Got) -> bool
+    ensures { result ≡ is_nothing below.now }
+{
+    is_success(below) && below.body.as_slice() == b"{}".as_slice()
+}
+
 fn next_below(alloc: Global, key: &[u8], reply: &Got, replies: &[Got]) -> Result<Step, AllocError>
     ensures step { IfOk result (λ step. step ≡ next_below key.now reply.now replies.now) }
     ensures sound { IfOk result IsSound }
 {
     match replies {
         [] => ask_below(alloc, key),
-        [below, ..] if is_success(below) && below.body.as_slice() == b"{}".as_slice() => ended_by(
-            alloc, reply,
-        ),
+        [below, ..] if is_nothing(below) => ended_by(alloc, reply),
         [below, ..] => ended_by(alloc, below),
+    }
+}
+
+fn after_nothing(alloc: Global, key: &[u8], replies: &[Got]) -> Result<Step, AllocError>
+    ensures step { IfOk result (λ step. step ≡ after_nothing key.now replies.now) }
+    ensures sound { IfOk result IsSound }
+{
+    match replies {
+        [] => ask_alone(alloc, key),
+        [alone, ..] => ended_by(alloc, alone),
+    }
+}
+
+// Several keys, each asked for with what is below it.
+fn after_each(alloc: Global, keys: &[String], replies: &[Got]) -> Result<Step, AllocError>
+    ensures step { IfOk result (λ step. step ≡ after_each (texts keys.now) replies.now replies.now) }
+    ensures sound { IfOk result IsSound }
+{
+    let mut rest = replies;
+    for key in keys {
+        match rest {
+            [] => return ask_below(alloc, key.as_bytes()),
+            [below, later @ ..] if is_nothing(below) => {
+                return after_nothing(alloc, key.as_bytes(), later);
+            }
+            [below, later @ ..] if is_success(below) => rest = later,
+            [below, ..] => return refused_by(alloc, &[], below),
+        }
+    }
+    by_trees(alloc, replies)
+}
+
+fn after_missing(
+    alloc: Global,
+    keys: &[String],
+    reply: &Got,
+    replies: &[Got],
+) -> Result<Step, AllocError>
+    ensures step { IfOk result (λ step. step ≡ after_missing (texts keys.now) reply.now replies.now) }
+    ensures sound { IfOk result IsSound }
+{
+    match keys {
+        [] => ended_by(alloc, reply),
+        [key] => next_below(alloc, key.as_bytes(), reply, replies),
+        [_, _, ..] => after_each(alloc, keys, replies),
     }
 }
 
@@ -47,9 +106,10 @@ fn after_get(
     ensures step { IfOk result (λ step. step ≡ after_get (texts keys.now) reply.now replies.now) }
     ensures sound { IfOk result IsSound }
 {
-    match keys {
-        [key] if reply.status == 404 => next_below(alloc, key.as_bytes(), reply, replies),
-        _ => ended_by(alloc, reply),
+    if reply.status == 404 {
+        after_missing(alloc, keys, reply, replies)
+    } else {
+        ended_by(alloc, reply)
     }
 }
 

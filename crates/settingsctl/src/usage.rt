@@ -4,7 +4,7 @@
 pub const PAGE: &str = "usage: settingsctl METHOD TARGET [BODY], in the folder of a running server
        settingsctl [-C DIR] VERB ..
 
-  get [KEY ..]            prints the settings: all, those of the keys, or those at and below one key
+  get [KEY ..]            prints the settings: all, or those at the keys and below them
   set KEY=JSON ..         sets values at once, applies them, and waits for the job
   unset KEY ..            takes settings away, in the same way
   edit TX KEY=JSON ..     makes values pending in a transaction

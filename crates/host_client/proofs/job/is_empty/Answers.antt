@@ -1,7 +1,7 @@
-use Rattle.std.proofs.Common.{arith, ◌≡◌, ◌≢◌, ◌==◌, List, [], ◌∷◌, Option, Bor, Vec, Global, sym, Some, length, map, refl, ◌∙◌, ap}
+use Rattle.std.proofs.Common.{arith, ◌≡◌, ◌≢◌, ◌==◌, List, [], ◌∷◌, Option, Bor, Vec, Global, sym, Some, length, refl, ◌∙◌, ap}
 use Rattle.std.proofs.lemmas.Bool.{ne_eqb}
 use Rattle.std.specs.Prelude.{option_map}
-use Rattle.serde_json.specs.View.{view, items_view}
+use Rattle.serde_json.specs.View.{items_view}
 use Rattle.serde_json.specs.declared.value.Value.{Value}
 use Rattle.host_client.specs.Jobs.{is_empty}
 use Rattle.host_client.proofs.job.is_empty.Goals as goal

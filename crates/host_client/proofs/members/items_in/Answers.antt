@@ -1,4 +1,4 @@
-use Rattle.std.proofs.Common.{List, map, ap, ◌∙◌}
+use Rattle.std.proofs.Common.{map, ap, ◌∙◌}
 use Rattle.serde_json.specs.View.{view}
 use Rattle.host_client.proofs.Listed.{items_are}
 use Rattle.host_client.proofs.members.items_in.Goals as goal
