@@ -1,7 +1,7 @@
 /* client.c: asks two servers in turn, each at a Unix socket, one connection for each request, and tells how long each kind took.
  *
  *   client SOCKET OTHER ROUNDS SETTINGS all      in each round a PATCH of one setting, its commit, a plan of what is owed then, a POST /set of
- *                                                the setting, and a GET of it
+ *                                                the setting, a GET /verify, and a GET of the setting
  *   client SOCKET OTHER ROUNDS SETTINGS get      in each round the GET alone
  *
  * The settings are `settings.load.k0` and so on, and are taken in no order. For each kind it prints the median of the microseconds from the
@@ -15,7 +15,7 @@
 #include <time.h>
 #include <unistd.h>
 
-enum { KINDS = 5, SERVERS = 2, ROOM = 1 << 20, STEP = 7919 };
+enum { KINDS = 6, SERVERS = 2, ROOM = 1 << 20, STEP = 7919 };
 
 static char room[ROOM];
 
@@ -68,6 +68,9 @@ static void request_of(char *into, size_t size, int kind, long round, long setti
     case 3:
         snprintf(body, sizeof body, "{\"load\":{\"k%ld\":%ld}}", key, (round * STEP + 2) % 1000000);
         snprintf(into, size, "POST /set HTTP/1.1\r\nContent-Length: %zu\r\n\r\n%s", strlen(body), body);
+        break;
+    case 4:
+        snprintf(into, size, "GET /verify HTTP/1.1\r\n\r\n");
         break;
     default:
         snprintf(into, size, "GET /settings?keys=settings.load.k%ld HTTP/1.1\r\n\r\n", key);

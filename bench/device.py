@@ -2,9 +2,10 @@
 """device.py PROGRAM [ROUNDS]: what the program `settings` adds to the system calls that it makes, on the real disk and the real socket.
 
 For stores of 100, 1,000 and 10,000 settings, of which all are defaults or none is, it measures ROUNDS rounds (1,000) over the socket, one
-connection for each request: a PATCH of one setting, its commit, a plan of what is owed then, a `POST /set` of the setting, and a GET of it; the opening of the
-store, by `get` of one setting; and `migrate`. Each is traced once by strace, over a copy of the store. Then the program does it again, a small program in C makes the same calls, each over a fresh copy, and both are timed:
-request by request in turn, of which the median is taken, and runs in turn, three of each, of which the least is taken. GET is also measured
+connection for each request: a PATCH of one setting, its commit, a plan of what is owed then, a `POST /set` of the setting, a `GET /verify`, which
+reads and renders one file of one line, and a GET of the setting; the opening of the store, by `get` of one setting; and `migrate`. Each is traced once
+by strace, over a copy of the store. Then the program does it again, a small program in C makes the same calls, each over a fresh copy, and both are
+timed: request by request in turn, of which the median is taken, and runs in turn, three of each, of which the least is taken. GET is also measured
 against a bare loop of accept, read, write and close; the memory of a server that was asked for settings is measured where these are texts of
 10, 100 and 1,000 bytes; and SQLite is measured besides. Tables are printed. Wants strace and a C compiler, and
 works in a new folder below the system's folder for such files, or below BENCH_FOLDER."""
@@ -23,8 +24,19 @@ from traces import built_in, list_of, traced
 COUNTS = (100, 1000, 10000)
 SIZES = (10, 100, 1000)
 RUNS = 3
-KINDS = ('PATCH', 'commit', 'plan', 'set', 'GET')
+KINDS = ('PATCH', 'commit', 'plan', 'set', 'verify', 'GET')
 RELEASE = 'version = "1.0.1"\n\n[migrations]\n"(1.0.0, 1.0.1)" = ["other"]\n\n[migration.other]\nkind = "replace-string"\nsetting = "settings.word"\nold = "old"\nnew = "new"\n'
+# A file that no setting affects but `word`.
+FILE = '''
+[services.word]
+configuration-files = ["word"]
+restart-commands = []
+[configuration-files.word]
+path = "/etc/word"
+template-path = "word"
+[metadata.settings.word]
+affected-services = ["word"]
+'''
 
 
 def model_of(count, size):
@@ -33,7 +45,7 @@ def model_of(count, size):
         kind, values = 'int 0 999999', '\n'.join(f'k{i} = {i}' for i in range(count))
     else:
         kind, values = 'line', '\n'.join(f'k{i} = "{i:0{size}}"' for i in range(count))
-    return f'[types]\n"settings.load.*" = "{kind}"\n"settings.word" = "line"\n\n[settings]\nword = "old"\n\n[settings.load]\n{values}\n'
+    return f'[types]\n"settings.load.*" = "{kind}"\n"settings.word" = "line"\n\n[settings]\nword = "old"\n\n[settings.load]\n{values}\n{FILE}'
 
 
 def run(program, folder, *words, before=()):
@@ -49,7 +61,7 @@ def run(program, folder, *words, before=()):
 def seed_of(program, folder, count, size=None):
     """A folder with a store of so many settings: numbers, or texts of so many bytes."""
     os.makedirs(f'{folder}/image/templates')
-    for name, text in (('model.toml', model_of(count, size)), ('release.toml', RELEASE)):
+    for name, text in (('model.toml', model_of(count, size)), ('release.toml', RELEASE), ('templates/word', '{{settings.word}}\n')):
         with open(f'{folder}/image/{name}', 'w', encoding='utf-8') as file:
             file.write(text)
     run(program, folder, 'init', '--version', '1.0.0')
