@@ -3,12 +3,13 @@
 _settings() {
     local word=${COMP_WORDS[COMP_CWORD]}
     if [ "$COMP_CWORD" -eq 1 ]; then
-        COMPREPLY=($(compgen -W 'init serve set get apply check migrate prune generate user-data load --help --version' -- "$word"))
+        COMPREPLY=($(compgen -W 'init serve set get apply verify check migrate prune generate user-data load --help --version' -- "$word"))
         return
     fi
     case ${COMP_WORDS[1]} in
         init) COMPREPLY=($(compgen -W '--version' -- "$word")) ;;
-        serve) COMPREPLY=($(compgen -W '--boot --slice --connections' -- "$word")) ;;
+        serve) COMPREPLY=($(compgen -W '--boot --slice --while-idle --connections' -- "$word")) ;;
+        apply) COMPREPLY=($(compgen -W '--all' -- "$word")) ;;
         migrate) COMPREPLY=($(compgen -W '--to' -- "$word")) ;;
         user-data) COMPREPLY=($(compgen -f -- "$word")) ;;
     esac

@@ -1,10 +1,11 @@
 # Completion of `settings` and `settingsctl` for fish.
 
-set -l commands init serve set get apply check migrate prune generate user-data load
+set -l commands init serve set get apply verify check migrate prune generate user-data load
 complete -c settings -f
 complete -c settings -n "not __fish_seen_subcommand_from $commands" -a "$commands --help --version"
 complete -c settings -n '__fish_seen_subcommand_from init' -a --version
-complete -c settings -n '__fish_seen_subcommand_from serve' -a '--boot --slice --connections'
+complete -c settings -n '__fish_seen_subcommand_from serve' -a '--boot --slice --while-idle --connections'
+complete -c settings -n '__fish_seen_subcommand_from apply' -a --all
 complete -c settings -n '__fish_seen_subcommand_from migrate' -a --to
 complete -c settings -n '__fish_seen_subcommand_from user-data' -F
 
