@@ -59,8 +59,8 @@ def list_of(trace, target, begins=None):
     return len(lines)
 
 
-def built_in(base, name):
+def built_in(base, name, *flags):
     """The program of this name, built below this folder."""
     program = f'{base}/{name}'
-    subprocess.run(['cc', '-O2', '-o', program, f'{HERE}/{name}.c'], check=True)
+    subprocess.run(['cc', '-O2', *flags, '-o', program, f'{HERE}/{name}.c'], check=True)
     return program
