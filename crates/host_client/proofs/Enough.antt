@@ -9,9 +9,9 @@ use Rattle.host_client.specs.Lines.{is_plan, is_status}
 use Rattle.host_client.specs.Orders.{Order, get, set, commit, plan, try_out, show, apply, wait, verify}
 use Rattle.host_client.specs.Orders as order
 use Rattle.host_client.specs.Paces.{pace_of, most_of, waits, IsEnd, IsEnough}
-use Rattle.host_client.specs.Steps.{is_success, is_nothing, ended_by, by_plan, plan_told, files_of, files_told, states_told, after_try, after_status}
-use Rattle.host_client.specs.Steps.{both_told, after_nothing, after_each, after_missing, tree_told, follow}
-use Rattle.host_client.specs.Trees.{one_tree}
+use Rattle.host_client.specs.Steps.{is_success, is_nothing, ended_by, settings_told, settings_by, by_plan, plan_told, files_of, files_told}
+use Rattle.host_client.specs.Steps.{states_told, after_try, after_status, both_told, after_nothing, after_each, after_missing, tree_told, follow}
+use Rattle.host_client.specs.Trees.{tree_in, one_tree}
 use Rattle.host_client.specs.declared.reply.Got.{Got}
 use Rattle.host_client.specs.declared.step.Ending.{Ending}
 use Rattle.host_client.specs.declared.step.Step.{Step}
@@ -26,6 +26,13 @@ either false one other = other
 
 ended_by_ends : (reply : Got) → IsEnd (ended_by reply)
 ended_by_ends reply = either (is_success reply.status) (here _) (here _)
+
+told_end : (body : List ℕ) (tree : Option Members) → IsEnd (settings_told body tree)
+told_end body None = here _
+told_end body (Some _) = here _
+
+settings_end : (reply : Got) → IsEnd (settings_by reply)
+settings_end reply = either (is_success reply.status) (told_end reply.body (tree_in reply.body)) (here _)
 
 plan_ends : (value : Option Data) → IsEnd (plan_told value)
 plan_ends None = here _
@@ -67,7 +74,7 @@ tree_ends (Some members) = either (has_float (object members)) (here _) (here _)
 
 nothing_ends : (key : List ℕ) (replies : List Got) → 1 ≤ length replies → IsEnd (after_nothing key replies)
 nothing_ends key [] many = absurd (omega arith)
-nothing_ends key (alone ∷ replies) many = ended_by_ends alone
+nothing_ends key (alone ∷ replies) many = settings_end alone
 
 each_ends : (keys : List (List ℕ)) (replies all : List Got) → length keys + 1 ≤ length replies → IsEnd (after_each keys replies all)
 each_ends [] replies all many = tree_ends (one_tree all)
@@ -80,9 +87,9 @@ most_is keys many = grind (arith, nat_tests)
 
 missing_ends : (keys : List (List ℕ)) (reply : Got) (replies : List Got) → most_of keys ≤ length (reply ∷ replies)
     → IsEnd (after_missing keys reply replies)
-missing_ends [] reply replies many = ended_by_ends reply
+missing_ends [] reply replies many = settings_end reply
 missing_ends (key ∷ []) reply [] many = absurd (omega arith)
-missing_ends (key ∷ []) reply (below ∷ replies) many = either (is_nothing below) (ended_by_ends reply) (ended_by_ends below)
+missing_ends (key ∷ []) reply (below ∷ replies) many = either (is_nothing below) (settings_end reply) (settings_end below)
 missing_ends (key ∷ other ∷ keys) reply replies many =
     each_ends (key ∷ other ∷ keys) replies replies (omega (arith, most_is (key ∷ other ∷ keys) (omega arith)))
 
@@ -101,7 +108,7 @@ asks_some ordered free = omega arith
 
 follow_ends : (ordered : Order) (reply : Got) (replies : List Got) → waits ordered ≡ false → (pace_of ordered).most ≤ length (reply ∷ replies)
     → IsEnd (follow ordered reply replies)
-follow_ends (get keys) reply replies free many = either (reply.status == 404) (missing_ends keys reply replies many) (ended_by_ends reply)
+follow_ends (get keys) reply replies free many = either (reply.status == 404) (missing_ends keys reply replies many) (settings_end reply)
 follow_ends (set body) reply replies free many = cc
 follow_ends (commit tx) reply replies free many = cc
 follow_ends (apply all) reply replies free many = cc

@@ -14,7 +14,7 @@ use Rattle.host_client.specs.Orders.{Order, plain, get, set, edit, pending, disc
 use Rattle.host_client.specs.Orders as order
 use Rattle.host_client.specs.Lines.{is_plan, plan_lines, plan_status, state_lines, state_status, is_status, status_lines}
 use Rattle.host_client.specs.Jobs.{job_of, cause_status}
-use Rattle.host_client.specs.Trees.{one_tree}
+use Rattle.host_client.specs.Trees.{tree_in, one_tree}
 use Rattle.host_client.specs.declared.job.Job.{Job}
 use Rattle.host_client.specs.declared.job.Job.TheVariants.{Running, Done, Owed, Failed, Unknown}
 use Rattle.host_client.specs.declared.reply.Got.{Got}
@@ -141,9 +141,21 @@ refused_by front reply = ended 13 (front ++ refused_line reply.status reply.body
 abbrev pub ended_by : Got → Step
 ended_by reply = if is_success reply.status then ended 0 (body_line reply.body) else refused_by [] reply
 
+-- The line of what is below `settings`, as `settings get` prints it.
+abbrev pub settings_line : List ℕ → List ℕ
+settings_line tree = codes "{\"settings\":" ++ tree ++ codes "}\n"
+
 -- A reply that can't be read as what was asked for.
 abbrev pub bad_reply : Step
 bad_reply = ended 21 (codes "settingsctl: bad reply\n")
+
+-- The settings of a success, which are a JSON object; the status and the body of a refusal.
+abbrev pub settings_told : List ℕ → Option Members → Step
+settings_told body None = bad_reply
+settings_told body (Some _) = ended 0 (settings_line body)
+
+abbrev pub settings_by : Got → Step
+settings_by reply = if is_success reply.status then settings_told reply.body (tree_in reply.body) else refused_by [] reply
 
 -- ---- after the first reply
 
@@ -227,7 +239,7 @@ is_nothing below = is_success below.status && bytes_eq below.body (codes "{}")
 
 -- One key without a value of its own has settings below it, or nothing is there and its refusal stays.
 abbrev pub after_below : Got → Got → Step
-after_below reply below = if is_nothing below then ended_by reply else ended_by below
+after_below reply below = if is_nothing below then settings_by reply else settings_by below
 
 abbrev pub next_below : List ℕ → Got → List Got → Step
 next_below key reply [] = asking (below_question key)
@@ -235,7 +247,7 @@ next_below key reply (below ∷ replies) = after_below reply below
 
 -- A tree by its compact text. No setting is a fraction, so a tree has none.
 abbrev pub tree_read : Data → Step
-tree_read tree = if has_float tree then bad_reply else ended 0 (line_of (compact_text tree))
+tree_read tree = if has_float tree then bad_reply else ended 0 (settings_line (compact_text tree))
 
 abbrev pub tree_told : Option Members → Step
 tree_told None = bad_reply
@@ -244,7 +256,7 @@ tree_told (Some members) = tree_read (object members)
 -- Nothing is at one of several keys or below it: that key alone is asked for, which is refused.
 abbrev pub after_nothing : List ℕ → List Got → Step
 after_nothing key [] = asking (key_question key)
-after_nothing key (alone ∷ replies) = ended_by alone
+after_nothing key (alone ∷ replies) = settings_by alone
 
 -- Several keys, one of them without a value of its own: what is at each or below it is asked for, and printed as one tree.
 abbrev pub after_each : List (List ℕ) → List Got → List Got → Step
@@ -255,12 +267,12 @@ after_each (key ∷ keys) (below ∷ replies) all =
 
 -- A key has no value of its own.
 abbrev pub after_missing : List (List ℕ) → Got → List Got → Step
-after_missing [] reply replies = ended_by reply
+after_missing [] reply replies = settings_by reply
 after_missing (key ∷ []) reply replies = next_below key reply replies
 after_missing keys reply replies = after_each keys replies replies
 
 abbrev pub after_get : List (List ℕ) → Got → List Got → Step
-after_get keys reply replies = if reply.status == 404 then after_missing keys reply replies else ended_by reply
+after_get keys reply replies = if reply.status == 404 then after_missing keys reply replies else settings_by reply
 
 -- By the job: it is asked again while it runs. The bytes are printed first at the end.
 abbrev pub by_job : List ℕ → Job → Step

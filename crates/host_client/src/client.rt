@@ -27,7 +27,7 @@ fn printed<O: Sink>(out: &mut O, status: u8, line: &[u8]) -> u8
 ///
 /// | Words | Asks | Prints |
 /// |---|---|---|
-/// | `get KEY ..` | `GET /settings` with `keys`; where a key has no value of its own then with `prefix` for each | the tree |
+/// | `get KEY ..` | `GET /settings` with `keys`; where a key has no value of its own then with `prefix` for each | the tree, as `settings get` does |
 /// | `set KEY=JSON ..`, `unset KEY ..` | `POST /set`, and then as `wait` | the keys |
 /// | `edit TX KEY=JSON ..` | `PATCH /settings` | nothing |
 /// | `pending TX`, `pending` | `GET /tx` | the tree of what is pending |

@@ -1,6 +1,7 @@
 //! Ends of a run of questions.
 ghost use Rattle.std.specs.Prelude.{◌≡◌, ◌++◌, IfOk};
-ghost use Rattle.host_client.specs.Steps.{IsSound, asking, ended, ended_by, shown_by, refused_by, bad_reply, is_success, body_line, refused_line};
+ghost use Rattle.host_client.specs.Steps.{IsSound, asking, ended, ended_by, shown_by, refused_by, bad_reply, is_success};
+ghost use Rattle.host_client.specs.Steps.{body_line, settings_line, refused_line};
 
 use crate::question::is_question;
 use crate::reply::Got;
@@ -94,6 +95,16 @@ pub(crate) fn ended_by(alloc: Global, reply: &Got) -> Result<Step, AllocError>
     } else {
         refused_by(alloc, &[], reply)
     }
+}
+
+/// What is below `settings` as a line, as `settings get` prints it.
+pub(crate) fn settings_line(alloc: Global, tree: &[u8]) -> Result<Vec<u8>, AllocError>
+    ensures { IfOk result (λ line. line.items ≡ settings_line tree.now) }
+{
+    let mut line = b"{\"settings\":".to_vec(alloc)?;
+    line.extend_from_slice(tree)?;
+    line.extend_from_slice(b"}\n")?;
+    Ok(line)
 }
 
 /// The end by a reply whose body is printed as it is, or a refusal.

@@ -15,7 +15,7 @@ use crate::reply::Got;
 use crate::states::by_states;
 use crate::status::after_status;
 use crate::step::Step;
-use crate::trees::by_trees;
+use crate::trees::{by_trees, settings_by};
 use std::alloc::{AllocError, Global};
 
 fn ask_below(alloc: Global, key: &[u8]) -> Result<Step, AllocError>
@@ -47,8 +47,8 @@ fn next_below(alloc: Global, key: &[u8], reply: &Got, replies: &[Got]) -> Result
 {
     match replies {
         [] => ask_below(alloc, key),
-        [below, ..] if is_nothing(below) => ended_by(alloc, reply),
-        [below, ..] => ended_by(alloc, below),
+        [below, ..] if is_nothing(below) => settings_by(alloc, reply),
+        [below, ..] => settings_by(alloc, below),
     }
 }
 
@@ -58,7 +58,7 @@ fn after_nothing(alloc: Global, key: &[u8], replies: &[Got]) -> Result<Step, All
 {
     match replies {
         [] => ask_alone(alloc, key),
-        [alone, ..] => ended_by(alloc, alone),
+        [alone, ..] => settings_by(alloc, alone),
     }
 }
 
@@ -91,7 +91,7 @@ fn after_missing(
     ensures sound { IfOk result IsSound }
 {
     match keys {
-        [] => ended_by(alloc, reply),
+        [] => settings_by(alloc, reply),
         [key] => next_below(alloc, key.as_bytes(), reply, replies),
         [_, _, ..] => after_each(alloc, keys, replies),
     }
@@ -109,7 +109,7 @@ fn after_get(
     if reply.status == 404 {
         after_missing(alloc, keys, reply, replies)
     } else {
-        ended_by(alloc, reply)
+        settings_by(alloc, reply)
     }
 }
 

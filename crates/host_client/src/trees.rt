@@ -4,9 +4,9 @@ ghost use Rattle.serde_json.specs.Find.{as_object};
 ghost use Rattle.serde_json.specs.View.{view, items_view, members_view};
 ghost use Rattle.serde_json.specs.Written.{has_float, items_have_float, members_have_float, compact_text};
 ghost use Rattle.host_client.specs.Trees.{merged, merged_members, tree_in, one_tree};
-ghost use Rattle.host_client.specs.Steps.{IsSound, line_of, tree_read, tree_told};
+ghost use Rattle.host_client.specs.Steps.{IsSound, settings_line, settings_told, settings_by, tree_read, tree_told};
 
-use crate::ending::{bad_reply, ended};
+use crate::ending::{bad_reply, ended, is_success, refused_by, settings_line};
 use crate::reply::Got;
 use crate::step::Step;
 use json_trees::json_of;
@@ -118,14 +118,13 @@ fn members_have_float(members: &Map<String, Value>) -> bool
     false
 }
 
-// The compact text of the tree as a line.
+// The line of the tree, in compact text.
 fn tree_line(alloc: Global, tree: &Value) -> Result<Vec<u8>, AllocError>
     requires { has_float (view tree.now) ≡ false }
-    ensures { IfOk result (λ line. line.items ≡ line_of (compact_text (view tree.now))) }
+    ensures { IfOk result (λ line. line.items ≡ settings_line (compact_text (view tree.now))) }
 {
-    let mut line = tree.to_vec(alloc)?;
-    line.extend_from_slice(b"\n")?;
-    Ok(line)
+    let text = tree.to_vec(alloc)?;
+    settings_line(alloc, &text)
 }
 
 fn tree_read(alloc: Global, tree: &Value) -> Result<Step, AllocError>
@@ -148,5 +147,27 @@ pub(crate) fn by_trees(alloc: Global, replies: &[Got]) -> Result<Step, AllocErro
     match one_tree(alloc, replies)? {
         Some(members) => tree_read(alloc, &Value::Object(members)),
         None => bad_reply(alloc),
+    }
+}
+
+fn settings_told(alloc: Global, body: &[u8]) -> Result<Step, AllocError>
+    ensures step { IfOk result (λ step. step ≡ settings_told body.now (tree_in body.now)) }
+    ensures sound { IfOk result IsSound }
+{
+    match tree_in(alloc, body)? {
+        Some(_) => Ok(ended(0, settings_line(alloc, body)?)),
+        None => bad_reply(alloc),
+    }
+}
+
+/// The end by a reply that has settings, or by a refusal. The only error is out of memory.
+pub(crate) fn settings_by(alloc: Global, reply: &Got) -> Result<Step, AllocError>
+    ensures step { IfOk result (λ step. step ≡ settings_by reply.now) }
+    ensures sound { IfOk result IsSound }
+{
+    if is_success(reply) {
+        settings_told(alloc, reply.body.as_slice())
+    } else {
+        refused_by(alloc, &[], reply)
     }
 }
