@@ -8,7 +8,7 @@ _settings() {
     fi
     case ${COMP_WORDS[1]} in
         init) COMPREPLY=($(compgen -W '--version' -- "$word")) ;;
-        serve) COMPREPLY=($(compgen -W '--boot --slice --while-idle --connections' -- "$word")) ;;
+        serve) COMPREPLY=($(compgen -W '--boot --slice --while-idle --connections --quiet' -- "$word")) ;;
         apply) COMPREPLY=($(compgen -W '--all' -- "$word")) ;;
         migrate) COMPREPLY=($(compgen -W '--to' -- "$word")) ;;
         user-data) COMPREPLY=($(compgen -f -- "$word")) ;;

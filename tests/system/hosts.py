@@ -106,12 +106,12 @@ def ask(folder, method, target, body=None, timeout=30):
 
 
 class Server:
-    """A server of the folder, in a group of processes of its own, with which it is killed."""
+    """A server of the folder, in a group of processes of its own, with which it is killed. Its log is nowhere, or goes to a file."""
 
-    def __init__(self, program, folder, *options, before=(), **other):
+    def __init__(self, program, folder, *options, before=(), log=subprocess.DEVNULL, **other):
         self.folder = folder
         self.child = subprocess.Popen([*before, program, 'serve', *options], cwd=folder, env=environment(folder), start_new_session=True,
-                                      stdout=subprocess.PIPE, stderr=subprocess.DEVNULL, **other)
+                                      stdout=subprocess.PIPE, stderr=log, **other)
 
     def ready(self, seconds=20):
         """Waits until it answers. Tells whether it does."""

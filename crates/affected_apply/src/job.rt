@@ -1,5 +1,5 @@
 //! Jobs.
-ghost use Rattle.std.specs.Prelude.{◌≡◌, ◌≤◌, ◌<◌, true, length, map, reverse, All, IfOk, OnOk, OnErr};
+ghost use Rattle.std.specs.Prelude.{◌≡◌, ◌≤◌, ◌<◌, ℕ, List, [], ◌∷◌, true, length, map, reverse, All, IfOk, OnOk, OnErr, MatchOption};
 ghost use Rattle.std.specs.Vec.{vec_len, vec_capacity};
 ghost use Rattle.settings_maps.specs.KeyList.{joined};
 ghost use Rattle.outside.specs.Told.{Moves};
@@ -173,6 +173,36 @@ impl Job {
         ensures { result ≡ self.now.work.again }
     {
         self.again
+    }
+
+    /// How many files are left to write. It takes no memory.
+    pub fn files_left(&self) -> usize
+        ensures { result ≡ length self.now.work.files }
+    {
+        self.files.len()
+    }
+
+    /// How many commands are left to run. It takes no memory.
+    pub fn commands_left(&self) -> usize
+        ensures { result ≡ length self.now.work.commands }
+    {
+        self.commands.len()
+    }
+
+    /// The next file to write, if one is left. It takes no memory.
+    pub fn next_file(&self) -> Option<&Text>
+        ensures { MatchOption result (self.now.work.files ≡ [])
+            (λ file. (rest : List (List ℕ)) × (self.now.work.files ≡ file.now ∷ rest)) }
+    {
+        self.files.last()
+    }
+
+    /// The next command to run where no file is left, if there is one. It takes no memory.
+    pub fn next_command(&self) -> Option<&Command>
+        ensures { MatchOption result (self.now.work.commands ≡ [])
+            (λ command. (rest : List (List ℕ × (ℕ × List (List ℕ)))) × (self.now.work.commands ≡ seen command.now ∷ rest)) }
+    {
+        self.commands.last()
     }
 
     /// The keys that were noted. It takes no memory.

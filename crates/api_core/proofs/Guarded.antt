@@ -77,7 +77,8 @@ pub refuses : (c : Core) (q : Request) (r : Refusal) → Comes c q (Some r) → 
 refuses c q r comes effect change next = record {
   by_image = λ I types os manifest templates. record {
     held_is = λ W version. ap (laid c.held) change ∙ ap (λ (n : Next). n.world.held) (sym (comes.to I types os manifest templates W));
-    job_is = λ W version. ap (λ (j : NextJob). job_after j (job_of c.job)) next ∙ ap (λ (n : Next). n.world.job) (sym (comes.to I types os manifest templates W));
+    job_is = λ W version. ap (λ (j : NextJob). job_after j (job_of c.job)) next
+        ∙ ap (λ (n : Next). n.world.job) (sym (comes.to I types os manifest templates W));
     replies = λ W version. ap (λ (n : Next). n.reply) (comes.to I types os manifest templates W);
   };
 }

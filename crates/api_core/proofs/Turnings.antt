@@ -1,16 +1,19 @@
 -- Turns of the job of a core.
-use Rattle.std.proofs.Common.{◌≡◌, inr, Bool, false, ◌||◌, ◌&&◌, ℕ, List, [], Option, Some, None, sym, ◌∙◌, ap, subst}
+use Rattle.std.proofs.Common.{◌≡◌, inl, inr, Bool, true, false, ◌||◌, ◌&&◌, ℕ, List, [], ◌∷◌, Option, Some, None, refl, sym, ◌∙◌, ap, subst, arith}
 use Rattle.outside.specs.History.{History}
 use Rattle.outside.specs.Spawner.{Run}
 use Rattle.outside.proofs.Told.{moves_stay}
-use Rattle.settings_machine.specs.World.{Image, World, is_running}
+use Rattle.settings_tree.specs.declared.held.Held.{Held}
+use Rattle.settings_machine.specs.World.{Image, World, Job, is_running}
+use Rattle.settings_machine.specs.Events.{Turned}
 use Rattle.machine_disk.specs.Kept.{CoreState, Kept}
+use Rattle.machine_disk.specs.Ran.{Ran}
 use Rattle.machine_disk.proofs.Runs.{ran_none}
 use Rattle.store_open.specs.Laws.{HoldsImage}
 use Rattle.version_links.specs.declared.chain.Place.{Place}
 use Rattle.affected_apply.specs.Jobs.{job_of, failed_with_disk}
 use Rattle.affected_apply.specs.Turned as turned
-use Rattle.affected_apply.specs.Turned.{AreTurns, AreEvents, core_at}
+use Rattle.affected_apply.specs.Turned.{AreTurns, AreEvents, IsTurn, core_at}
 use Rattle.affected_apply.specs.declared.store.Store.{Store}
 use Rattle.api_core.specs.Cores.{core_state}
 use Rattle.api_core.specs.Turned.{Turns}
@@ -32,6 +35,21 @@ no_turns c still slice runs h = record {
     };
     image = holds;
   };
+}
+
+-- One turn of a running job is a slice of one.
+pub one_turn : (s : Store) (held : Held) (job : Job) (held_after : Held) (job_left : Job) (ran_before ran_after : Option (List Run)) (old new : History)
+    → is_running job ≡ true → IsTurn s held job held_after job_left ran_before ran_after old new
+    → turned.Turns s (Some 1) held job held_after job_left ran_before ran_after old new
+one_turn s held job held_after job_left ran_before ran_after old new running turn = record {
+  events = λ I good holds folder faulted W V kept.
+      let e = turn.event I good holds folder faulted W V kept in record {
+        events = Turned e.answer ∷ [];
+        form = (omega arith, ap is_running (sym kept.core.job) ∙ running, e.fitting, inl refl);
+        ran = subst (λ (b : Bool). Ran I folder W V (Turned e.answer ∷ []) old new (core_at s held job faulted)
+            (core_at s held_after job_left (faulted || (b && failed_with_disk job_left)))) (sym running) e.ran;
+        runs = e.runs;
+      };
 }
 
 -- Whether a call of the disk has failed after the turns.

@@ -9,7 +9,7 @@ use affected_apply::JobState;
 use settings_tree::Held;
 use store_image::Image;
 use store_open::Opened;
-use version_links::Place;
+use version_links::{Place, Version};
 
 /// An opened store, with a job.
 #[derive(Drop)]
@@ -47,6 +47,13 @@ impl Core {
         ensures { result.now ≡ (core_state self.now).held }
     {
         &self.held
+    }
+
+    /// The version of the store.
+    pub fn version(&self) -> Version
+        ensures { result ≡ (core_state self.now).place.version }
+    {
+        self.place.version
     }
 
     /// The job.

@@ -1,14 +1,14 @@
 //! Turns of the job.
-ghost use Rattle.std.specs.Prelude.{◌≡◌, ◌&&◌, ◌||◌, None, true, false};
+ghost use Rattle.std.specs.Prelude.{◌≡◌, ◌<◌, ◌&&◌, ◌||◌, None, Some, true, false};
 ghost use Rattle.outside.specs.Told.{Moves};
 ghost use Rattle.outside.specs.Faults.{HasCause};
 ghost use Rattle.settings_machine.specs.World.{is_running, KeepsAllButOwed};
-ghost use Rattle.affected_apply.specs.Jobs.{job_of, failed_with_disk, failed_to_spawn, answer_of};
+ghost use Rattle.affected_apply.specs.Jobs.{job_of, left_to_do, failed_with_disk, failed_to_spawn, answer_of};
 ghost use Rattle.api_core.specs.Cores.{IsSound, core_state};
 ghost use Rattle.api_core.specs.Turned.{Turns};
 
 use crate::Core;
-use affected_apply::{Store, turns};
+use affected_apply::{Store, turn, turns};
 use outside::{Disk, Spawner};
 use std::alloc::Global;
 
@@ -49,6 +49,30 @@ impl Core {
             disk,
             spawner,
         );
+    }
+
+    /// One turn of a running job, the next of those that [`turns`](Core::turns) makes.
+    pub fn turn<D: Disk, S: Spawner>(&mut self, alloc: Global, disk: &mut D, spawner: &mut S)
+        requires sound { IsSound self.old }
+        requires running { is_running (core_state self.old).job ≡ true }
+        ensures turns { Moves (D.told disk.old) (D.told disk.new)
+            (Turns self.old (Some 1) self.new (S.runs spawner.old) (S.runs spawner.new)) }
+        ensures sound { IsSound self.new }
+        ensures image { self.new.image ≡ self.old.image }
+        ensures held { KeepsAllButOwed (core_state self.old).held (core_state self.new).held }
+        ensures less { left_to_do self.new.image.manifest (core_state self.new).job < left_to_do self.old.image.manifest (core_state self.old).job }
+        ensures faulted { (core_state self.new).faulted ≡ failed_with_disk (core_state self.new).job }
+        ensures disk_faults { HasCause (D.faults disk.old) (D.faults disk.new)
+            (answer_of (failed_with_disk (core_state self.new).job)) }
+        ensures spawner_faults { HasCause (S.faults spawner.old) (S.faults spawner.new)
+            (answer_of (failed_to_spawn (core_state self.new).job)) }
+        ensures asked { S.asked spawner.new ≡ S.asked spawner.old }
+    {
+        let store = Store {
+            place: &self.place,
+            image: &self.image,
+        };
+        self.faulted = turn(alloc, &store, &mut self.held, &mut self.job, disk, spawner);
     }
 
     /// Turns of the job until so many were made or no job runs; without a number, until no job runs. Each writes the next

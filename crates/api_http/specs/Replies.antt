@@ -47,19 +47,24 @@ is_of_success status = nat_le 200 status && nat_le status 299
 abbrev pub error : List ℕ → List ℕ × Data
 error word = text_entry (codes "error", word)
 
+-- The word for a refusal.
+abbrev pub word_of : Refusal → List ℕ
+word_of HeadTooLong = codes "head-too-long"
+word_of Head = codes "head"
+word_of NoPath = codes "path"
+word_of (Method path) = codes "method"
+word_of Query = codes "query"
+word_of Length = codes "length"
+word_of BodyTooLong = codes "body-too-long"
+word_of Body = codes "body"
+word_of Memory = codes "memory"
+word_of DiskFault = codes "disk"
+word_of (Store place) = codes "store"
+
 -- The names of the body of a refusal, with their texts.
 abbrev pub entries_of : Refusal → List (List ℕ × Data)
-entries_of HeadTooLong = error (codes "head-too-long") ∷ []
-entries_of Head = error (codes "head") ∷ []
-entries_of NoPath = error (codes "path") ∷ []
-entries_of (Method path) = error (codes "method") ∷ []
-entries_of Query = error (codes "query") ∷ []
-entries_of Length = error (codes "length") ∷ []
-entries_of BodyTooLong = error (codes "body-too-long") ∷ []
-entries_of Body = error (codes "body") ∷ []
-entries_of Memory = error (codes "memory") ∷ []
-entries_of DiskFault = error (codes "disk") ∷ []
-entries_of (Store place) = text_entry (codes "at", place) ∷ error (codes "store") ∷ []
+entries_of (Store place) = text_entry (codes "at", place) ∷ error (word_of (Store place)) ∷ []
+entries_of refusal = error (word_of refusal) ∷ []
 
 -- The body of a refusal: a compact JSON object.
 abbrev pub refusal_text : Refusal → List ℕ

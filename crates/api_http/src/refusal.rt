@@ -1,6 +1,6 @@
 //! Why HTTP refuses a request.
 ghost use Rattle.std.specs.Prelude.{◌≡◌, IfOk};
-ghost use Rattle.api_http.specs.Replies.{status_of, refusal_text};
+ghost use Rattle.api_http.specs.Replies.{status_of, word_of, refusal_text};
 
 use crate::refusal_body::refusal_body;
 use key_names::Text;
@@ -69,6 +69,25 @@ impl Refusal {
         ensures { result ≡ (status_of self.now).0 }
     {
         self.status_line().0
+    }
+
+    /// The word for it in the body of its reply. It takes no memory.
+    pub fn word(&self) -> &'static str
+        ensures { result.now ≡ word_of self.now }
+    {
+        match self {
+            Refusal::HeadTooLong => "head-too-long",
+            Refusal::Head => "head",
+            Refusal::NoPath => "path",
+            Refusal::Method { .. } => "method",
+            Refusal::Query => "query",
+            Refusal::Length => "length",
+            Refusal::BodyTooLong => "body-too-long",
+            Refusal::Body => "body",
+            Refusal::Memory => "memory",
+            Refusal::DiskFault => "disk",
+            Refusal::Store { .. } => "store",
+        }
     }
 
     /// The body of its reply: compact JSON (RFC 8259) whose names rise. The only error is out of memory.

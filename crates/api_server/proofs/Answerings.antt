@@ -1,5 +1,5 @@
 -- The request of one connection, from its parts.
-use Rattle.std.proofs.Common.{◌≡◌, ◌≢◌, ◌⊎◌, ℕ, List, [], ◌∷◌, Option, ⊎_elim, refl, ◌∙◌, ap, subst}
+use Rattle.std.proofs.Common.{◌≡◌, ◌≢◌, inl, inr, ℕ, List, [], ◌∷◌, Option, refl, sym, ◌∙◌, ap, subst}
 use Rattle.outside.specs.Exchange.{Exchange}
 use Rattle.outside.specs.Door.{LastBy}
 use Rattle.outside.specs.Faults.{Rose}
@@ -20,11 +20,14 @@ use Rattle.store_open.specs.Laws.{HoldsImage, IsImageOfFolder}
 use Rattle.api_server.specs.Hearing.{IsHeard}
 use Rattle.api_server.specs.Saying.{IsSaid}
 use Rattle.api_server.specs.declared.hearing.Heard.TheVariants as heard
+use Rattle.event_lines.specs.Lines.{refused_line}
+use Rattle.event_lines.specs.Logs.{LogState, Tells}
+use Rattle.event_lines.proofs.Logging.{logs_none, logs_event}
 use Rattle.api_core.specs.Cores.{core_state}
 use Rattle.api_core.specs.declared.serving.Core.{Core}
-use Rattle.api_server.specs.Exchanged.{Said, Nothing, OutOfMemory, Unread, Replied, IsServed}
+use Rattle.api_server.specs.Exchanged.{Said, Nothing, OutOfMemory, Unread, Replied, IsServed, why}
 use Rattle.api_server.specs.Rounds.{AsksFor}
-use Rattle.api_server.specs.Answered.{AnsweredBy, Answers}
+use Rattle.api_server.specs.Answered.{IsTold, AnsweredBy, Answers}
 use Rattle.api_server.specs.Handled.{sent_of, Fits}
 use Rattle.api_server.specs.declared.handled.Handled.{Handled}
 use Rattle.api_server.specs.declared.handled.Handled.TheVariants as came
@@ -44,14 +47,14 @@ same_reply : (p q : Request) (r s : Reply) → Replied p r ≡ Replied q s → r
 same_reply p q r s e = cc
 
 -- Where disk and core stay.
-module _ (c : Core) (n : ℕ) (told told_after : Option (List Exchange)) (h : History) where
+module _ (c : Core) (n : ℕ) (told told_after : Option (List Exchange)) (log : LogState) (h : History) where
   -- No event is made.
   quiet : (said : Said) → ((q : Request) → said ≢ Replied q DiskFault) → ((I : Image) (W : World) → AsksFor I (core_state c).faulted W said [])
       → Moves told told_after (LastBy (IsServed said))
-      → Answers c c n n told told_after h h
+      → Answers c c n n told told_after log log h h
   quiet said well none served = record { each = by } where
     by : (I : Image) → IsGood I → HoldsImage I c.image → (folder : Folder) → IsImageOfFolder I folder → (W V : World) → Kept I folder W V h (core_state c)
-        → AnsweredBy I folder W V c c n n told told_after h h
+        → AnsweredBy I folder W V c c n n told told_after log log h h
     by I good of folder made W V kept = record {
       said = said;
       asked = [];
@@ -59,64 +62,71 @@ module _ (c : Core) (n : ℕ) (told told_after : Option (List Exchange)) (h : Hi
       served = served;
       cause = λ q is. absurd (well q is);
       made = ran_none I folder W V h (core_state c) kept;
+      logged = logs_none I W log;
       image = of;
     }
 
-  -- The request was refused in reading.
-  unread : (r : Refusal) → Moves told told_after (LastBy (IsServed (Unread r))) → Answers c c n n told told_after h h
-  unread r served = record { each = by } where
+  -- The request was refused in reading, and that is logged.
+  unread : (r : Refusal) (log_after : LogState) → Tells (refused_line (why r)) log log_after → Moves told told_after (LastBy (IsServed (Unread r)))
+      → Answers c c n n told told_after log log_after h h
+  unread r log_after tells served = record { each = by } where
     by : (I : Image) → IsGood I → HoldsImage I c.image → (folder : Folder) → IsImageOfFolder I folder → (W V : World) → Kept I folder W V h (core_state c)
-        → AnsweredBy I folder W V c c n n told told_after h h
+        → AnsweredBy I folder W V c c n n told told_after log log_after h h
     by I good of folder made W V kept = record {
       said = Unread r;
-      asked = events.Unread ∷ [];
+      asked = events.Unread (why r) ∷ [];
       asks = refl;
       served = served;
       cause = λ q is. absurd (unread_well r q is);
-      made = ran_unread I folder W V h (core_state c) kept;
+      made = ran_unread I (why r) folder W V h (core_state c) kept;
+      logged = logs_event I W (events.Unread (why r)) log log_after tells;
       image = of;
     }
 
 -- Nothing was asked.
-pub answered_nothing : (c : Core) (n : ℕ) (told told_after : Option (List Exchange)) (h : History) → Moves told told_after (LastBy (IsHeard heard.Ended))
-    → Answers c c n n told told_after h h
-answered_nothing c n told told_after h m = quiet c n told told_after h Nothing nothing_well (λ I W. refl) (served_nothing told told_after m)
+pub answered_nothing : (c : Core) (n : ℕ) (told told_after : Option (List Exchange)) (log : LogState) (h : History)
+    → Moves told told_after (LastBy (IsHeard heard.Ended)) → Answers c c n n told told_after log log h h
+answered_nothing c n told told_after log h m = quiet c n told told_after log h Nothing nothing_well (λ I W. refl) (served_nothing told told_after m)
 
 -- There was no memory to read it.
-pub answered_memory : (c : Core) (n : ℕ) (sent : Sent) (text : List ℕ) (told mid told_after : Option (List Exchange)) (h : History) → text ≡ sent.bytes
-    → sent ≡ refused refusal.Memory
-    → Moves told mid (LastBy (IsHeard heard.Memory)) → Moves mid told_after (LastBy (IsSaid text)) → Answers c c n n told told_after h h
-answered_memory c n sent text told mid told_after h is memory m o = quiet c n told told_after h OutOfMemory memory_well (λ I W. refl)
+pub answered_memory : (c : Core) (n : ℕ) (sent : Sent) (text : List ℕ) (told mid told_after : Option (List Exchange)) (log : LogState) (h : History)
+    → text ≡ sent.bytes → sent ≡ refused refusal.Memory → Moves told mid (LastBy (IsHeard heard.Memory)) → Moves mid told_after (LastBy (IsSaid text))
+    → Answers c c n n told told_after log log h h
+answered_memory c n sent text told mid told_after log h is memory m o = quiet c n told told_after log h OutOfMemory memory_well (λ I W. refl)
     (served_memory text (is ∙ ap (λ (s : Sent). s.bytes) memory) told mid told_after m o)
 
--- It was refused in reading, and its reply was printed or there was no memory for it.
-pub answered_refusal : (c : Core) (n : ℕ) (r : Refusal) (sent : Sent) (text : List ℕ) (told mid told_after : Option (List Exchange)) (h : History)
-    → text ≡ sent.bytes
-    → (sent ≡ refused r) ⊎ (sent ≡ refused refusal.Memory) → Moves told mid (LastBy (IsHeard (heard.Refused r))) → Moves mid told_after (LastBy (IsSaid text))
-    → Answers c c n n told told_after h h
-answered_refusal c n r sent text told mid told_after h is printed m o = ⊎_elim
-    (λ whole. unread c n told told_after h r (served_unread r text (is ∙ ap (λ (s : Sent). s.bytes) whole) told mid told_after m o))
-    (λ memory. quiet c n told told_after h OutOfMemory memory_well (λ I W. refl)
-    (served_unprinted r text (is ∙ ap (λ (s : Sent). s.bytes) memory) told mid told_after m o))
-    printed
+-- It was refused in reading, and its reply was printed and logged, or there was no memory for it.
+pub answered_refusal : (c : Core) (n : ℕ) (r : Refusal) (sent : Sent) (text : List ℕ) (told mid told_after : Option (List Exchange))
+    (log log_after : LogState) (h : History) → text ≡ sent.bytes → IsTold r sent log log_after → Moves told mid (LastBy (IsHeard (heard.Refused r)))
+    → Moves mid told_after (LastBy (IsSaid text)) → Answers c c n n told told_after log log_after h h
+answered_refusal c n r sent text told mid told_after log log_after h is (inl whole) m o =
+    unread c n told told_after log h r log_after whole.1 (served_unread r text (is ∙ ap (λ (s : Sent). s.bytes) whole.0) told mid told_after m o)
+answered_refusal c n r sent text told mid told_after log log_after h is (inr memory) m o =
+    subst (λ (l : LogState). Answers c c n n told told_after log l h h) (sym memory.1)
+    (quiet c n told told_after log h OutOfMemory memory_well (λ I W. refl)
+    (served_unprinted r text (is ∙ ap (λ (s : Sent). s.bytes) memory.0) told mid told_after m o))
 
 -- It was asked and handled, and then its reply was written.
 pub answered_ask : (c now : Core) (faults faults_after : ℕ) (ask : asked.Request) (handled : Handled) (text : List ℕ)
-    (told mid told_after : Option (List Exchange)) (old new : History)
+    (told mid told_after : Option (List Exchange)) (log log_after : LogState) (old new : History)
     → text ≡ (sent_of handled).bytes → (handled ≡ came.DiskFault → Rose faults faults_after) → Moves told mid (LastBy (IsHeard (heard.Asked ask)))
     → Moves mid told_after (LastBy (IsSaid text))
-    → HandlesFor c (request_of ask) handled now old new → Answers c now faults faults_after told told_after old new
-answered_ask c now faults faults_after ask handled text told mid told_after old new is cause m n handles = record { each = by } where
+    → HandlesFor c (request_of ask) handled now log log_after old new → Answers c now faults faults_after told told_after log log_after old new
+answered_ask c now faults faults_after ask handled text told mid told_after log log_after old new is cause m n handles = record { each = by } where
   by : (I : Image) → IsGood I → HoldsImage I c.image → (folder : Folder) → IsImageOfFolder I folder → (W V : World) → Kept I folder W V old (core_state c)
-      → AnsweredBy I folder W V c now faults faults_after told told_after old new
+      → AnsweredBy I folder W V c now faults faults_after told told_after log log_after old new
   by I good of folder made W V kept =
       let done = handles.handles.each I good of folder (λ _ _. made) W V kept in
       record {
         said = Replied (request_of ask) done.replied;
         asked = done.events;
-        asks = record { handled = done.handled_by; opens = opened_again c (request_of ask) handled now old new handles I good of folder made W V kept done };
+        asks = record {
+          handled = done.handled_by;
+          opens = opened_again c (request_of ask) handled now log log_after old new handles I good of folder made W V kept done;
+        };
         served = served_replied ask done.replied (sent_of handled) text is done.says told mid told_after m n;
         cause = λ q e. cause (subst (λ (r : Reply). Fits r handled) (same_reply (request_of ask) q done.replied DiskFault e) done.fits);
         made = done.made;
+        logged = done.logged;
         image = done.image;
       }

@@ -4,12 +4,11 @@ use Rattle.std.proofs.lemmas.List.{append-nil}
 use Rattle.outside.specs.Exchange.{Exchange, fresh}
 use Rattle.outside.specs.declared.disk_error.Failed.{Failed}
 use Rattle.outside.specs.Door.{DoorState, LastBy, Accepts, Opens}
-use Rattle.outside.specs.Faults.{HasCause}
 use Rattle.outside.specs.History.{History}
 use Rattle.outside.specs.Spawner.{Run}
 use Rattle.outside.specs.Told.{Moves}
 use Rattle.outside.proofs.Told.{moves_stay, moves_then, moves_map}
-use Rattle.settings_machine.specs.World.{Image, World, is_running}
+use Rattle.settings_machine.specs.World.{Image, World}
 use Rattle.settings_machine.specs.Events.{Event, after, faulted_after}
 use Rattle.settings_machine.specs.Paid.{IsGood}
 use Rattle.settings_machine.proofs.Sequences.{after-append, faulted-append}
@@ -17,18 +16,19 @@ use Rattle.machine_disk.specs.Kept.{Folder, Kept}
 use Rattle.machine_disk.specs.Ran.{Ran, RunsBy}
 use Rattle.machine_disk.proofs.Runs.{ran_none, ran_more}
 use Rattle.store_open.specs.Laws.{HoldsImage, IsImageOfFolder}
-use Rattle.affected_apply.specs.Jobs.{failed_with_disk, failed_to_spawn, answer_of}
 use Rattle.affected_apply.specs.Turned.{AreTurns}
+use Rattle.event_lines.specs.Logs.{LogState, Logs}
+use Rattle.event_lines.proofs.Logging.{logs_none, logs_then}
 use Rattle.api_core.specs.Cores.{core_state}
-use Rattle.api_core.specs.Turned.{Turns}
 use Rattle.api_core.specs.declared.serving.Core.{Core}
 use Rattle.api_server.specs.Causes.{FaultCounts, fault_counts, AreCounted}
 use Rattle.api_server.specs.declared.pace.Pace.{Pace}
 use Rattle.api_server.specs.Exchanged.{Said, IsServed, IsExchanged}
 use Rattle.api_server.specs.Rounds.{AsksFor, AreIdle, Round, IsRound, AreRounds, AreExchanged, events_of_round, events_of}
+use Rattle.api_server.specs.Turning.{Turns}
 use Rattle.api_server.specs.Answered.{Answers, ConnectionBy, ServesOne, Idles, RoundsBy, ServesAll}
 use Rattle.api_server.proofs.Counted.{counted_none, counted_then, asked_counted}
-use Rattle.api_server.proofs.Slices.{core_counted, idle_none, idle_then}
+use Rattle.api_server.proofs.Slices.{idle_none, idle_then}
 use Rattle.api_server.proofs.Requested.{asks_runs}
 use Rattle.api_server.proofs.Lasts.{head_same, tail_same}
 
@@ -52,33 +52,33 @@ runs_none I W a = moves_stay (λ r is. is)
 
 -- Its request, and then a slice of turns.
 pub one_connection : (slice : Option ℕ) (c mid now : Core) (d d_mid d' s s' : ℕ) (told told_after : Option (List Exchange))
-    (ran_before ran_after : Option (List Run))
-    (old between new : History) → Answers c mid d d_mid told told_after old between → d ≤ d_mid
-    → HasCause d_mid d' (answer_of (is_running (core_state mid).job && failed_with_disk (core_state now).job))
-    → HasCause s s' (answer_of (is_running (core_state mid).job && failed_to_spawn (core_state now).job)) → Turns mid slice now ran_before ran_after between new
-    → ServesOne slice c now (fault_counts d s) (fault_counts d' s') told told_after ran_before ran_after old new
-one_connection slice c mid now d d_mid d' s s' told told_after ran_before ran_after old between new answers later disk spawner turns =
+    (ran_before ran_after : Option (List Run)) (log log_mid log_after : LogState) (old between new : History)
+    → Answers c mid d d_mid told told_after log log_mid old between → d ≤ d_mid → d_mid ≤ d'
+    → Turns slice mid now (fault_counts d_mid s) (fault_counts d' s') ran_before ran_after log_mid log_after between new
+    → ServesOne slice c now (fault_counts d s) (fault_counts d' s') told told_after ran_before ran_after log log_after old new
+one_connection slice c mid now d d_mid d' s s' told told_after ran_before ran_after log log_mid log_after old between new answers later later_still turns =
     record { each = by } where
       by : (I : Image) → IsGood I → HoldsImage I c.image → (folder : Folder) → IsImageOfFolder I folder → (W V : World) → Kept I folder W V old (core_state c)
-          → ConnectionBy I folder W V slice c now (fault_counts d s) (fault_counts d' s') told told_after ran_before ran_after old new
+          → ConnectionBy I folder W V slice c now (fault_counts d s) (fault_counts d' s') told told_after ran_before ran_after log log_after old new
       by I good of folder made W V kept =
           let one = answers.each I good of folder made W V kept in
           let X = after I W one.asked in
           let two = turns.each I good one.image folder X one.made.other one.made.kept in
+          let turned = two.made.turns in
           record {
             said = one.said;
             asked = one.asked;
-            turned = two.turns.events;
+            turned = turned.events;
             asks = one.asks;
-            turns = two.turns.form;
+            turns = turned.form;
             served = one.served;
-            cause = λ q is. omega (arith, one.cause q is, disk.later);
-            counted = counted_then one.asked two.turns.events (fault_counts d s) (fault_counts d_mid s) (fault_counts d' s')
-                (asked_counted I W c.faulted one.said one.asked one.asks d d_mid s s later (omega arith) one.cause)
-                (core_counted I folder X one.made.other slice mid now ran_before ran_after between new one.made.kept two d_mid d' s s' disk spawner);
-            made = ran_more I folder W V one.asked two.turns.events old between new (core_state c) (core_state mid) (core_state now) one.made two.turns.ran;
-            runs = runs_after I W one.asked two.turns.events ran_before ran_after (asks_runs I c.faulted W one.said one.asked one.asks) two.turns.runs;
-            image = two.image;
+            cause = λ q is. omega (arith, one.cause q is, later_still);
+            counted = counted_then one.asked turned.events (fault_counts d s) (fault_counts d_mid s) (fault_counts d' s')
+                (asked_counted I W c.faulted one.said one.asked one.asks d d_mid s s later (omega arith) one.cause) two.counted;
+            made = ran_more I folder W V one.asked turned.events old between new (core_state c) (core_state mid) (core_state now) one.made turned.ran;
+            logged = logs_then I W one.asked turned.events log log_mid log_after one.logged two.logged;
+            runs = runs_after I W one.asked turned.events ran_before ran_after (asks_runs I c.faulted W one.said one.asked one.asks) turned.runs;
+            image = two.made.image;
           }
 
 -- ---- one more connection
@@ -145,11 +145,11 @@ pub one_accepted : (came : Bool) → came ≡ true → (old new : DoorState) →
 one_accepted came is old new accepts = subst (λ (b : Bool). Accepts {E = Failed} (Ok b) old new) is accepts
 
 -- Before the first connection.
-pub rounds_none : (pace : Pace) (c : Core) (d s : ℕ) (told : Option (List Exchange)) (ran : Option (List Run)) (h : History)
-    → ServesAll pace c c (fault_counts d s) (fault_counts d s) told told ran ran h h
-rounds_none pace c d s told ran h = record { each = by } where
+pub rounds_none : (pace : Pace) (c : Core) (d s : ℕ) (told : Option (List Exchange)) (ran : Option (List Run)) (log : LogState) (h : History)
+    → ServesAll pace c c (fault_counts d s) (fault_counts d s) told told ran ran log log h h
+rounds_none pace c d s told ran log h = record { each = by } where
   by : (I : Image) → IsGood I → HoldsImage I c.image → (folder : Folder) → IsImageOfFolder I folder → (W V : World) → Kept I folder W V h (core_state c)
-      → RoundsBy I folder W V pace c c (fault_counts d s) (fault_counts d s) told told ran ran h h
+      → RoundsBy I folder W V pace c c (fault_counts d s) (fault_counts d s) told told ran ran log log h h
   by I good of folder made W V kept = record {
     rounds = [];
     idle = [];
@@ -158,49 +158,52 @@ rounds_none pace c d s told ran h = record { each = by } where
     exchanged = moves_stay (λ l. refl);
     counted = counted_none d d s s (omega arith) (omega arith);
     made = ran_none I folder W V h (core_state c) kept;
+    logged = logs_none I W log;
     runs = runs_none I W ran;
     image = of;
   }
 
 -- Turns while no further client is there.
 pub rounds_idle : (pace : Pace) (c mid now : Core) (counts counts_mid counts_after : FaultCounts) (told told_after : Option (List Exchange))
-    (ran_before ran_mid ran_after : Option (List Run)) (old between new : History)
-    → ServesAll pace c mid counts counts_mid told told_after ran_before ran_mid old between
-    → Idles pace.while_idle mid now counts_mid counts_after ran_mid ran_after between new
-    → ServesAll pace c now counts counts_after told told_after ran_before ran_after old new
-rounds_idle pace c mid now counts counts_mid counts_after told told_after ran_before ran_mid ran_after old between new all idles = record { each = by } where
-  by : (I : Image) → IsGood I → HoldsImage I c.image → (folder : Folder) → IsImageOfFolder I folder → (W V : World) → Kept I folder W V old (core_state c)
-      → RoundsBy I folder W V pace c now counts counts_after told told_after ran_before ran_after old new
-  by I good of folder made W V kept =
-      let was = all.each I good of folder made W V kept in
-      let first = events_of was.rounds in
-      let es = first ++ was.idle in
-      let next = idles.each I good was.image folder made (after I W es) was.made.other was.made.kept in
-      let same = append_assoc first was.idle next.events in
-      record {
-        rounds = was.rounds;
-        idle = was.idle ++ next.events;
-        are = was.are;
-        idles = idle_then pace.while_idle I (after I W first) was.idle next.events was.idles
-            (subst (λ (X : World). AreIdle pace.while_idle I X next.events) (after-append I W first was.idle) next.are);
-        exchanged = was.exchanged;
-        counted = subst (λ (l : List Event). AreCounted l counts counts_after) same
-            (counted_then es next.events counts counts_mid counts_after was.counted next.counted);
-        made = subst (λ (l : List Event). Ran I folder W V l old new (core_state c) (core_state now)) same
-            (ran_more I folder W V es next.events old between new (core_state c) (core_state mid) (core_state now) was.made next.made);
-        runs = subst (λ (l : List Event). RunsBy I W l ran_before ran_after) same
-            (runs_more I W es next.events ran_before ran_mid ran_after was.runs next.runs);
-        image = next.image;
-      }
+    (ran_before ran_mid ran_after : Option (List Run)) (log log_mid log_after : LogState) (old between new : History)
+    → ServesAll pace c mid counts counts_mid told told_after ran_before ran_mid log log_mid old between
+    → Idles pace.while_idle mid now counts_mid counts_after ran_mid ran_after log_mid log_after between new
+    → ServesAll pace c now counts counts_after told told_after ran_before ran_after log log_after old new
+rounds_idle pace c mid now counts counts_mid counts_after told told_after ran_before ran_mid ran_after log log_mid log_after old between new all idles =
+    record { each = by } where
+      by : (I : Image) → IsGood I → HoldsImage I c.image → (folder : Folder) → IsImageOfFolder I folder → (W V : World) → Kept I folder W V old (core_state c)
+          → RoundsBy I folder W V pace c now counts counts_after told told_after ran_before ran_after log log_after old new
+      by I good of folder made W V kept =
+          let was = all.each I good of folder made W V kept in
+          let first = events_of was.rounds in
+          let es = first ++ was.idle in
+          let next = idles.each I good was.image folder made (after I W es) was.made.other was.made.kept in
+          let same = append_assoc first was.idle next.events in
+          record {
+            rounds = was.rounds;
+            idle = was.idle ++ next.events;
+            are = was.are;
+            idles = idle_then pace.while_idle I (after I W first) was.idle next.events was.idles
+                (subst (λ (X : World). AreIdle pace.while_idle I X next.events) (after-append I W first was.idle) next.are);
+            exchanged = was.exchanged;
+            counted = subst (λ (l : List Event). AreCounted l counts counts_after) same
+                (counted_then es next.events counts counts_mid counts_after was.counted next.counted);
+            made = subst (λ (l : List Event). Ran I folder W V l old new (core_state c) (core_state now)) same
+                (ran_more I folder W V es next.events old between new (core_state c) (core_state mid) (core_state now) was.made next.made);
+            logged = subst (λ (l : List Event). Logs I W l log log_after) same (logs_then I W es next.events log log_mid log_after was.logged next.logged);
+            runs = subst (λ (l : List Event). RunsBy I W l ran_before ran_after) same
+                (runs_more I W es next.events ran_before ran_mid ran_after was.runs next.runs);
+            image = next.image;
+          }
 
 -- No further connection came, for none is left or the accept failed.
 pub rounds_closed : (pace : Pace) (c now : Core) (counts counts_after : FaultCounts) (told told_mid told_after : Option (List Exchange))
-    (ran_before ran_after : Option (List Run)) (old new : History) → Moves told_mid told_after (λ first last. last ≡ first)
-    → ServesAll pace c now counts counts_after told told_mid ran_before ran_after old new
-    → ServesAll pace c now counts counts_after told told_after ran_before ran_after old new
-rounds_closed pace c now counts counts_after told told_mid told_after ran_before ran_after old new closed all = record { each = by } where
+    (ran_before ran_after : Option (List Run)) (log log_after : LogState) (old new : History) → Moves told_mid told_after (λ first last. last ≡ first)
+    → ServesAll pace c now counts counts_after told told_mid ran_before ran_after log log_after old new
+    → ServesAll pace c now counts counts_after told told_after ran_before ran_after log log_after old new
+rounds_closed pace c now counts counts_after told told_mid told_after ran_before ran_after log log_after old new closed all = record { each = by } where
   by : (I : Image) → IsGood I → HoldsImage I c.image → (folder : Folder) → IsImageOfFolder I folder → (W V : World) → Kept I folder W V old (core_state c)
-      → RoundsBy I folder W V pace c now counts counts_after told told_after ran_before ran_after old new
+      → RoundsBy I folder W V pace c now counts counts_after told told_after ran_before ran_after log log_after old new
   by I good of folder made W V kept =
       let was = all.each I good of folder made W V kept in
       record {
@@ -211,6 +214,7 @@ rounds_closed pace c now counts counts_after told told_mid told_after ran_before
         exchanged = moves_then (λ first mid last are same. subst (AreExchanged was.rounds first) (sym same) are) was.exchanged closed;
         counted = was.counted;
         made = was.made;
+        logged = was.logged;
         runs = was.runs;
         image = was.image;
       }
@@ -223,15 +227,16 @@ none_opened came is a b m = subst (λ (x : Bool). Moves a b (Opens {E = Failed} 
 -- One connection more, from its accept on.
 pub rounds_more : (came : Bool) → came ≡ true
     → (pace : Pace) (c mid now : Core) (counts counts_mid counts_after : FaultCounts)
-    (told told_mid told_opened told_after : Option (List Exchange)) (ran_before ran_mid ran_after : Option (List Run)) (old between new : History)
-    → Moves told_mid told_opened (Opens {E = Failed} (Ok came)) → ServesAll pace c mid counts counts_mid told told_mid ran_before ran_mid old between
-    → ServesOne pace.slice mid now counts_mid counts_after told_opened told_after ran_mid ran_after between new
-    → ServesAll pace c now counts counts_after told told_after ran_before ran_after old new
-rounds_more came is pace c mid now counts counts_mid counts_after told told_mid told_opened told_after ran_before ran_mid ran_after old between new opens all
-    one =
+    (told told_mid told_opened told_after : Option (List Exchange)) (ran_before ran_mid ran_after : Option (List Run)) (log log_mid log_after : LogState)
+    (old between new : History)
+    → Moves told_mid told_opened (Opens {E = Failed} (Ok came)) → ServesAll pace c mid counts counts_mid told told_mid ran_before ran_mid log log_mid old between
+    → ServesOne pace.slice mid now counts_mid counts_after told_opened told_after ran_mid ran_after log_mid log_after between new
+    → ServesAll pace c now counts counts_after told told_after ran_before ran_after log log_after old new
+rounds_more came is pace c mid now counts counts_mid counts_after told told_mid told_opened told_after ran_before ran_mid ran_after log log_mid log_after old
+    between new opens all one =
     record { each = by } where
       by : (I : Image) → IsGood I → HoldsImage I c.image → (folder : Folder) → IsImageOfFolder I folder → (W V : World) → Kept I folder W V old (core_state c)
-          → RoundsBy I folder W V pace c now counts counts_after told told_after ran_before ran_after old new
+          → RoundsBy I folder W V pace c now counts counts_after told told_after ran_before ran_after log log_after old new
       by I good of folder made W V kept =
           let was = all.each I good of folder made W V kept in
           let es = events_of was.rounds ++ was.idle in
@@ -253,6 +258,7 @@ rounds_more came is pace c mid now counts counts_mid counts_after told told_mid 
                 (counted_then es fs counts counts_mid counts_after was.counted next.counted);
             made = subst (λ (l : List Event). Ran I folder W V l old new (core_state c) (core_state now)) same
                 (ran_more I folder W V es fs old between new (core_state c) (core_state mid) (core_state now) was.made next.made);
+            logged = subst (λ (l : List Event). Logs I W l log log_after) same (logs_then I W es fs log log_mid log_after was.logged next.logged);
             runs = subst (λ (l : List Event). RunsBy I W l ran_before ran_after) same
                 (runs_more I W es fs ran_before ran_mid ran_after was.runs next.runs);
             image = next.image;

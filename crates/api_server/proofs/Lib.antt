@@ -5,6 +5,7 @@ pub mod Replied
 pub mod Conversations
 pub mod Answerings
 pub mod Followed
+pub mod Turnings
 pub mod Idled
 pub mod Servings
 pub mod Lasts
@@ -14,5 +15,6 @@ pub mod Waitings
 pub mod Hearings
 pub mod Handlings
 pub mod Verified
+pub mod Loggings
 pub mod Reopenings
 pub mod Refusing

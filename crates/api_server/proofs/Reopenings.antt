@@ -1,5 +1,5 @@
 -- A request that comes after a failed call of the disk.
-use Rattle.std.proofs.Common.{arith, ◌≡◌, ℕ, inl, inr, Bool, true, false, List, [], ◌∷◌, Ok, Err, refl, sym, ◌∙◌, ap, subst}
+use Rattle.std.proofs.Common.{arith, ◌≡◌, ◌++◌, ℕ, inl, inr, Bool, true, false, List, [], ◌∷◌, Ok, Err, refl, sym, ◌∙◌, ap, subst}
 use Rattle.outside.specs.History.{History}
 use Rattle.outside.specs.Since.{EachSince}
 use Rattle.outside.proofs.Since.{since_map}
@@ -8,7 +8,7 @@ use Rattle.settings_machine.specs.declared.cause.Cause.TheVariants as cause
 use Rattle.settings_machine.specs.World as machine
 use Rattle.settings_machine.specs.World.{Key, Image, World, Job, is_running}
 use Rattle.settings_machine.specs.Opening.{added_keys}
-use Rattle.settings_machine.specs.Requests.{Request, DiskFault, NoMemory, NotOpened}
+use Rattle.settings_machine.specs.Requests.{Request, DiskFault, NoMemory, NotOpened, status}
 use Rattle.settings_machine.specs.Step.{Outcome, Answered, WithoutMemory, Unopened, Faulted, failing, noting, request_next, opened}
 use Rattle.settings_machine.specs.Events.{Succeeded, Failing, Opened, Asked, next, after}
 use Rattle.settings_machine.specs.Paid.{IsFit, IsGood}
@@ -29,12 +29,16 @@ use Rattle.store_open.specs.declared.opened.Opened as store
 use Rattle.store_open.proofs.MachineRuns.{openings_run, refusals_keep}
 use Rattle.api_http.specs.Replies.{refused}
 use Rattle.api_http.specs.declared.refusal.Refusal.TheVariants as refusal
+use Rattle.event_lines.specs.Lines.{opened_line, request_line, job_lines, changes, is_of_success}
+use Rattle.event_lines.specs.Logs.{LogState, Logs, Tells}
+use Rattle.event_lines.proofs.Logging.{logs_then, logs_silent}
 use Rattle.api_core.specs.Cores.{core_state}
 use Rattle.api_core.specs.Reopened.{HoldsOpened, HoldsStill}
-use Rattle.api_server.specs.Handled.{fault_of, TellsFault, GivesUp, IsNotOpened, IsHandled, Handles, IsOtherStore, IsEvent, Answers}
+use Rattle.api_server.specs.Handled.{sent_of, fault_of, TellsFault, GivesUp, IsNotOpened, IsHandled, Handles, IsOtherStore, IsEvent, Answers}
 use Rattle.api_server.specs.declared.handled.Handled.{Handled}
 use Rattle.api_server.specs.declared.handled.Handled.TheVariants as came
 use Rattle.api_core.specs.declared.serving.Core.{Core}
+use Rattle.api_server.proofs.Loggings.{TellsGivenUp, asked_logged, opening_logged, unanswered_logged}
 
 -- A job that doesn't run notes nothing, and doesn't fail.
 noting_still : (j : Job) (keys : List Key) → is_running j ≡ false → noting j keys ≡ j
@@ -54,10 +58,15 @@ reopens_succeeded WithoutMemory r = (Succeeded, refl)
 reopens_succeeded (Unopened at) r = absurd r
 reopens_succeeded (Faulted taken) r = (Succeeded, refl, inl refl)
 
+-- What was told of a request that this was sent for.
+abbrev pub TellsOf : Core → Request → Handled → Core → LogState → LogState → Type 0
+TellsOf c q sent now log log_after =
+    Tells (request_line q (changes (core_state c).held q) (sent_of sent).status ++ job_lines (is_running (core_state c).job) (core_state now).job) log log_after
+
 -- Where no call of the disk has failed.
-pub calm_handles : (c now : Core) (q : Request) (sent : Handled) (old new : History) → c.faulted ≡ false → now.image ≡ c.image → Answers c q sent now old new
-    → Handles c q sent now old new
-calm_handles c now q sent old new calm image answers = record {
+pub calm_handles : (c now : Core) (q : Request) (sent : Handled) (log log_after : LogState) (old new : History) → c.faulted ≡ false → now.image ≡ c.image
+    → TellsOf c q sent now log log_after → Answers c q sent now old new → Handles c q sent now log log_after old new
+calm_handles c now q sent log log_after old new calm image tells answers = record {
   each = λ I good holds folder still W V kept.
       let e : IsEvent I folder W V q sent old new (core_state c) (core_state now) = answers.event I good holds folder W V kept in record {
         events = Asked q e.outcome ∷ [];
@@ -73,6 +82,7 @@ calm_handles c now q sent old new calm image answers = record {
           replied = refl;
         };
         made = e.ran;
+        logged = asked_logged I folder W V q sent c now log log_after old new calm kept e tells;
         image = subst (HoldsImage I) (sym image) holds;
       };
 }
@@ -91,12 +101,15 @@ module _ (c : Core) (q : Request) (faulted : c.faulted ≡ true) where
   idle_at I folder W V old kept = ap is_running (sym kept.core.job) ∙ kept.core.still faulted
 
   -- The store was opened again, and then the request was answered.
-  pub opened_handles : (mid_core now : Core) (sent : Handled) (old mid new : History) → HoldsOpened c mid_core old mid → now.image ≡ mid_core.image
-      → (IsNotOpened sent → ⊥) → Answers mid_core q sent now mid new → Handles c q sent now old new
-  opened_handles mid_core now sent old mid new again same not_store answers = record {
+  pub opened_handles : (mid_core now : Core) (sent : Handled) (log log_mid log_after : LogState) (old mid new : History) → HoldsOpened c mid_core old mid
+      → now.image ≡ mid_core.image → (IsNotOpened sent → ⊥)
+      → Tells (opened_line (core_state mid_core).place.version (core_state mid_core).held.owed) log log_mid → TellsOf mid_core q sent now log_mid log_after
+      → Answers mid_core q sent now mid new → Handles c q sent now log log_after old new
+  opened_handles mid_core now sent log log_mid log_after old mid new again same not_store tells_opening tells answers = record {
     each = λ I good held_image folder still W V kept.
         let s : store.Opened = again.store in
         let state : core_state mid_core ≡ record (core_state c) { place = s.place; held = s.held; faulted = false } = again.state in
+        let calm : mid_core.faulted ≡ false = ap (λ (x : CoreState). x.faulted) state in
         let idle = idle_at I folder W V old kept in
         let o = openings_run I good folder (still faulted not_store) W V false (Ok s) old mid kept.disk idle again.opens in
         let one : Ran I folder W V (Opened false Succeeded ∷ []) old mid (core_state c) (core_state mid_core) =
@@ -119,6 +132,9 @@ module _ (c : Core) (q : Request) (faulted : c.faulted ≡ true) where
           };
           made = ran_more I folder W V (Opened false Succeeded ∷ []) (Asked q e.outcome ∷ []) old mid new (core_state c) (core_state mid_core) (core_state now)
               one e.ran;
+          logged = logs_then I W (Opened false Succeeded ∷ []) (Asked q e.outcome ∷ []) log log_mid log_after
+              (opening_logged I folder W one.other mid_core log log_mid mid calm one.kept tells_opening)
+              (asked_logged I folder (after I W (Opened false Succeeded ∷ [])) one.other q sent mid_core now log_mid log_after mid new calm one.kept e tells);
           image = subst (HoldsImage I) (sym same) holds;
         };
   }
@@ -162,9 +178,19 @@ module _ (c : Core) (q : Request) (faulted : c.faulted ≡ true) where
         ran_unsaid I folder X not_opened.other new (core_state c) not_opened.kept (Asked q WithoutMemory) (core_state c)
         (record { version = refl; format = refl; held = refl; etc = refl }) fit_one job_one refl refl refl refl refl (λ f. kept.core.still f)
 
-    failed_handled : IsHandled I folder W V q came.DiskFault c c old new
+    -- It was told with this status, which is none of success: so no keys are.
+    given_up_logged : (o : Outcome) (number : ℕ) → is_of_success number ≡ false → number ≡ status (request_next I X q o).reply
+        → (request_next I X q o).world.job ≡ X.job → (log log_after : LogState)
+        → Tells (request_line q [] number ++ job_lines false (core_state c).job) log log_after
+        → Logs I W (Opened false (Failing n.taken) ∷ Asked q o ∷ []) log log_after
+    given_up_logged o number unsuccessful number_is job log log_after tells =
+        logs_then I W (Opened false (Failing n.taken) ∷ []) (Asked q o ∷ []) log log log_after
+        (logs_silent I W (Opened false (Failing n.taken)) log refl)
+        (unanswered_logged I X q o number (core_state c).job idle_one job_one unsuccessful number_is job log log_after tells)
+
+    failed_handled : (log log_after : LogState) → TellsGivenUp c q came.DiskFault log log_after → IsHandled I folder W V q came.DiskFault c c log log_after old new
     unfolding request_next
-    failed_handled = record {
+    failed_handled log log_after tells = record {
       events = Opened false (Failing n.taken) ∷ Asked q (Faulted false) ∷ [];
       replied = DiskFault;
       says = refl;
@@ -178,12 +204,13 @@ module _ (c : Core) (q : Request) (faulted : c.faulted ≡ true) where
       };
       made = ran_more I folder W V (Opened false (Failing n.taken) ∷ []) (Asked q (Faulted false) ∷ []) old new new (core_state c) (core_state c) (core_state c)
           not_opened faulted_after_it;
+      logged = given_up_logged (Faulted false) 500 refl refl (failing_still X.job cause.Disk idle_one) log log_after tells;
       image = holds;
     }
 
-    memory_handled : IsHandled I folder W V q came.Memory c c old new
+    memory_handled : (log log_after : LogState) → TellsGivenUp c q came.Memory log log_after → IsHandled I folder W V q came.Memory c c log log_after old new
     unfolding request_next
-    memory_handled = record {
+    memory_handled log log_after tells = record {
       events = Opened false (Failing n.taken) ∷ Asked q WithoutMemory ∷ [];
       replied = NoMemory;
       says = refl;
@@ -197,34 +224,40 @@ module _ (c : Core) (q : Request) (faulted : c.faulted ≡ true) where
       };
       made = ran_more I folder W V (Opened false (Failing n.taken) ∷ []) (Asked q WithoutMemory ∷ []) old new new (core_state c) (core_state c) (core_state c)
           not_opened memory_after_it;
+      logged = given_up_logged WithoutMemory 503 refl refl refl log log_after tells;
       image = holds;
     }
 
   -- The disk or memory failed it.
-  failed_handles : (old new : History) → Opens false (Err error.Failed) old new → Handles c q came.DiskFault c old new
-  failed_handles old new opens = record {
+  failed_handles : (log log_after : LogState) (old new : History) → TellsGivenUp c q came.DiskFault log log_after → Opens false (Err error.Failed) old new
+      → Handles c q came.DiskFault c log log_after old new
+  failed_handles log log_after old new tells opens = record {
     each = λ I good holds folder still W V kept.
         failed_handled old new I good holds folder W V kept
-        (openings_run I good folder (still faulted (λ is. is)) W V false (Err error.Failed) old new kept.disk (idle_at I folder W V old kept) opens);
+        (openings_run I good folder (still faulted (λ is. is)) W V false (Err error.Failed) old new kept.disk (idle_at I folder W V old kept) opens)
+        log log_after tells;
   }
 
-  memory_handles : (old new : History) → Opens false (Err error.Memory) old new → Handles c q came.Memory c old new
-  memory_handles old new opens = record {
+  memory_handles : (log log_after : LogState) (old new : History) → TellsGivenUp c q came.Memory log log_after → Opens false (Err error.Memory) old new
+      → Handles c q came.Memory c log log_after old new
+  memory_handles log log_after old new tells opens = record {
     each = λ I good holds folder still W V kept.
         memory_handled old new I good holds folder W V kept
-        (openings_run I good folder (still faulted (λ is. is)) W V false (Err error.Memory) old new kept.disk (idle_at I folder W V old kept) opens);
+        (openings_run I good folder (still faulted (λ is. is)) W V false (Err error.Memory) old new kept.disk (idle_at I folder W V old kept) opens)
+        log log_after tells;
   }
 
   -- ---- one that was refused
 
-  module _ (e : OpenError) (is : IsRefusal e) (old new : History) (opens : Opens false (Err e) old new) where
+  module _ (e : OpenError) (is : IsRefusal e) (log log_after : LogState) (old new : History) (opens : Opens false (Err e) old new) where
     kept_at : (I : Image) (folder : Folder) (W V : World) → Kept I folder W V old (core_state c) → IsKeptAt I folder W V old new
     kept_at I folder W V kept = refusals_keep I folder W V false e old new kept.disk is opens
 
     -- The reply tells what is at fault,
-    told_handles : (at : List ℕ) → Handles c q (came.NotOpened (refused (refusal.Store at))) c old new
+    told_handles : (at : List ℕ) → TellsGivenUp c q (came.NotOpened (refused (refusal.Store at))) log log_after
+        → Handles c q (came.NotOpened (refused (refusal.Store at))) c log log_after old new
     unfolding request_next
-    told_handles at = record {
+    told_handles at tells = record {
       each = λ I good holds folder still W V kept.
           let k : IsKeptAt I folder W V old new = kept_at I folder W V kept in record {
             events = Asked q (Unopened at) ∷ [];
@@ -239,13 +272,14 @@ module _ (c : Core) (q : Request) (faulted : c.faulted ≡ true) where
               replied = refl;
             };
             made = refused_ran I folder W V q at old new (core_state c) faulted kept k.disk k.moments k.touches;
+            logged = unanswered_logged I W q (Unopened at) 500 (core_state c).job (idle_at I folder W V old kept) kept.core.job refl refl refl log log_after tells;
             image = holds;
           };
     }
 
     -- or it ran out of memory for it: then it counts as an opening that failed as it ran out of memory, and was not taken.
-    untold_handles : Handles c q came.Memory c old new
-    untold_handles = record {
+    untold_handles : TellsGivenUp c q came.Memory log log_after → Handles c q came.Memory c log log_after old new
+    untold_handles tells = record {
       each = λ I good holds folder still W V kept.
           let k : IsKeptAt I folder W V old new = kept_at I folder W V kept in
           let way : EachSince (OnTheWay I W V (Opened false (Failing false) ∷ [])) old new = since_map (OnTheWay I W V [])
@@ -260,29 +294,33 @@ module _ (c : Core) (q : Request) (faulted : c.faulted ≡ true) where
             keeps = disk_moments I folder W V (Opened false (Failing false)) old new W kept.disk k.disk
                 (Within [] (Opened false (Failing false) ∷ []) refl refl refl) way;
             touches = own_of_any I (Opened false (Failing false) ∷ []) old new k.touches;
-          });
+          }) log log_after tells;
     }
 
-    refusal_handles : (sent : Handled) → TellsFault e sent → Handles c q sent c old new
-    refusal_handles sent (inl tells) = subst (λ (s : Handled). Handles c q s c old new) (sym tells) (told_handles (fault_of e))
-    refusal_handles sent (inr memory) = subst (λ (s : Handled). Handles c q s c old new) (sym memory) untold_handles
+    refusal_handles : (sent : Handled) → TellsFault e sent → TellsGivenUp c q sent log log_after → Handles c q sent c log log_after old new
+    refusal_handles sent (inl reported) tells = subst (λ (s : Handled). Handles c q s c log log_after old new) (sym reported)
+        (told_handles (fault_of e) (subst (λ (s : Handled). TellsGivenUp c q s log log_after) reported tells))
+    refusal_handles sent (inr memory) tells = subst (λ (s : Handled). Handles c q s c log log_after old new) (sym memory)
+        (untold_handles (subst (λ (s : Handled). TellsGivenUp c q s log log_after) memory tells))
 
-  given_up_handles : (e : OpenError) (sent : Handled) → GivesUp e sent → (old new : History) → Opens false (Err e) old new → Handles c q sent c old new
-  given_up_handles error.Failed sent gives old new opens = subst (λ (s : Handled). Handles c q s c old new) (sym gives) (failed_handles old new opens)
-  given_up_handles error.Memory sent gives old new opens = subst (λ (s : Handled). Handles c q s c old new) (sym gives) (memory_handles old new opens)
-  given_up_handles error.NoStore sent gives old new opens = refusal_handles error.NoStore tt old new opens sent gives
-  given_up_handles (error.BadLink path) sent gives old new opens = refusal_handles (error.BadLink path) tt old new opens sent gives
-  given_up_handles (error.BadJournal path) sent gives old new opens = refusal_handles (error.BadJournal path) tt old new opens sent gives
-  given_up_handles (error.Damaged path) sent gives old new opens = refusal_handles (error.Damaged path) tt old new opens sent gives
-  given_up_handles (error.OldFormat directory) sent gives old new opens = refusal_handles (error.OldFormat directory) tt old new opens sent gives
-  given_up_handles (error.BadImage file kind at) sent gives old new opens = refusal_handles (error.BadImage file kind at) tt old new opens sent gives
-  given_up_handles (error.IllTyped key) sent gives old new opens = refusal_handles (error.IllTyped key) tt old new opens sent gives
+  module _ (sent : Handled) (log log_after : LogState) (tells : TellsGivenUp c q sent log log_after) (old new : History) where
+    given_up_handles : (e : OpenError) → GivesUp e sent → Opens false (Err e) old new → Handles c q sent c log log_after old new
+    given_up_handles error.Failed gives opens = subst (λ (s : Handled). Handles c q s c log log_after old new) (sym gives)
+        (failed_handles log log_after old new (subst (λ (s : Handled). TellsGivenUp c q s log log_after) gives tells) opens)
+    given_up_handles error.Memory gives opens = subst (λ (s : Handled). Handles c q s c log log_after old new) (sym gives)
+        (memory_handles log log_after old new (subst (λ (s : Handled). TellsGivenUp c q s log log_after) gives tells) opens)
+    given_up_handles error.NoStore gives opens = refusal_handles error.NoStore tt log log_after old new opens sent gives tells
+    given_up_handles (error.BadLink path) gives opens = refusal_handles (error.BadLink path) tt log log_after old new opens sent gives tells
+    given_up_handles (error.BadJournal path) gives opens = refusal_handles (error.BadJournal path) tt log log_after old new opens sent gives tells
+    given_up_handles (error.Damaged path) gives opens = refusal_handles (error.Damaged path) tt log log_after old new opens sent gives tells
+    given_up_handles (error.OldFormat directory) gives opens = refusal_handles (error.OldFormat directory) tt log log_after old new opens sent gives tells
+    given_up_handles (error.BadImage file kind at) gives opens = refusal_handles (error.BadImage file kind at) tt log log_after old new opens sent gives tells
+    given_up_handles (error.IllTyped key) gives opens = refusal_handles (error.IllTyped key) tt log log_after old new opens sent gives tells
 
-  -- The request is given up, and the core is as before.
-  pub unopened_handles : (e : OpenError) (sent : Handled) (now : Core) → GivesUp e sent → (old new : History) → HoldsStill c e now old new
-      → Handles c q sent now old new
-  unopened_handles e sent now gives old new still =
-      subst (λ (x : Core). Handles c q sent x old new) (sym still.same) (given_up_handles e sent gives old new still.opens)
+    -- The request is given up, and the core is as before.
+    pub unopened_handles : (e : OpenError) (now : Core) → GivesUp e sent → HoldsStill c e now old new → Handles c q sent now log log_after old new
+    unopened_handles e now gives still =
+        subst (λ (x : Core). Handles c q sent x log log_after old new) (sym still.same) (given_up_handles e gives still.opens)
 
   -- ---- where the image is as before
 

@@ -1,6 +1,7 @@
 -- A slice of turns has at most one failure of a kind among them, which is what the job has failed with.
-use Rattle.std.proofs.Common.{◌≡◌, ◌⊎◌, ◌+◌, ◌-◌, ◌&&◌, inl, inr, ℕ, Bool, true, false, List, [], ◌∷◌, Option, Some, None, Result, OnErr, refl, sym, ◌∙◌, ap}
+use Rattle.std.proofs.Common.{◌≡◌, ◌≢◌, ◌⊎◌, ◌+◌, ◌-◌, ◌&&◌, inl, inr, ℕ, zero, suc, Bool, true, false, List, [], ◌∷◌, Option, Some, None, Result, OnErr, refl, sym, ◌∙◌, ap}
 use Rattle.std.proofs.Common.{subst, ◌++◌, ◌≤◌, arith}
+use Rattle.std.specs.Option.{option_map}
 use Rattle.api_server.proofs.Counted.{none_rose}
 use Rattle.outside.specs.Faults.{Rose, HasCause}
 use Rattle.outside.specs.History.{History}
@@ -103,7 +104,7 @@ slice_fits I n W [] are = tt
 slice_fits I n W (Turned a ∷ es) are = (are.1, are.2, slice_fits I (n - 1) (turn_next I W a) es are.3)
 slice_fits I n W (Opened boot o ∷ es) are = absurd are
 slice_fits I n W (Asked q o ∷ es) are = absurd are
-slice_fits I n W (Unread ∷ es) are = absurd are
+slice_fits I n W (Unread why ∷ es) are = absurd are
 slice_fits I n W (Began version ∷ es) are = absurd are
 slice_fits I n W (Moved version held ∷ es) are = absurd are
 
@@ -112,7 +113,7 @@ driven_fits I W [] are = tt
 driven_fits I W (Turned a ∷ es) are = (are.0, are.1, driven_fits I (turn_next I W a) es are.2)
 driven_fits I W (Opened boot o ∷ es) are = absurd are
 driven_fits I W (Asked q o ∷ es) are = absurd are
-driven_fits I W (Unread ∷ es) are = absurd are
+driven_fits I W (Unread why ∷ es) are = absurd are
 driven_fits I W (Began version ∷ es) are = absurd are
 driven_fits I W (Moved version held ∷ es) are = absurd are
 
@@ -126,7 +127,7 @@ none_fit I W [] still are = refl
 none_fit I W (Turned a ∷ es) still are = absurd (cc (still, are.0))
 none_fit I W (Opened boot o ∷ es) still are = absurd are
 none_fit I W (Asked q o ∷ es) still are = absurd are
-none_fit I W (Unread ∷ es) still are = absurd are
+none_fit I W (Unread why ∷ es) still are = absurd are
 none_fit I W (Began version ∷ es) still are = absurd are
 none_fit I W (Moved version held ∷ es) still are = absurd are
 
@@ -147,9 +148,28 @@ slice_then I n m W (Turned a ∷ es) fs are more =
     )
 slice_then I n m W (Opened boot o ∷ es) fs are more = absurd are
 slice_then I n m W (Asked q o ∷ es) fs are more = absurd are
-slice_then I n m W (Unread ∷ es) fs are more = absurd are
+slice_then I n m W (Unread why ∷ es) fs are more = absurd are
 slice_then I n m W (Began version ∷ es) fs are more = absurd are
 slice_then I n m W (Moved version held ∷ es) fs are more = absurd are
+
+-- A turn, and then others until no job runs.
+driven_then : (I : Image) (n : ℕ) (W : World) (es fs : List Event) → IsSlice I n W es → IsDriven I (after I W es) fs → IsDriven I W (es ++ fs)
+driven_then I n W [] fs slice more = more
+driven_then I n W (Turned a ∷ es) fs are more = (are.1, are.2, driven_then I (n - 1) (turn_next I W a) es fs are.3 more)
+driven_then I n W (Opened boot o ∷ es) fs are more = absurd are
+driven_then I n W (Asked q o ∷ es) fs are more = absurd are
+driven_then I n W (Unread why ∷ es) fs are more = absurd are
+driven_then I n W (Began version ∷ es) fs are more = absurd are
+driven_then I n W (Moved version held ∷ es) fs are more = absurd are
+
+-- A turn, and then the rest of a slice.
+pub turns_more : (I : Image) (left : Option ℕ) (W : World) (es rest : List Event) → left ≢ Some 0 → IsSlice I 1 W es
+    → AreTurns I (option_map (λ n. n - 1) left) (after I W es) rest → AreTurns I left W (es ++ rest)
+turns_more I None W es rest some one more = driven_then I 1 W es rest one more
+turns_more I (Some zero) W es rest some one more = absurd (some refl)
+turns_more I (Some (suc n)) W es rest some one more =
+    let whole : 1 + (suc n - 1) ≡ suc n = omega arith in
+    subst (λ (k : ℕ). IsSlice I k W (es ++ rest)) whole (slice_then I 1 (suc n - 1) W es rest one more)
 
 -- ---- while no client is there
 
@@ -193,11 +213,11 @@ module _ (I : Image) (p : Event → Bool) (failed : Job → Bool) (stops : (j : 
           ap (λ (l : List Event). failed (after I (turn_next I W a) l).job) none
               ∙ now,
         )
-    by false is (inl zero) = inl (counts false is ∙ zero)
+    by false is (inl none) = inl (counts false is ∙ none)
     by false is (inr one) = inr (counts false is ∙ one.0, are.0, one.2)
   at_most_one W (Opened boot o ∷ es) are = absurd are
   at_most_one W (Asked q o ∷ es) are = absurd are
-  at_most_one W (Unread ∷ es) are = absurd are
+  at_most_one W (Unread why ∷ es) are = absurd are
   at_most_one W (Began version ∷ es) are = absurd are
   at_most_one W (Moved version held ∷ es) are = absurd are
 
@@ -206,7 +226,7 @@ module _ (I : Image) (p : Event → Bool) (failed : Job → Bool) (stops : (j : 
       → HasCause n m (answer_of (is_running before && failed now)) → RoseBy (count_of p es) n m
   rose_by W es are before now before_is now_is n m cause = by (at_most_one W es are) where
     by : AtMostOne W es → RoseBy (count_of p es) n m
-    by (inl zero) = subst (λ (k : ℕ). RoseBy k n m) (sym zero) (none_rose n m cause.later)
+    by (inl none) = subst (λ (k : ℕ). RoseBy k n m) (sym none) (none_rose n m cause.later)
     by (inr one) =
         let running : is_running before ≡ true = ap is_running before_is ∙ one.1 in
         let fell : failed now ≡ true = ap failed now_is ∙ one.2 in

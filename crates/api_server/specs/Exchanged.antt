@@ -1,13 +1,14 @@
 -- The bytes of one connection, by what it came to.
 use Rattle.std.specs.Prelude.{◌≡◌, ◌≤◌, ◌⊎◌, ℕ, true, List, [], ◌++◌, length}
 use Rattle.outside.specs.Exchange.{Exchange, fresh}
-use Rattle.api_http.specs.Replies.{Sent, refused}
+use Rattle.api_http.specs.Replies.{Sent, refused, status_of, word_of}
 use Rattle.api_http.specs.Requests.{Asks, MayRefuse, Waits}
 use Rattle.api_http.specs.declared.refusal.Refusal.{Refusal}
 use Rattle.api_http.specs.declared.refusal.Refusal.TheVariants as refusal
 use Rattle.api_server.specs.Hearing.{input_of}
 use Rattle.api_http.specs.Says.{Says}
 use Rattle.settings_machine.specs.Requests.{Request, Reply}
+use Rattle.settings_machine.specs.Events.{Unreadable}
 
 -- What one connection came to: nothing was asked; there was no memory to read it or to print why it is refused; it was refused in
 -- reading; or it was asked and replied.
@@ -16,6 +17,10 @@ pub data Said : Type 0 where
   OutOfMemory : Said
   Unread : Refusal → Said
   Replied : Request → Reply → Said
+
+-- Why a request was refused in reading: the status by which that is answered, and the word for it in the body of the reply.
+abbrev pub why : Refusal → Unreadable
+why r = record { status = (status_of r).0; error = word_of r }
 
 -- Some of the text was written, from its first byte on, until a call failed.
 pub record IsCutOff (x : Exchange) (text : List ℕ) : Type 0 where

@@ -23,6 +23,7 @@ use Rattle.store_open.specs.Laws.{HoldsImage, IsImageOfFolder, IsRefusal}
 use Rattle.store_open.specs.Opening.{Opens}
 use Rattle.store_open.specs.declared.open_error.OpenError.{OpenError}
 use Rattle.store_open.specs.declared.open_error.OpenError.TheVariants as error
+use Rattle.event_lines.specs.Logs.{LogState, Logs}
 use Rattle.api_core.specs.Cores.{core_state}
 use Rattle.api_core.specs.Plans.{MayCommit, Plans, Replies, IsQuietBy}
 use Rattle.api_core.specs.declared.planned.Effect.{Effect}
@@ -81,15 +82,17 @@ Fits machine.DiskFault handled = handled ≡ DiskFault
 Fits (machine.NotOpened at) handled = IsNotOpened handled
 Fits _ handled = ⊤
 
--- The call makes these events of the machine, the last of which is the request; what is sent says what the machine replies,
--- and the core holds the image still.
-pub record IsHandled (I : Image) (folder : Folder) (W V : World) (q : Request) (handled : Handled) (c now : Core) (old new : History) : Type 0 where
+-- The call makes these events of the machine, the last of which is the request, and logs them; what is sent says what the machine
+-- replies, and the core holds the image still.
+pub record IsHandled (I : Image) (folder : Folder) (W V : World) (q : Request) (handled : Handled) (c now : Core) (log log_after : LogState)
+    (old new : History) : Type 0 where
   pub events : List Event
   pub replied : machine.Reply
   pub says : Says replied (sent_of handled)
   pub fits : Fits replied handled
   pub handled_by : ran.Handled I c.faulted W q replied events
   pub made : Ran I folder W V events old new (core_state c) (core_state now)
+  pub logged : Logs I W events log log_after
   pub image : HoldsImage I now.image
 
 -- Where the store was opened again and was not refused, the files of the image's folder make the image still.
@@ -98,10 +101,10 @@ IsAsBefore c handled I folder = c.faulted ≡ true → (IsNotOpened handled → 
 
 -- By each image that the core holds, in each world at which disk and core are, a request is handled by the machine, crash
 -- included: after a failed call of the disk the store is opened again first.
-pub record Handles (c : Core) (q : Request) (handled : Handled) (now : Core) (old new : History) : Type 0 where
+pub record Handles (c : Core) (q : Request) (handled : Handled) (now : Core) (log log_after : LogState) (old new : History) : Type 0 where
   pub each : (I : Image) → IsGood I → HoldsImage I c.image → (folder : Folder) → IsAsBefore c handled I folder → (W V : World)
       → Kept I folder W V old (core_state c)
-      → IsHandled I folder W V q handled c now old new
+      → IsHandled I folder W V q handled c now log log_after old new
 
 -- The files of the image's folder don't make the image still.
 pub record IsOtherStore (c : Core) (old new : History) : Type 0 where

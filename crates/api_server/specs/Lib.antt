@@ -2,6 +2,7 @@ pub mod Causes
 pub mod Handled
 pub mod Exchanged
 pub mod Rounds
+pub mod Turning
 pub mod Answered
 pub mod Serving
 pub mod Hearing

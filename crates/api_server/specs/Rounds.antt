@@ -8,7 +8,7 @@ use Rattle.settings_machine.specs.Events.{Event, after, faulted_after}
 use Rattle.machine_disk.specs.Ran.{Handled}
 use Rattle.affected_apply.specs.Turned.{AreTurns}
 use Rattle.api_server.specs.declared.pace.Pace.{Pace}
-use Rattle.api_server.specs.Exchanged.{Said, Nothing, OutOfMemory, Unread, Replied, IsExchanged}
+use Rattle.api_server.specs.Exchanged.{Said, Nothing, OutOfMemory, Unread, Replied, IsExchanged, why}
 
 -- The request was handled, and not given up because the store could not be opened again.
 pub record IsAsked (I : Image) (faulted : Bool) (W : World) (q : Request) (reply : Reply) (asked : List Event) : Type 0 where
@@ -19,7 +19,7 @@ pub record IsAsked (I : Image) (faulted : Bool) (W : World) (q : Request) (reply
 abbrev pub AsksFor : Image → Bool → World → Said → List Event → Type 0
 AsksFor I faulted W Nothing asked = asked ≡ []
 AsksFor I faulted W OutOfMemory asked = asked ≡ []
-AsksFor I faulted W (Unread r) asked = asked ≡ events.Unread ∷ []
+AsksFor I faulted W (Unread r) asked = asked ≡ events.Unread (why r) ∷ []
 AsksFor I faulted W (Replied q reply) asked = IsAsked I faulted W q reply asked
 
 -- Turns of a running job while no client was there, of which there may be any number; none, where the pace has none of these.

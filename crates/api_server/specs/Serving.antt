@@ -13,6 +13,7 @@ use Rattle.machine_disk.specs.Kept.{Folder, Kept}
 use Rattle.machine_disk.specs.Ran.{Ran, IsDriven, RunsBy}
 use Rattle.store_open.specs.Laws.{HoldsImage, IsImageOfFolder}
 use Rattle.affected_apply.specs.Turned.{AreTurns}
+use Rattle.event_lines.specs.Logs.{LogState, Logs}
 use Rattle.api_core.specs.Cores.{core_state}
 use Rattle.api_core.specs.declared.serving.Core.{Core}
 use Rattle.api_server.specs.declared.pace.Pace.{Pace}
@@ -49,19 +50,20 @@ AreBooted false I slice faulted W events = events ≡ []
 
 -- By the machine, crash included; what failed in the events was counted.
 pub record BootedBy (I : Image) (folder : Folder) (W V : World) (boot : Bool) (slice : Option ℕ) (c now : Core) (counts counts_after : FaultCounts)
-    (ran_before ran_after : Option (List Run)) (old new : History) : Type 0 where
+    (ran_before ran_after : Option (List Run)) (log log_after : LogState) (old new : History) : Type 0 where
   pub events : List Event
   pub are : AreBooted boot I slice c.faulted W events
   pub counted : AreCounted events counts counts_after
   pub made : Ran I folder W V events old new (core_state c) (core_state now)
+  pub logged : Logs I W events log log_after
   pub runs : RunsBy I W events ran_before ran_after
   pub image : HoldsImage I now.image
 
 -- By each image that the core holds, each folder whose files make it, and in each world at which disk and core are.
 pub record Boots (boot : Bool) (slice : Option ℕ) (c now : Core) (counts counts_after : FaultCounts) (ran_before ran_after : Option (List Run))
-    (old new : History) : Type 0 where
+    (log log_after : LogState) (old new : History) : Type 0 where
   pub each : (I : Image) → IsGood I → HoldsImage I c.image → (folder : Folder) → IsImageOfFolder I folder → (W V : World) → Kept I folder W V old (core_state c)
-      → BootedBy I folder W V boot slice c now counts counts_after ran_before ran_after old new
+      → BootedBy I folder W V boot slice c now counts counts_after ran_before ran_after log log_after old new
 
 -- ---- the end
 
@@ -72,19 +74,20 @@ AreLast false I W last = last ≡ []
 
 -- By the machine, crash included; what failed in the events was counted.
 pub record EndedBy (I : Image) (folder : Folder) (W V : World) (fine : Bool) (c now : Core) (counts counts_after : FaultCounts)
-    (ran_before ran_after : Option (List Run))
-    (old new : History) : Type 0 where
+    (ran_before ran_after : Option (List Run)) (log log_after : LogState) (old new : History) : Type 0 where
   pub events : List Event
   pub are : AreLast fine I W events
   pub counted : AreCounted events counts counts_after
   pub made : Ran I folder W V events old new (core_state c) (core_state now)
+  pub logged : Logs I W events log log_after
   pub runs : RunsBy I W events ran_before ran_after
   pub image : HoldsImage I now.image
 
 -- By each image that the core holds, each folder whose files make it, and in each world at which disk and core are.
-pub record Ends (fine : Bool) (c now : Core) (counts counts_after : FaultCounts) (ran_before ran_after : Option (List Run)) (old new : History) : Type 0 where
+pub record Ends (fine : Bool) (c now : Core) (counts counts_after : FaultCounts) (ran_before ran_after : Option (List Run)) (log log_after : LogState)
+    (old new : History) : Type 0 where
   pub each : (I : Image) → IsGood I → HoldsImage I c.image → (folder : Folder) → IsImageOfFolder I folder → (W V : World) → Kept I folder W V old (core_state c)
-      → EndedBy I folder W V fine c now counts counts_after ran_before ran_after old new
+      → EndedBy I folder W V fine c now counts counts_after ran_before ran_after log log_after old new
 
 -- ---- the whole
 
@@ -101,18 +104,19 @@ pub record AreServed (I : Image) (pace : Pace) (boot fine faulted : Bool) (W : W
 
 -- By the machine, crash included; what failed in the events was counted.
 pub record ServedBy (I : Image) (folder : Folder) (W V : World) (pace : Pace) (boot fine : Bool) (c now : Core) (counts counts_after : FaultCounts)
-    (told told_after : Option (List Exchange)) (ran_before ran_after : Option (List Run)) (old new : History) : Type 0 where
+    (told told_after : Option (List Exchange)) (ran_before ran_after : Option (List Run)) (log log_after : LogState) (old new : History) : Type 0 where
   pub rounds : List Round
   pub events : List Event
   pub are : AreServed I pace boot fine c.faulted W rounds events
   pub exchanged : Moves told told_after (AreExchanged rounds)
   pub counted : AreCounted events counts counts_after
   pub made : Ran I folder W V events old new (core_state c) (core_state now)
+  pub logged : Logs I W events log log_after
   pub runs : RunsBy I W events ran_before ran_after
   pub image : HoldsImage I now.image
 
 -- By each image that the core holds, each folder whose files make it, and in each world at which disk and core are.
 pub record Serves (pace : Pace) (boot fine : Bool) (c now : Core) (counts counts_after : FaultCounts) (told told_after : Option (List Exchange))
-    (ran_before ran_after : Option (List Run)) (old new : History) : Type 0 where
+    (ran_before ran_after : Option (List Run)) (log log_after : LogState) (old new : History) : Type 0 where
   pub each : (I : Image) → IsGood I → HoldsImage I c.image → (folder : Folder) → IsImageOfFolder I folder → (W V : World) → Kept I folder W V old (core_state c)
-      → ServedBy I folder W V pace boot fine c now counts counts_after told told_after ran_before ran_after old new
+      → ServedBy I folder W V pace boot fine c now counts counts_after told told_after ran_before ran_after log log_after old new

@@ -2,7 +2,7 @@
 ghost use Rattle.std.specs.Prelude.{◌≡◌};
 ghost use Rattle.api_server.specs.Handled.{sent_of};
 
-use api_http::Reply;
+use api_http::{Refusal, Reply};
 
 /// What a request came to, and the reply that says so.
 #[derive(Debug, Drop)]
@@ -18,6 +18,17 @@ pub enum Handled {
 }
 
 impl Handled {
+    /// The status of the reply. It takes no memory.
+    pub fn status(&self) -> u16
+        ensures { result ≡ (sent_of self.now).status }
+    {
+        match self {
+            Handled::Answered(reply) | Handled::NotOpened(reply) => reply.status(),
+            Handled::Memory => Refusal::Memory.status(),
+            Handled::DiskFault => Refusal::DiskFault.status(),
+        }
+    }
+
     /// The reply. It takes no memory.
     pub fn reply(self) -> Reply
         ensures { result ≡ sent_of self }

@@ -15,6 +15,7 @@ mod reading;
 mod running;
 mod saying;
 mod serving;
+mod turning;
 mod unopened;
 mod verifying;
 

@@ -2,6 +2,7 @@
 ghost use Rattle.std.specs.Prelude.{◌≡◌, ◌≤◌, false};
 ghost use Rattle.outside.specs.Told.{Moves};
 ghost use Rattle.outside.specs.Faults.{Rose};
+ghost use Rattle.event_lines.specs.Logs.{log_state};
 ghost use Rattle.api_core.specs.Cores.{IsSound};
 ghost use Rattle.api_server.specs.Causes.{fault_counts};
 ghost use Rattle.api_server.specs.Serving.{HasAccepted, Serves};
@@ -11,7 +12,7 @@ use crate::booting::boot_up;
 use crate::driving::drive;
 use crate::serving::serve_all;
 use api_core::Core;
-use outside::{Disk, Door, Spawner};
+use outside::{Disk, Door, Sink, Spawner};
 use std::alloc::Global;
 
 /// Serves over an opened store. With boot the job is begun by the request `Apply` and a slice of its turns is made; then
@@ -20,7 +21,10 @@ use std::alloc::Global;
 ///
 /// The pace says how many turns follow each connection, and whether turns are made while no client is there too: one at a time, so
 /// that a client who comes meanwhile waits for one turn at most.
-pub fn serve<D: Disk, S: Spawner, N: Door>(
+///
+/// Each event is told to the log by its lines, behind what it made on the disk and before the reply or the next event. A log that fails
+/// ends nothing, and is tried again at the next event.
+pub fn serve<D: Disk, S: Spawner, N: Door, L: Sink>(
     alloc: Global,
     core: &mut Core,
     boot: bool,
@@ -29,16 +33,18 @@ pub fn serve<D: Disk, S: Spawner, N: Door>(
     disk: &mut D,
     spawner: &mut S,
     door: &mut N,
+    log: &mut L,
 ) -> bool
     requires idle { (N.state door.old).busy ≡ false }
     requires unused { (N.state door.old).accepted ≡ 0 }
     requires sound { IsSound core.old }
 
     // It is a run of the machine: what boot makes, for each connection the turns before it while no client was there, its request and a
-    // slice of turns, and the last turns. What failed in these events was counted.
+    // slice of turns, and the last turns. What failed in these events was counted, and they are logged.
     ensures serves { Moves (D.told disk.old) (D.told disk.new)
         (Serves pace boot result core.old core.new (fault_counts (D.faults disk.old) (S.faults spawner.old))
-        (fault_counts (D.faults disk.new) (S.faults spawner.new)) (N.told door.old) (N.told door.new) (S.runs spawner.old) (S.runs spawner.new)) }
+        (fault_counts (D.faults disk.new) (S.faults spawner.new)) (N.told door.old) (N.told door.new) (S.runs spawner.old) (S.runs spawner.new)
+        (log_state (L.told log.old) (L.faults log.old)) (log_state (L.told log.new) (L.faults log.new))) }
     ensures sound { IsSound core.new }
     ensures idle { (N.state door.new).busy ≡ false }
     ensures accepted { HasAccepted connections result (N.state door.old) (N.state door.new) }
@@ -48,8 +54,8 @@ pub fn serve<D: Disk, S: Spawner, N: Door>(
     ensures door_faults { N.faults door.old ≤ N.faults door.new }
     ensures asked { S.asked spawner.new ≡ S.asked spawner.old }
 {
-    boot_up(alloc, core, boot, pace.slice, disk, spawner);
-    let fine = serve_all(alloc, core, pace, connections, disk, spawner, door);
-    drive(alloc, core, fine, disk, spawner);
+    boot_up(alloc, core, boot, pace.slice, disk, spawner, log);
+    let fine = serve_all(alloc, core, pace, connections, disk, spawner, door, log);
+    drive(alloc, core, fine, disk, spawner, log);
     fine
 }

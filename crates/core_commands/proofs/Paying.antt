@@ -94,7 +94,7 @@ turns_pay I W [] driven pays = pays
 turns_pay I W (Turned a ∷ es) driven pays = turns_pay I (turn_next I W a) es driven.2 (turn_pays I W a pays)
 turns_pay I W (Opened boot o ∷ es) driven pays = absurd driven
 turns_pay I W (Asked q o ∷ es) driven pays = absurd driven
-turns_pay I W (Unread ∷ es) driven pays = absurd driven
+turns_pay I W (Unread why ∷ es) driven pays = absurd driven
 turns_pay I W (Began v ∷ es) driven pays = absurd driven
 turns_pay I W (Moved v h ∷ es) driven pays = absurd driven
 

@@ -10,6 +10,7 @@ use Rattle.api_http.specs.Replies.{Sent, is_of_success}
 use Rattle.api_http.specs.Requests.{Asks}
 use Rattle.api_http.specs.Says.{Says}
 use Rattle.api_http.proofs.Said.{says_success}
+use Rattle.event_lines.specs.Logs.{LogState}
 use Rattle.api_server.specs.Handled.{Fits, IsHandled, Handles}
 use Rattle.api_server.specs.Hearing.{input_of, IsHeard}
 use Rattle.api_server.specs.declared.handled.Handled.TheVariants as came
@@ -53,7 +54,7 @@ idle-append : (I : Image) (W : World) (es fs : List Event) → AskedIdle I W es 
 idle-append I W [] fs first second = second
 idle-append I W (Asked q o ∷ es) fs first second = (first.0, idle-append I (next I W (Asked q o)) es fs first.1 second)
 idle-append I W (Opened boot o ∷ es) fs first second = idle-append I (next I W (Opened boot o)) es fs first second
-idle-append I W (Unread ∷ es) fs first second = idle-append I (next I W Unread) es fs first second
+idle-append I W (Unread why ∷ es) fs first second = idle-append I (next I W (Unread why)) es fs first second
 idle-append I W (Turned a ∷ es) fs first second = idle-append I (next I W (Turned a)) es fs first second
 idle-append I W (Began v ∷ es) fs first second = idle-append I (next I W (Began v)) es fs first second
 idle-append I W (Moved v held ∷ es) fs first second = idle-append I (next I W (Moved v held)) es fs first second
@@ -63,7 +64,7 @@ well-append [] fs first second = second
 well-append (Asked q o ∷ es) fs first second = (first.0, well-append es fs first.1 second)
 well-append (Turned a ∷ es) fs first second = (first.0, well-append es fs first.1 second)
 well-append (Opened boot o ∷ es) fs first second = absurd first
-well-append (Unread ∷ es) fs first second = absurd first
+well-append (Unread why ∷ es) fs first second = absurd first
 well-append (Began v ∷ es) fs first second = absurd first
 well-append (Moved v held ∷ es) fs first second = absurd first
 
@@ -71,7 +72,7 @@ requests-append : (es fs : List Event) → requests_in (es ++ fs) ≡ requests_i
 requests-append [] fs = refl
 requests-append (Asked q o ∷ es) fs = ap (λ (qs : List Request). q ∷ qs) (requests-append es fs)
 requests-append (Opened boot o ∷ es) fs = requests-append es fs
-requests-append (Unread ∷ es) fs = requests-append es fs
+requests-append (Unread why ∷ es) fs = requests-append es fs
 requests-append (Turned a ∷ es) fs = requests-append es fs
 requests-append (Began v ∷ es) fs = requests-append es fs
 requests-append (Moved v held ∷ es) fs = requests-append es fs
@@ -140,15 +141,15 @@ answered_well I W q (Unopened at) sent fits = absurd fits
 answered_well I W q (Faulted taken) sent fits = absurd (cc fits)
 
 -- One request, where no call of the disk has failed: its reply is one of success or not.
-pub counted_reply : (bytes : List ℕ) (c now : Core) (q : Request) (sent : Sent) (fine : Bool) (n m : Counts) (runs : List Run) (old new : History)
-    → c.faulted ≡ false
-    → (core_state c).job ≡ Idle → IsAskedBy bytes q → is_of_success sent.status ≡ fine → m ≡ with_reply fine n → Handles c q (came.Answered sent) now old new
-    → Counted (bytes ∷ []) c now n m runs runs old new
-counted_reply bytes c now q sent fine n m runs old new calm idle by_bytes success is handles = record { each = by } where
+pub counted_reply : (bytes : List ℕ) (c now : Core) (q : Request) (sent : Sent) (fine : Bool) (n m : Counts) (runs : List Run) (log log_after : LogState)
+    (old new : History) → c.faulted ≡ false
+    → (core_state c).job ≡ Idle → IsAskedBy bytes q → is_of_success sent.status ≡ fine → m ≡ with_reply fine n
+    → Handles c q (came.Answered sent) now log log_after old new → Counted (bytes ∷ []) c now n m runs runs old new
+counted_reply bytes c now q sent fine n m runs log log_after old new calm idle by_bytes success is handles = record { each = by } where
   by : (I : Image) → IsGood I → HoldsImage I c.image → (folder : Folder) (W V : World) → Kept I folder W V old (core_state c) → runs ≡ W.runs
       → CountedBy I folder W V (bytes ∷ []) c now n m runs old new
   by I good of folder W V kept are =
-      let h : IsHandled I folder W V q (came.Answered sent) c now old new =
+      let h : IsHandled I folder W V q (came.Answered sent) c now log log_after old new =
       handles.each I good of folder (λ faulted opened. absurd (clash c.faulted calm faulted)) W V kept in
       let e : Handled I c.faulted W q h.replied h.events = h.handled_by in
       let a : (e.first ≡ []) × Reopens false e.outcome [] = alone e.outcome e.first (subst (λ (b : Bool). Reopens b e.outcome e.first) calm e.reopens) in
@@ -217,7 +218,7 @@ none_left : (I : Image) (W : World) (e : Event) (es : List Event) → IsSlice I 
 none_left I W (Turned a) es is = let below : 1 ≤ 0 = is.0 in omega (arith, below)
 none_left I W (Opened boot o) es is = is
 none_left I W (Asked q o) es is = is
-none_left I W Unread es is = is
+none_left I W (Unread why) es is = is
 none_left I W (Began v) es is = is
 none_left I W (Moved v held) es is = is
 
@@ -228,7 +229,7 @@ one_left I W (Turned a ∷ []) running is = (a, refl)
 one_left I W (Turned a ∷ e ∷ es) running is = absurd (none_left I (turn_next I W a) e es is.3)
 one_left I W (Opened boot o ∷ es) running is = absurd is
 one_left I W (Asked q o ∷ es) running is = absurd is
-one_left I W (Unread ∷ es) running is = absurd is
+one_left I W (Unread why ∷ es) running is = absurd is
 one_left I W (Began v ∷ es) running is = absurd is
 one_left I W (Moved v held ∷ es) running is = absurd is
 

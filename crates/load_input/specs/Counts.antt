@@ -25,7 +25,7 @@ with_turn false false n = n
 -- one more than before; a job that does not begin again goes on after its turn where that has run a program or written a file.
 abbrev pub with_event : Image → World → Event → Counts → Counts
 with_event I W (Asked q o) n = with_reply (is_success (request_next I W q o).reply) n
-with_event I W Unread n = with_reply false n
+with_event I W (Unread why) n = with_reply false n
 with_event I W (Turned a) n = with_turn (nat_lt (length W.runs) (length (turn_next I W a).runs)) (is_running (turn_next I W a).job) n
 with_event I W _ n = n
 

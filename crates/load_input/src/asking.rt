@@ -20,6 +20,7 @@ use api_core::{Core, Request};
 use api_http::Reply;
 use api_server::{Handled, Heard, handle, hear, say};
 use disk_memory::{Input, MemoryDoor};
+use event_lines::Discard;
 use key_names::Bytes;
 use outside::{Disk, Door};
 use std::alloc::{AllocError, Global};
@@ -119,7 +120,7 @@ pub(crate) fn answer<D: Disk>(
 {
     let mut door = connection(alloc, request)?;
     let request = asked(alloc, &mut door)?;
-    let Handled::Answered(reply) = handle(alloc, core, &request, disk) else {
+    let Handled::Answered(reply) = handle(alloc, core, &request, disk, &mut Discard) else {
         // It ran out of memory: this disk never fails.
         return Err(AllocError);
     };

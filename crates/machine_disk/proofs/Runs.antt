@@ -10,7 +10,7 @@ use Rattle.settings_tree.specs.declared.held.Held.{Held}
 use Rattle.settings_machine.specs.World.{Image, World, Files, is_running}
 use Rattle.settings_machine.specs.Requests.{Request}
 use Rattle.settings_machine.specs.Step.{Unopened, request_next, turn_next, opened}
-use Rattle.settings_machine.specs.Events.{Event, Succeeded, Failing, Opened, Asked, Unread, Turned}
+use Rattle.settings_machine.specs.Events.{Event, Succeeded, Failing, Opened, Asked, Unreadable, Unread, Turned}
 use Rattle.settings_machine.specs.Events.{Began, Moved, next, after, acknowledges, acknowledges_any, faulted_next}
 use Rattle.settings_machine.specs.Events.{faulted_after, are_served}
 use Rattle.settings_machine.specs.Paid.{IsFit}
@@ -201,8 +201,9 @@ module _ (I : Image) where
   })
 
   -- A request that was refused in reading.
-  pub ran_unread : (folder : Folder) (W V : World) (h : History) (core : CoreState) → Kept I folder W V h core → Ran I folder W V (Unread ∷ []) h h core core
-  ran_unread folder W V h core kept = ran_idle folder W V Unread h core kept refl refl refl
+  pub ran_unread : (why : Unreadable) (folder : Folder) (W V : World) (h : History) (core : CoreState) → Kept I folder W V h core
+      → Ran I folder W V (Unread why ∷ []) h h core core
+  ran_unread why folder W V h core kept = ran_idle folder W V (Unread why) h core kept refl refl refl
 
   -- ---- openings
 
@@ -287,7 +288,7 @@ module _ (I : Image) where
   slice_served n W (Turned a ∷ es) slice = slice_served (n - 1) (turn_next I W a) es slice.3
   slice_served n W (Opened boot o ∷ es) slice = absurd slice
   slice_served n W (Asked q o ∷ es) slice = absurd slice
-  slice_served n W (Unread ∷ es) slice = absurd slice
+  slice_served n W (Unread why ∷ es) slice = absurd slice
   slice_served n W (Began v ∷ es) slice = absurd slice
   slice_served n W (Moved v h ∷ es) slice = absurd slice
 
@@ -296,7 +297,7 @@ module _ (I : Image) where
   driven_served W (Turned a ∷ es) driven = driven_served (turn_next I W a) es driven.2
   driven_served W (Opened boot o ∷ es) driven = absurd driven
   driven_served W (Asked q o ∷ es) driven = absurd driven
-  driven_served W (Unread ∷ es) driven = absurd driven
+  driven_served W (Unread why ∷ es) driven = absurd driven
   driven_served W (Began v ∷ es) driven = absurd driven
   driven_served W (Moved v h ∷ es) driven = absurd driven
 

@@ -23,6 +23,8 @@ pub struct Coming {
     pub absent: u64,
     /// The byte of the output from which on it fails.
     pub output: u64,
+    /// The same of the log.
+    pub log: u64,
 }
 
 fn status_of(text: &str) -> io::Result<u16> {
@@ -40,6 +42,7 @@ impl Coming {
             accept: u64::MAX,
             absent: 0,
             output: u64::MAX,
+            log: u64::MAX,
         }
     }
 
@@ -52,6 +55,7 @@ impl Coming {
             "read" => self.read = number,
             "write" => self.write = number,
             "output" => self.output = number,
+            "log" => self.log = number,
             _ => return Err(bad()),
         }
         Ok(Vec::new(alloc))

@@ -30,7 +30,11 @@ fn told(out: &mut String, command: &Command) -> Result<(), AllocError> {
             slice,
             while_idle,
             connections,
-        } => writeln!(out, "serve {boot} {slice:?} {while_idle} {connections:?}"),
+            quiet,
+        } => writeln!(
+            out,
+            "serve {boot} {slice:?} {while_idle} {connections:?} {quiet}"
+        ),
         Command::Set { pairs: set } => pairs(out, set),
         Command::Get { keys } => lines::keys(out, "get", keys),
         Command::Apply { all } => writeln!(out, "apply {all}"),

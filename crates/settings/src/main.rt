@@ -1,16 +1,20 @@
 //! The program `settings`: it makes the real devices in the working folder and runs the command of its words.
 #![tactic(auto)]
 
+ghost use Rattle.std.specs.Prelude.{◌≡◌, false};
+
 mod faults;
 mod misuse;
 mod usage;
 
 use crate::usage::PAGE;
 use api_http::WholeRequests;
+use event_lines::Discard;
+use outside::{Asker, Disk, Door, Sink};
 use outside_real::{RealDisk, RealDoor, RealSink, RealSpawner, words_of};
 use program_version::VERSION;
 use settings_run::run;
-use std::alloc::AllocError;
+use std::alloc::{AllocError, Global};
 use std::io::{self, Write};
 use std::process::ExitCode;
 
@@ -70,52 +74,97 @@ fn reads_alone(words: &[String]) -> bool {
     matches!(words, [word] if word.as_str() == "check")
 }
 
-// Tells on standard error which word is at fault.
+// The disk of the command. It waits for the lock, or takes none.
+fn disk_for(rt: &HostRuntime, words: &[String]) -> io::Result<RealDisk<HostRuntime>> {
+    let mut disk = RealDisk::new(rt.clone()?, ".")?;
+    if reads_alone(words) {
+        disk.take_no_lock();
+    } else {
+        disk.wait_for_lock();
+    }
+    Ok(disk)
+}
+
+// Tells on standard error which word is at fault, and then the words of all commands.
 fn tell_misuse(rt: &HostRuntime, words: &[String]) {
     if let Ok(Some(line)) = misuse::fault_of(rt.alloc(), words) {
         let line = line.as_str();
         let _ = eprintln!(rt; "settings: usage: {line}");
     }
+    let _ = eprint!(rt; "{PAGE}");
 }
 
-// The status of the command. Where standard output is closed none is run: the lock would take its place, and get what is printed.
-// Standard error says what failed, and where the words spell no command, how they are spelled.
-fn status_of(rt: &HostRuntime) -> io::Result<u8> {
+// Runs the command, with this log, or without one where nobody can hear it.
+fn run_heard<D: Disk, S: Asker, N: Door, O: Sink, L: Sink>(
+    alloc: Global,
+    words: &[String],
+    disk: &mut D,
+    spawner: &mut S,
+    door: &mut N,
+    out: &mut O,
+    log: &mut L,
+    is_heard: bool,
+) -> u8
+    requires idle { (N.state door.old).busy ≡ false }
+    requires unused { (N.state door.old).accepted ≡ 0 }
+{
+    if is_heard {
+        return run(alloc, words, disk, spawner, door, out, log);
+    }
+    run(alloc, words, disk, spawner, door, out, &mut Discard)
+}
+
+// The status of the command of these words. Standard error gets the log, says what failed, and where the words spell no command, how they
+// are spelled.
+fn carried_out<W: Write + Drop>(
+    rt: &HostRuntime,
+    words: &[String],
+    out: &mut RealSink<W>,
+) -> io::Result<u8> {
     let alloc = rt.alloc();
-    let mut out = RealSink::new(alloc, rt.stdout());
+    // where standard error is closed, the first file that is opened takes its place, and is not to get the log
+    let mut log = RealSink::new(alloc, rt.stderr());
+    let is_heard = !log.is_closed();
+    let mut disk = disk_for(rt, words)?;
+    let mut spawner = RealSpawner::new(rt.clone()?, ".")?;
+    // the socket is bound by the first accept, which `serve` alone asks for
+    let mut door = RealDoor::new(rt.clone()?, ".", WholeRequests::new(alloc))?;
+    let status = run_heard(
+        alloc,
+        words,
+        &mut disk,
+        &mut spawner,
+        &mut door,
+        out,
+        &mut log,
+        is_heard,
+    );
+    disk.tidy();
+    door.drain();
+    if status == MISUSED {
+        tell_misuse(rt, words);
+    }
+    let failure = match status {
+        BAD_IMAGE | USER_DATA => faults::fault_of(alloc, &mut disk, words, out.first_bytes()),
+        DISK => disk.last_failure(),
+        DOOR => door.last_failure(),
+        SPAWN => spawner.last_failure(),
+        OUTPUT => out.last_failure(),
+        _ => Ok(None),
+    };
+    tell(rt, failure);
+    Ok(status)
+}
+
+// The status of the run. Where standard output is closed nothing is done: the lock would take its place, and get what is printed.
+fn status_of(rt: &HostRuntime) -> io::Result<u8> {
+    let mut out = RealSink::new(rt.alloc(), rt.stdout());
     if out.is_closed() {
         return Ok(OUTPUT);
     }
     let words = words_of(rt)?;
-    if let Some(status) = told(rt, &words) {
-        return Ok(status);
+    match told(rt, &words) {
+        Some(status) => Ok(status),
+        None => carried_out(rt, &words, &mut out),
     }
-    let mut disk = RealDisk::new(rt.clone()?, ".")?;
-    if reads_alone(&words) {
-        disk.take_no_lock();
-    } else {
-        disk.wait_for_lock();
-    }
-    let mut spawner = RealSpawner::new(rt.clone()?, ".")?;
-    // the socket is bound by the first accept, which `serve` alone asks for
-    let mut door = RealDoor::new(rt.clone()?, ".", WholeRequests::new(alloc))?;
-    let status = run(alloc, &words, &mut disk, &mut spawner, &mut door, &mut out);
-    disk.tidy();
-    door.drain();
-    match status {
-        MISUSED => {
-            tell_misuse(rt, &words);
-            let _ = eprint!(rt; "{PAGE}");
-        }
-        BAD_IMAGE | USER_DATA => {
-            let fault = faults::fault_of(alloc, &mut disk, &words, out.first_bytes());
-            tell(rt, fault);
-        }
-        DISK => tell(rt, disk.last_failure()),
-        DOOR => tell(rt, door.last_failure()),
-        SPAWN => tell(rt, spawner.last_failure()),
-        OUTPUT => tell(rt, out.last_failure()),
-        _ => {}
-    }
-    Ok(status)
 }

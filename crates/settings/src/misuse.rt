@@ -84,7 +84,7 @@ fn wanted_by(command: &str) -> &'static str {
         "init" => "--version V, three numbers as 1.5.2",
         "migrate" => "--to V, three numbers as 1.5.2",
         "serve" =>
-            "[--boot] [--slice N] [--while-idle] [--connections N], N at most 4294967295 and a slice at least 1",
+            "[--boot] [--slice N] [--while-idle] [--connections N] [--quiet], N at most 4294967295 and a slice at least 1",
         "set" => "KEY=JSON ...",
         "apply" => "[--all]",
         "user-data" => "PATH, a path below the working folder",

@@ -4,11 +4,12 @@
 pub const PAGE: &str = "usage: settings COMMAND, in the folder of the host
 
   init --version V     begins a store at the version V, as in 1.5.2
-  serve [--boot] [--slice N] [--while-idle] [--connections N]
+  serve [--boot] [--slice N] [--while-idle] [--connections N] [--quiet]
                        answers requests at the socket api.sock: with --boot all is applied
                        first, with --slice at most N turns of the job follow each request,
-                       with --while-idle turns are made while no client is there too, and
-                       with --connections it ends after N of them
+                       with --while-idle turns are made while no client is there too, with
+                       --connections it ends after N of them, and with --quiet no line of
+                       the log is written to standard error
   set KEY=JSON ...     sets settings, as in set 'settings.motd=\"hi\"', and applies them
   get [KEY ...]        prints what is set at the keys and below them, or all settings
   apply [--all]        writes the files and restarts the services that are owed, or all

@@ -29,8 +29,8 @@ none_accepted connections door unused =
 -- It ran out of memory before it was known what is ordered.
 pub does_nothing : (now : Devices) → now.door.accepted ≡ 0 → (order : Order) → Does order (Err refused.Memory) now now
 does_nothing now unused (init version) = inr (refl, refl)
-does_nothing now unused (serve boot slice while_idle connections) =
-    (inr (record { outcome_is = refl; no_connections = refl; no_runs = refl; same = refl }), none_accepted connections now.door unused)
+does_nothing now unused (serve boot slice while_idle connections quiet) =
+    (inr (record { outcome_is = refl; no_connections = refl; no_runs = refl; no_lines = refl; same = refl }), none_accepted connections now.door unused)
 does_nothing now unused (set pairs) = inr (record { result_is = refl; no_runs = refl; same = refl })
 does_nothing now unused (get keys) = inr (refl, refl)
 does_nothing now unused (apply all) = inr (record { result_is = refl; no_runs = refl; same = refl })

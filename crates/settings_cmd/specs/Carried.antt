@@ -55,7 +55,8 @@ pub record IsLoaded (count : ℕ) (outcome : Outcome) (d d' : Option History) : 
 
 -- The words order no `serve`.
 abbrev pub ServesNot : List (List ℕ) → Type 0
-ServesNot words = (boot : Bool) (slice : Option ℕ) (while_idle : Bool) (connections : Option ℕ) → Spells words (serve boot slice while_idle connections) → ⊥
+ServesNot words = (boot : Bool) (slice : Option ℕ) (while_idle : Bool) (connections : Option ℕ) (quiet : Bool)
+    → Spells words (serve boot slice while_idle connections quiet) → ⊥
 
 -- The words order nothing that runs programs.
 pub record RunsNothing (words : List (List ℕ)) : Type 0 where

@@ -12,6 +12,7 @@ use Rattle.core_commands.specs.Carried.{Carried as Commanded, set_requests, appl
 use Rattle.core_commands.specs.Lines.{IsSettingsLine, IsJobLine}
 use Rattle.core_commands.specs.Verifying.{HasVerified}
 use Rattle.settings_cmd.specs.Carried.{Carried, IsBegun, IsGot, IsChecked, IsMigrated, IsPruned, GeneratesOrNot, IsProvided, IsLoaded}
+use Rattle.event_lines.specs.Logs.{LogState}
 use Rattle.settings_cmd.specs.Serving.{HasServed, HasAccepted}
 
 -- How often disk, door and spawner have failed.
@@ -29,19 +30,20 @@ abbrev pub counts_of : Faults → FaultCounts
 counts_of f = fault_counts f.disk f.spawner
 
 -- The disk's history, what the door has accepted and its connections, the programs that were asked, and those that were run, each where its device tells it;
--- and how often the devices have failed.
+-- what was logged; and how often the devices have failed.
 pub record Devices : Type 0 where
   pub disk : Option History
   pub door : DoorState
   pub connections : Option (List Exchange)
   pub asked : Option (List Question)
   pub runs : Option (List Run)
+  pub log : LogState
   pub faults : Faults
 
--- These six.
-abbrev pub devices : Option History → DoorState → Option (List Exchange) → Option (List Question) → Option (List Run) → Faults → Devices
-devices disk door connections asked runs failed =
-    record { disk = disk; door = door; connections = connections; asked = asked; runs = runs; faults = failed }
+-- These seven.
+abbrev pub devices : Option History → DoorState → Option (List Exchange) → Option (List Question) → Option (List Run) → LogState → Faults → Devices
+devices disk door connections asked runs log failed =
+    record { disk = disk; door = door; connections = connections; asked = asked; runs = runs; log = log; faults = failed }
 
 -- When `serve` makes turns: how many follow each connection, and whether they are made while no client is there too.
 abbrev pub pace_of : Option ℕ → Bool → Pace
@@ -50,9 +52,9 @@ pace_of slice while_idle = record { slice = slice; while_idle = while_idle }
 -- The order is carried out, and comes to this.
 abbrev pub Does : Order → Outcome → Devices → Devices → Type 0
 Does (init version) outcome old new = Carried (IsBegun version) outcome old.disk new.disk
-Does (serve boot slice while_idle connections) outcome old new =
-    HasServed boot (pace_of slice while_idle) (counts_of old.faults) (counts_of new.faults) old.connections new.connections old.runs new.runs outcome
-    old.disk new.disk
+Does (serve boot slice while_idle connections quiet) outcome old new =
+    HasServed boot (pace_of slice while_idle) quiet (counts_of old.faults) (counts_of new.faults) old.connections new.connections old.runs new.runs
+    old.log new.log outcome old.disk new.disk
     × HasAccepted connections outcome old.door new.door
 Does (set pairs) outcome old new = Commanded (set_requests pairs) IsSettingsLine outcome old.runs new.runs old.disk new.disk
 Does (get keys) outcome old new = Carried (IsGot keys) outcome old.disk new.disk

@@ -21,8 +21,13 @@ use Rattle.core_commands.specs.Carried.{core_over}
 use Rattle.core_commands.specs.Handing.{not_opened}
 use Rattle.api_server.specs.Causes.{FaultCounts, AreCounted}
 use Rattle.api_server.specs.Rounds.{Round, AreExchanged}
+use Rattle.api_core.specs.Cores.{core_state}
+use Rattle.api_core.specs.declared.serving.Core.{Core}
+use Rattle.api_server.specs.Serving as server
 use Rattle.api_server.specs.Serving.{wanted, AreServed}
 use Rattle.api_server.specs.declared.pace.Pace.{Pace}
+use Rattle.event_lines.specs.Lines.{opened_line}
+use Rattle.event_lines.specs.Logs.{LogState, Logs, Tells}
 
 -- How `serve` ends once the store is open: with nothing to print, or because an accept failed.
 abbrev pub served : Bool → Outcome
@@ -37,10 +42,17 @@ pub record HasAccepted (connections : Option ℕ) (outcome : Outcome) (old new :
   pub kept : (IsErrOf outcome refused.Door → ⊥) → new.broken ≡ old.broken
   pub failed : IsErrOf outcome refused.Door → new.broken ≡ true
 
+-- From the world in which the store is open it was logged with which version and owing what it was opened, and then each of the events; or nothing,
+-- where that was ordered.
+abbrev pub LogsOpened : Bool → Image → World → List Event → LogState → LogState → Type 0
+LogsOpened true I W events log log_after = log_after ≡ log
+LogsOpened false I W events log log_after = (between : LogState) × Tells (opened_line W.version W.held.owed) log between × Logs I W events between log_after
+
 -- From the world in which the store is open: what boot makes, for each connection the turns before it, its request and a slice of turns, and the last turns,
 -- crash included; with the bytes of each connection, and the programs that were run. What failed in the events was counted.
-pub record ServesOn (I : Image) (folder : Folder) (W V : World) (boot : Bool) (pace : Pace) (fine : Bool) (before : CoreState)
-    (counts counts_after : FaultCounts) (told_before told_after : Option (List Exchange)) (ran_before ran_after : Option (List Run)) (old new : History)
+pub record ServesOn (I : Image) (folder : Folder) (W V : World) (boot : Bool) (pace : Pace) (quiet fine : Bool) (before : CoreState)
+    (counts counts_after : FaultCounts) (told_before told_after : Option (List Exchange)) (ran_before ran_after : Option (List Run))
+    (log log_after : LogState) (old new : History)
     : Type 0 where
   pub rounds : List Round
   pub events : List Event
@@ -50,40 +62,55 @@ pub record ServesOn (I : Image) (folder : Folder) (W V : World) (boot : Bool) (p
   pub now : CoreState
   pub made : Ran I folder W V events old new before now
   pub runs : RunsBy I W events ran_before ran_after
+  pub logged : LogsOpened quiet I W events log log_after
 
 -- By each image that was read with the store and that the folder makes, in each world at which the disk is with the store open.
-pub record Serves (boot : Bool) (pace : Pace) (fine : Bool) (store : Opened) (counts counts_after : FaultCounts)
-    (told_before told_after : Option (List Exchange)) (ran_before ran_after : Option (List Run)) (old new : History) : Type 0 where
+pub record Serves (boot : Bool) (pace : Pace) (quiet fine : Bool) (store : Opened) (counts counts_after : FaultCounts)
+    (told_before told_after : Option (List Exchange)) (ran_before ran_after : Option (List Run)) (log log_after : LogState) (old new : History) : Type 0 where
   pub each : (I : Image) → IsGood I → HoldsImage I store.image → (folder : Folder) → IsImageOfFolder I folder → (W V : World)
       → Kept I folder W V old (core_over store)
-      → ServesOn I folder W V boot pace fine (core_over store) counts counts_after told_before told_after ran_before ran_after old new
+      → ServesOn I folder W V boot pace quiet fine (core_over store) counts counts_after told_before told_after ran_before ran_after log log_after old new
 
 -- What comes after an opening: it is served where the opening succeeded; why it did not is reported as it is, and then no connection is
--- accepted, and no program run.
-abbrev pub FollowsOpening : Bool → Pace → Bool → Result Opened OpenError → Outcome → FaultCounts → FaultCounts → Option (List Exchange)
-    → Option (List Exchange) → Option (List Run) → Option (List Run) → Option History → Option History → Type 0
-FollowsOpening boot pace fine (Ok store) outcome n n' x x' r r' between d' =
-    (outcome ≡ served fine) × Moves between d' (Serves boot pace fine store n n' x x' r r')
-FollowsOpening boot pace fine (Err e) outcome n n' x x' r r' between d' = (outcome ≡ Err (not_opened e)) × (d' ≡ between) × (x' ≡ x) × (r' ≡ r)
+-- accepted, no program run, and nothing logged.
+abbrev pub FollowsOpening : Bool → Pace → Bool → Bool → Result Opened OpenError → Outcome → FaultCounts → FaultCounts → Option (List Exchange)
+    → Option (List Exchange) → Option (List Run) → Option (List Run) → LogState → LogState → Option History → Option History → Type 0
+FollowsOpening boot pace quiet fine (Ok store) outcome n n' x x' r r' l l' between d' =
+    (outcome ≡ served fine) × Moves between d' (Serves boot pace quiet fine store n n' x x' r r' l l')
+FollowsOpening boot pace quiet fine (Err e) outcome n n' x x' r r' l l' between d' =
+    (outcome ≡ Err (not_opened e)) × (d' ≡ between) × (x' ≡ x) × (r' ≡ r) × (l' ≡ l)
 
 -- The store is opened, with boot or without, and served.
-pub record IsServed (boot : Bool) (pace : Pace) (counts counts_after : FaultCounts) (told_before told_after : Option (List Exchange))
-    (ran_before ran_after : Option (List Run)) (outcome : Outcome) (d d' : Option History) : Type 0 where
+pub record IsServed (boot : Bool) (pace : Pace) (quiet : Bool) (counts counts_after : FaultCounts) (told_before told_after : Option (List Exchange))
+    (ran_before ran_after : Option (List Run)) (log log_after : LogState) (outcome : Outcome) (d d' : Option History) : Type 0 where
   pub opening : Result Opened OpenError
   pub fine : Bool
   pub between : Option History
   pub opens : Moves d between (Opens boot opening)
-  pub follows : FollowsOpening boot pace fine opening outcome counts counts_after told_before told_after ran_before ran_after between d'
+  pub follows : FollowsOpening boot pace quiet fine opening outcome counts counts_after told_before told_after ran_before ran_after log log_after between d'
 
--- It ran out of memory before it began: no connection was accepted, and no program run.
-pub record HasNotBegun (told_before told_after : Option (List Exchange)) (ran_before ran_after : Option (List Run)) (outcome : Outcome)
-    (d d' : Option History) : Type 0 where
+-- It ran out of memory before it began: no connection was accepted, no program run, and nothing logged.
+pub record HasNotBegun (told_before told_after : Option (List Exchange)) (ran_before ran_after : Option (List Run)) (log log_after : LogState)
+    (outcome : Outcome) (d d' : Option History) : Type 0 where
   pub outcome_is : outcome ≡ Err refused.Memory
   pub no_connections : told_after ≡ told_before
   pub no_runs : ran_after ≡ ran_before
+  pub no_lines : log_after ≡ log
   pub same : d' ≡ d
 
 -- The store was opened and served, or it ran out of memory before.
-abbrev pub HasServed : Bool → Pace → FaultCounts → FaultCounts → Option (List Exchange) → Option (List Exchange) → Option (List Run) → Option (List Run)
-    → Outcome → Option History → Option History → Type 0
-HasServed boot pace n n' x x' r r' outcome d d' = IsServed boot pace n n' x x' r r' outcome d d' ⊎ HasNotBegun x x' r r' outcome d d'
+abbrev pub HasServed : Bool → Pace → Bool → FaultCounts → FaultCounts → Option (List Exchange) → Option (List Exchange) → Option (List Run)
+    → Option (List Run) → LogState → LogState → Outcome → Option History → Option History → Type 0
+HasServed boot pace quiet n n' x x' r r' l l' outcome d d' =
+    IsServed boot pace quiet n n' x x' r r' l l' outcome d d' ⊎ HasNotBegun x x' r r' l l' outcome d d'
+
+-- ---- for private clauses
+
+-- The core of the open store is served: it is logged with which version and owing what, and then what the server does; or nothing.
+abbrev pub ServesCore : Bool → Pace → Bool → Bool → Core → Core → FaultCounts → FaultCounts → Option (List Exchange) → Option (List Exchange)
+    → Option (List Run) → Option (List Run) → LogState → LogState → History → History → Type 0
+ServesCore boot pace true fine c now n n' x x' r r' l l' old new =
+    (l' ≡ l) × (m m' : LogState) × server.Serves pace boot fine c now n n' x x' r r' m m' old new
+ServesCore boot pace false fine c now n n' x x' r r' l l' old new =
+    (m : LogState) × Tells (opened_line (core_state c).place.version (core_state c).held.owed) l m
+    × server.Serves pace boot fine c now n n' x x' r r' m l' old new

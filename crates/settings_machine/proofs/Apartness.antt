@@ -172,7 +172,7 @@ module _ (I : Image) (tx : List ℕ) where
   next_other : (W : World) (e : Event) → is_event_on tx e ≡ false → pending_in (next I W e) ≡ pending_in W
   next_other W (Opened boot o) else' = ap (λ (m : Maps). get m tx) (opening_keeps I W boot o)
   next_other W (Asked q o) else' = request_other W q o else'
-  next_other W Unread else' = refl
+  next_other W (Unread why) else' = refl
   next_other W (Turned a) else' = ap (λ (m : Maps). get m tx) (turn_keeps I W a)
   next_other W (Began version) else' = absurd (cc else')
   next_other W (Moved version held) else' = absurd (cc else')
@@ -246,7 +246,7 @@ module _ (I : Image) (tx : List ℕ) where
     next_own : (e : Event) → is_event_on tx e ≡ true → is_guarded_event e ≡ false → pending_in (next I W e) ≡ pending_in (next I X e)
     next_own (Opened boot o) is plain = absurd (cc is)
     next_own (Asked q o) is plain = request_own q o is plain
-    next_own Unread is plain = absurd (cc is)
+    next_own (Unread why) is plain = absurd (cc is)
     next_own (Turned a) is plain = absurd (cc is)
     next_own (Began version) is plain = refl
     next_own (Moved version held) is plain = refl

@@ -288,7 +288,7 @@ module _ (I : Image) (image : IsGood I) (S : List ℕ → Type 0) (are_covered :
   pub next_good : (W : World) (e : Event) → is_served e ≡ true → IsGoodWorld W → IsGoodWorld (next I W e)
   next_good W (Opened boot o) served good = opening_good W boot o good
   next_good W (Asked q o) served good = request_good I S are_covered W q o good
-  next_good W Unread served good = good
+  next_good W (Unread why) served good = good
   next_good W (Turned a) served good = turn_good W a good
   next_good W (Began version) served good = absurd (cc served)
   next_good W (Moved version held) served good = absurd (cc served)

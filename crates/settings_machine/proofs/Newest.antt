@@ -126,7 +126,7 @@ module _ (I : Image) where
   unfolding turn_next
   next_follows W (Opened boot o) = lead_follows (Opened boot o) W.job _ _ refl (opening_leads I W boot o)
   next_follows W (Asked q o) = lead_follows (Asked q o) W.job _ _ refl (request_leads I W q o)
-  next_follows W Unread = lead_follows Unread W.job _ _ refl (same_leads I W.job W.held.owed)
+  next_follows W (Unread why) = lead_follows (Unread why) W.job _ _ refl (same_leads I W.job W.held.owed)
   next_follows W (Turned a) = turn_follows W W.job a refl
   next_follows W (Began version) = Idles
   next_follows W (Moved version held) = Idles

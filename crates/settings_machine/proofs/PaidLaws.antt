@@ -168,7 +168,7 @@ module _ (I : Image) (image : IsGood I) where
         subst (λ (N : World). IsPaid I N f) (taken_is W o both.0) (opened_paid W true (not_running W.job both.1) (inr refl))
     booted_paid W (Opened false o) is = absurd (cc is)
     booted_paid W (Asked q o) is = absurd (cc is)
-    booted_paid W Unread is = absurd (cc is)
+    booted_paid W (Unread why) is = absurd (cc is)
     booted_paid W (Turned a) is = absurd (cc is)
     booted_paid W (Began version) is = all_paid (next I W (Began version)) refl refl f covered
     booted_paid W (Moved version held) is = all_paid (next I W (Moved version held)) refl refl f covered

@@ -135,7 +135,7 @@ module _ (I : Image) where
   unfolding turn_next
   next_runs W (Opened boot o) = no_run W _ (opening_runs W boot o)
   next_runs W (Asked q o) = no_run W _ (request_runs W q o)
-  next_runs W Unread = no_run W _ refl
+  next_runs W (Unread why) = no_run W _ refl
   next_runs W (Turned a) = turned_runs W W.job a
   next_runs W (Began version) = no_run W _ refl
   next_runs W (Moved version held) = no_run W _ refl
@@ -144,7 +144,7 @@ module _ (I : Image) where
   none_of_rest : (e : Event) (j : Job) → is_running j ≡ false → run_of e j ≡ []
   none_of_rest (Opened boot o) j rests = refl
   none_of_rest (Asked q o) j rests = refl
-  none_of_rest Unread j rests = refl
+  none_of_rest (Unread why) j rests = refl
   none_of_rest (Turned a) j rests = rests_none a j rests
   none_of_rest (Began version) j rests = refl
   none_of_rest (Moved version held) j rests = refl

@@ -346,7 +346,7 @@ module _ (I : Image) where
   unfolding turn_next
   next_history W (Opened boot o) cs history = led W.job _ _ cs (opening_leads W boot o) history
   next_history W (Asked q o) cs history = led W.job _ _ cs (request_leads W q o) history
-  next_history W Unread cs history = led W.job _ _ cs (same_leads W.job W.held.owed) history
+  next_history W (Unread why) cs history = led W.job _ _ cs (same_leads W.job W.held.owed) history
   next_history W (Turned a) cs history = turned W W.job a cs refl history
   next_history W (Began version) cs history = led W.job Idle owed.All cs Rests history
   next_history W (Moved version held) cs history = led W.job Idle owed.All cs Rests history

@@ -244,7 +244,7 @@ module _ (I : Image) where
   next_settles : (W : World) (e : Event) → leaves_owed e ≡ false → WillSettle W → WillSettle (next I W e)
   next_settles W (Opened boot o) else' settles = absurd (cc else')
   next_settles W (Asked q o) else' settles = request_settles W q o else' settles
-  next_settles W Unread else' settles = settles
+  next_settles W (Unread why) else' settles = settles
   next_settles W (Turned a) else' settles = turn_settles W a settles
   next_settles W (Began version) else' settles = absurd (cc else')
   next_settles W (Moved version held) else' settles = absurd (cc else')

@@ -150,7 +150,7 @@ module _ (I : Image) where
   next_touches : (W : World) (e : Event) (path : Names) → Touches W (next I W e) path
   next_touches W (Opened boot o) path = inl (ap (λ (m : Files). get m path) (opening_etc W boot o))
   next_touches W (Asked q o) path = let k : Keeps I W (next I W (Asked q o)) = request_keeps I W q o in inl (ap (λ (m : Files). get m path) k.etc)
-  next_touches W Unread path = inl refl
+  next_touches W (Unread why) path = inl refl
   next_touches W (Turned a) path = turn_touches W a path
   next_touches W (Began version) path = inl refl
   next_touches W (Moved version held) path = inl refl

@@ -28,7 +28,7 @@ commits_alone _ o = false
 abbrev pub leaves_owed : Event → Bool
 leaves_owed (Opened boot o) = true
 leaves_owed (Asked q o) = commits_alone q o
-leaves_owed Unread = false
+leaves_owed (Unread why) = false
 leaves_owed (Turned a) = false
 leaves_owed (Began version) = true
 leaves_owed (Moved version held) = true

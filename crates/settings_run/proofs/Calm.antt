@@ -23,7 +23,7 @@ module _ (I : Image) where
   stays_failed W c (Turned a ∷ es) failed driven = let stopped : is_running W.job ≡ false = ap is_running failed in absurd (cc (driven.0, stopped))
   stays_failed W c (Opened boot o ∷ es) failed driven = absurd driven
   stays_failed W c (Asked q o ∷ es) failed driven = absurd driven
-  stays_failed W c (Unread ∷ es) failed driven = absurd driven
+  stays_failed W c (Unread why ∷ es) failed driven = absurd driven
   stays_failed W c (Began version ∷ es) failed driven = absurd driven
   stays_failed W c (Moved version held ∷ es) failed driven = absurd driven
 
@@ -39,7 +39,7 @@ module _ (I : Image) where
         absurd (cc (failed, idle))
   driven_calm W (Opened boot o ∷ es) driven idle = absurd driven
   driven_calm W (Asked q o ∷ es) driven idle = absurd driven
-  driven_calm W (Unread ∷ es) driven idle = absurd driven
+  driven_calm W (Unread why ∷ es) driven idle = absurd driven
   driven_calm W (Began version ∷ es) driven idle = absurd driven
   driven_calm W (Moved version held ∷ es) driven idle = absurd driven
 

@@ -37,9 +37,11 @@ use Rattle.core_commands.specs.Verifying.{IsVerified, Verifies, VerifiesAfter}
 use Rattle.settings_cmd.specs.Gets.{Answers, AnswersOpening}
 use Rattle.api_server.specs.Causes.{FaultCounts}
 use Rattle.api_server.specs.declared.pace.Pace.{Pace}
+use Rattle.event_lines.specs.Logs.{LogState}
 use Rattle.settings_cmd.specs.Serving.{served, ServesOn, Serves, FollowsOpening as FollowsServing}
 use Rattle.settings_run.specs.Laws.{Begins, IsRun, IsUnopened, RequestEvents, RequestsRun, SetsRun, AppliesRun, ServeEvents, ServesRun, GetEvents, GetsRun}
-use Rattle.settings_run.specs.Laws.{VerifyEvents, VerifiesRun}
+use Rattle.settings_run.specs.Laws.{VerifyEvents, VerifiesRun, LogsAll}
+use Rattle.settings_run.proofs.Logged.{logs_all, logs_unopened}
 use Rattle.settings_run.proofs.Served.{comes_served, all_served}
 
 -- An opening begins no job.
@@ -154,18 +156,22 @@ module _ (I : Image) (good : IsGood I) (folder : Folder) (is : IsImageOfFolder I
 
   -- ---- serve
 
-  module _ (boot : Bool) (pace : Pace) (n n' : FaultCounts) (x x' : Option (List Exchange)) (outcome : Outcome)
+  module _ (boot : Bool) (pace : Pace) (quiet : Bool) (n n' : FaultCounts) (x x' : Option (List Exchange)) (l l' : LogState) (outcome : Outcome)
       (r r' : Option (List Run)) (fine : Bool) where
+    -- The events, which were logged.
+    abbrev serves_as : List Event → Type 0
+    serves_as events = ServeEvents I W boot pace n n' x x' outcome events × LogsAll quiet I W events l l'
+
     serves_on : (store : answer.Opened) (between : History) → outcome ≡ served fine → Opens boot (Ok store) old between
-        → Serves boot pace fine store n n' x x' r r' between new
-        → IsRun I folder W (ServeEvents I W boot pace n n' x x' outcome) r r' old new
+        → Serves boot pace quiet fine store n n' x x' r r' l l' between new
+        → IsRun I folder W serves_as r r' old new
     serves_on store between told opens serves =
         let run = opening_run boot store between opens in
-        let s : ServesOn I folder (opened I W boot) (opened I W boot) boot pace fine (core_over store) n n' x x' r r' between new =
+        let s : ServesOn I folder (opened I W boot) (opened I W boot) boot pace quiet fine (core_over store) n n' x x' r r' l l' between new =
         serves.each I good run.1 folder is (opened I W boot) (opened I W boot) (open_kept boot store between run.0) in
         record {
           events = Opened boot Succeeded ∷ s.events;
-          form_is = inl (fine, s.rounds, s.events, refl, s.are, s.counted, s.exchanged, told);
+          form_is = (inl (fine, s.rounds, s.events, refl, s.are, s.counted, s.exchanged, told), logs_all quiet I W boot s.events l l' s.logged);
           runs_to = runs_to I good folder W boot s.events old between new store.place store.held (core_over store) s.now idle run.0 refl
               (all_served I pace boot fine false (opened I W boot) s.rounds s.events s.are) s.made;
           touches = runs_touch I folder W boot s.events old between new store.place store.held (core_over store) s.now run.0 s.made;
@@ -173,14 +179,14 @@ module _ (I : Image) (good : IsGood I) (folder : Folder) (is : IsImageOfFolder I
         }
 
     pub by_serving : (result : Result answer.Opened OpenError) (between : Option History) → Moves (Some old) between (Opens boot result)
-        → FollowsServing boot pace fine result outcome n n' x x' r r' between (Some new) → IsRun I folder W (ServeEvents I W boot pace n n' x x' outcome) r r'
-        old new
+        → FollowsServing boot pace quiet fine result outcome n n' x x' r r' l l' between (Some new) → IsRun I folder W serves_as r r' old new
     by_serving (Ok store) None opens follows = absurd opens.told
     by_serving (Ok store) (Some mid) opens follows = serves_on store mid follows.0 opens.told follows.1.told
     by_serving (Err e) between opens follows =
         let here : Moves (Some old) (Some new) (Opens boot (Err e)) = subst (λ (d : Option History). Moves (Some old) d (Opens boot (Err e))) (sym follows.1)
         opens in
-        unopened_run (ServeEvents I W boot pace n n' x x' outcome) r r' boot outcome (λ events un. inr (un, follows.2)) follows.3 e follows.0 here.told
+        unopened_run serves_as r r' boot outcome
+        (λ events un. (inr (un, follows.2), logs_unopened quiet I W boot outcome events l l' follows.4 un)) follows.3 e follows.0 here.told
 
 pub requests_run : (qs : List Request) (Tells : World → List ℕ → Type 0) → RequestsRun qs Tells
 requests_run qs Tells I good folder is W outcome r r' old new begins carries =
@@ -193,8 +199,9 @@ pub applies_run : AppliesRun
 applies_run all = requests_run (apply_requests all) IsJobLine
 
 pub serves_run : ServesRun
-serves_run I good folder is W boot pace n n' x x' outcome r r' old new begins serves =
-    by_serving I good folder is W old new begins boot pace n n' x x' outcome r r' serves.fine serves.opening serves.between serves.opens serves.follows
+serves_run I good folder is W boot pace quiet n n' x x' l l' outcome r r' old new begins serves =
+    by_serving I good folder is W old new begins boot pace quiet n n' x x' l l' outcome r r' serves.fine serves.opening serves.between serves.opens
+    serves.follows
 
 -- ---- get
 

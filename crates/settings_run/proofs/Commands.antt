@@ -30,7 +30,8 @@ use Rattle.api_server.specs.declared.pace.Pace.{Pace}
 use Rattle.settings_cmd.specs.Serving.{FollowsOpening as FollowsServing, IsServed, HasServed}
 use Rattle.settings_cmd.specs.Does.{Devices, counts_of, pace_of}
 use Rattle.settings_run.specs.Laws as runs
-use Rattle.settings_run.specs.Laws.{RequestEvents, ServeEvents, GetEvents, VerifyEvents}
+use Rattle.settings_run.specs.Laws.{RequestEvents, ServeEvents, LogsAll, GetEvents, VerifyEvents}
+use Rattle.settings_run.proofs.Logged.{logs_nothing}
 use Rattle.settings_run.proofs.CommandRuns.{requests_run, serves_run, gets_run, verifies_run}
 use Rattle.settings_run.specs.Events.{Makes}
 use Rattle.settings_run.specs.Headline.{RunsOver, RunsOverAll}
@@ -181,27 +182,34 @@ module _ (b n : Devices) (outcome : Outcome) where
 
   -- ---- serve
 
-  module _ (boot : Bool) (slice : Option ℕ) (while_idle : Bool) (connections : Option ℕ) where
+  module _ (boot : Bool) (slice : Option ℕ) (while_idle : Bool) (connections : Option ℕ) (quiet : Bool) where
     abbrev pub pace : Pace
     pace = pace_of slice while_idle
 
-    served : (old new : History) → IsServed boot pace (counts_of b.faults) (counts_of n.faults) b.connections n.connections b.runs n.runs outcome (Some old)
-        (Some new)
-        → RunsOverAll (serve boot slice while_idle connections) b n outcome old new
+    -- The events, which were logged.
+    abbrev serves_as : Image → World → List Event → Type 0
+    serves_as I W events =
+        ServeEvents I W boot pace (counts_of b.faults) (counts_of n.faults) b.connections n.connections outcome events × LogsAll quiet I W events b.log n.log
+
+    abbrev is_served : Option History → Option History → Type 0
+    is_served = IsServed boot pace quiet (counts_of b.faults) (counts_of n.faults) b.connections n.connections b.runs n.runs b.log n.log outcome
+
+    served : (old new : History) → is_served (Some old) (Some new) → RunsOverAll (serve boot slice while_idle connections quiet) b n outcome old new
     served old new is I good folder image W at =
-        let run : runs.IsRun I folder W (ServeEvents I W boot pace (counts_of b.faults) (counts_of n.faults) b.connections n.connections outcome) b.runs n.runs
-        old new =
-        serves_run I good folder image W boot pace (counts_of b.faults) (counts_of n.faults) b.connections n.connections outcome b.runs n.runs old new at is in
-        inl (run_of (serve boot slice while_idle connections) I good folder W b n outcome old new at run.events (inl run.form_is) run.runs_to run.ran
-        (own_elsewhere (serve boot slice while_idle connections) I run.events old new (λ directory path may. may) run.touches)
+        let run : runs.IsRun I folder W (serves_as I W) b.runs n.runs old new =
+        serves_run I good folder image W boot pace quiet (counts_of b.faults) (counts_of n.faults) b.connections n.connections b.log n.log outcome b.runs n.runs
+        old new at is in
+        inl (run_of (serve boot slice while_idle connections quiet) I good folder W b n outcome old new at run.events (inl run.form_is.0, run.form_is.1)
+        run.runs_to run.ran
+        (own_elsewhere (serve boot slice while_idle connections quiet) I run.events old new (λ directory path may. may) run.touches)
         (λ all. absurd (cc all)))
 
-    served_by : (d d' : Option History) → IsServed boot pace (counts_of b.faults) (counts_of n.faults) b.connections n.connections b.runs n.runs outcome d d'
-        → Moves d d' (RunsOverAll (serve boot slice while_idle connections) b n outcome)
+    served_by : (d d' : Option History) → is_served d d' → Moves d d' (RunsOverAll (serve boot slice while_idle connections quiet) b n outcome)
     served_by d d' is = by is.opening is.between is.opens is.follows where
       by : (opening : Result Opened OpenError) (between : Option History) → Moves d between (Opens boot opening)
-          → FollowsServing boot pace is.fine opening outcome (counts_of b.faults) (counts_of n.faults) b.connections n.connections b.runs n.runs between d'
-          → Moves d d' (RunsOverAll (serve boot slice while_idle connections) b n outcome)
+          → FollowsServing boot pace quiet is.fine opening outcome (counts_of b.faults) (counts_of n.faults) b.connections n.connections b.runs n.runs
+          b.log n.log between d'
+          → Moves d d' (RunsOverAll (serve boot slice while_idle connections quiet) b n outcome)
       by (Ok store) between opens follows =
           moves_then (λ old mid new o f. served old new (record {
             opening = Ok store;
@@ -219,12 +227,13 @@ module _ (b n : Devices) (outcome : Outcome) where
             between = Some new;
             opens = record { told = o };
             follows =
-                (follows.0, refl, follows.2, follows.3);
+                (follows.0, refl, follows.2, follows.3, follows.4);
           }))
           (subst (λ (t : Option History). Moves d t (Opens boot (Err e))) (sym follows.1) opens)
 
-    pub serves : (d d' : Option History) → HasServed boot pace (counts_of b.faults) (counts_of n.faults) b.connections n.connections b.runs n.runs outcome d d'
-        → Moves d d' (RunsOverAll (serve boot slice while_idle connections) b n outcome)
+    pub serves : (d d' : Option History)
+        → HasServed boot pace quiet (counts_of b.faults) (counts_of n.faults) b.connections n.connections b.runs n.runs b.log n.log outcome d d'
+        → Moves d d' (RunsOverAll (serve boot slice while_idle connections quiet) b n outcome)
     serves d d' (inl is) = served_by d d' is
-    serves d d' (inr none) = unmoved (serve boot slice while_idle connections) d d' none.same none.no_runs
-        (λ I folder W h. inr ((none.outcome_is, refl), none.no_connections))
+    serves d d' (inr none) = unmoved (serve boot slice while_idle connections quiet) d d' none.same none.no_runs
+        (λ I folder W h. (inr ((none.outcome_is, refl), none.no_connections), logs_nothing quiet I W b.log n.log none.no_lines))

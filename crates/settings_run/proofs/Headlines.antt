@@ -20,9 +20,9 @@ module _ (words : List (List ℕ)) (outcome : Outcome) (b n : Devices) (unrun : 
   runs (init version) spells =
       inits b n outcome version b.disk n.disk (unrun (init_runs_nothing words version spells))
       (does (init version) spells)
-  runs (serve boot slice while_idle connections) spells =
-      serves b n outcome boot slice while_idle connections b.disk n.disk
-      (does (serve boot slice while_idle connections) spells).0
+  runs (serve boot slice while_idle connections quiet) spells =
+      serves b n outcome boot slice while_idle connections quiet b.disk n.disk
+      (does (serve boot slice while_idle connections quiet) spells).0
   runs (set pairs) spells = sets b n outcome pairs b.disk n.disk (does (set pairs) spells)
   runs (get keys) spells =
       gets b n outcome keys (unrun (get_runs_nothing words keys spells)) b.disk n.disk

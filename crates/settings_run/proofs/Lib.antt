@@ -11,6 +11,7 @@ pub mod Moves
 pub mod Inputs
 pub mod Words
 pub mod Headlines
+pub mod Logged
 pub mod CommandRuns
 pub mod Keeping
 pub mod MoveRuns

@@ -44,7 +44,8 @@ put_before l k d (member m e ms) less before = by (bytes_cmp k m) where
 put_ordered : (k : List ℕ) (d : Data) (ms : Members) → IsOrdered d → AreOrdered ms → AreOrdered (put k d ms)
 put_ordered k d no_members one all = (one, tt, tt)
 put_ordered k d (member l e ms) one all = by (bytes_cmp k l) refl (put_ordered k d ms one all.2) where
-  by : (o : Ordering) → bytes_cmp k l ≡ o → AreOrdered (put k d ms) → AreOrdered (match_ordering o (member k d (member l e ms)) (member l d ms) (member l e (put k d ms)))
+  by : (o : Ordering) → bytes_cmp k l ≡ o → AreOrdered (put k d ms)
+      → AreOrdered (match_ordering o (member k d (member l e ms)) (member l d ms) (member l e (put k d ms)))
   by Less is more = (one, is, all)
   by Equal is more = (one, all.1, all.2)
   by Greater is more = (all.0, put_before l k d ms (bytes_total.antisymm l k ∙ ap ordering_reverse is) all.1, more)
@@ -137,7 +138,11 @@ some_leaf (array ds) = record { first = ([], array ds); others = []; are = refl 
 some_leaf (object no_members) = record { first = ([], object no_members); others = []; are = refl }
 some_leaf (object (member k d ms)) =
     let f = some_leaf d in
-    record { first = below k f.first; others = map (below k) f.others ++ members_leaves ms; are = ap (λ (l : List Entry). map (below k) l ++ members_leaves ms) f.are }
+    record {
+      first = below k f.first;
+      others = map (below k) f.others ++ members_leaves ms;
+      are = ap (λ (l : List Entry). map (below k) l ++ members_leaves ms) f.are;
+    }
 
 -- The leaves of a member begin with its name.
 member_first : (k : List ℕ) (d : Data) (ms : Members) → HasFirst (members_leaves (member k d ms))
@@ -171,13 +176,16 @@ leaf_value (e ∷ es) = e.1
 mutual
   same_members : (ms ns : Members) → AreOrdered ms → AreOrdered ns → members_leaves ms ≡ members_leaves ns → ms ≡ ns
   same_members no_members no_members one other same = refl
-  same_members no_members (member l e ns) one other same = let f = member_first l e ns in let clash : [] ≡ f.first ∷ f.others = same ∙ f.are in absurd (cc clash)
-  same_members (member k d ms) no_members one other same = let f = member_first k d ms in let clash : [] ≡ f.first ∷ f.others = sym same ∙ f.are in absurd (cc clash)
+  same_members no_members (member l e ns) one other same =
+      let f = member_first l e ns in let clash : [] ≡ f.first ∷ f.others = same ∙ f.are in absurd (cc clash)
+  same_members (member k d ms) no_members one other same =
+      let f = member_first k d ms in let clash : [] ≡ f.first ∷ f.others = sym same ∙ f.are in absurd (cc clash)
   same_members (member k d ms) (member l e ns) one other same =
       let f = some_leaf d in
       let g = some_leaf e in
       let fronts : below k f.first ∷ (map (below k) f.others ++ members_leaves ms) ≡ below l g.first ∷ (map (below l) g.others ++ members_leaves ns) =
-      sym (ap (λ (es : List Entry). map (below k) es ++ members_leaves ms) f.are) ∙ same ∙ ap (λ (es : List Entry). map (below l) es ++ members_leaves ns) g.are in
+      sym (ap (λ (es : List Entry). map (below k) es ++ members_leaves ms) f.are) ∙ same
+      ∙ ap (λ (es : List Entry). map (below l) es ++ members_leaves ns) g.are in
       let heads : below k f.first ≡ below l g.first = cc fronts in
       let paths : k ∷ f.first.0 ≡ l ∷ g.first.0 = ap (λ (x : Entry). x.0) heads in
       let names : k ≡ l = cc paths in

@@ -57,7 +57,7 @@ module _ (run : Invocation) (I : Image) (folder : Folder) (W : World) (rests : R
   by_order (apply all) to_apply (inl r) = paid_off (apply all) refl r
       (owes_nothing I W (apply_requests all) IsJobLine (apply_pays_all I (opened I W false) idle all) run.promised.outcome r.events ok r.machine.made)
   by_order (init version) to_apply is = absurd (false≢true to_apply)
-  by_order (serve boot slice while_idle connections) to_apply is = absurd (false≢true to_apply)
+  by_order (serve boot slice while_idle connections quiet) to_apply is = absurd (false≢true to_apply)
   by_order (get keys) to_apply is = absurd (false≢true to_apply)
   by_order verify to_apply is = absurd (false≢true to_apply)
   by_order check to_apply is = absurd (false≢true to_apply)

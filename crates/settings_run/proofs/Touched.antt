@@ -72,7 +72,7 @@ module _ (I : Image) (events : List Event) (tree : Tree) (version : Version) (di
 
 pub touches_within : TouchesWithin
 touches_within (init to) I events tree version directory leads path may = absurd may
-touches_within (serve boot slice while_idle connections) I events tree version directory leads path may =
+touches_within (serve boot slice while_idle connections quiet) I events tree version directory leads path may =
     change_within I events tree version directory leads path may
 touches_within (set pairs) I events tree version directory leads path may = change_within I events tree version directory leads path may
 touches_within (get keys) I events tree version directory leads path may = change_within I events tree version directory leads path may

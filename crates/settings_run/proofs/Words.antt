@@ -19,7 +19,7 @@ one_word (word ∷ words) order other one two = sym one.0 ∙ two.0
 runs_nothing : (words : List (List ℕ)) (order : Order) → Spells words order → (word_of order ≡ codes "serve" → ⊥) → (word_of order ≡ codes "set" → ⊥)
     → (word_of order ≡ codes "apply" → ⊥) → RunsNothing words
 runs_nothing words order spells no_serve no_set no_apply = record {
-  serves_not = λ boot slice while_idle connections is. no_serve (one_word words order (serve boot slice while_idle connections) spells is);
+  serves_not = λ boot slice while_idle connections quiet is. no_serve (one_word words order (serve boot slice while_idle connections quiet) spells is);
   sets_not = λ pairs is. no_set (one_word words order (set pairs) spells is);
   applies_not = λ all is. no_apply (one_word words order (apply all) spells is);
 }

@@ -16,7 +16,7 @@ use Rattle.core_commands.specs.Carried.{set_requests, apply_requests}
 use Rattle.core_commands.specs.Lines.{IsSettingsLine, IsJobLine}
 use Rattle.settings_cmd.specs.Does.{Devices, counts_of, pace_of}
 use Rattle.settings_cmd.specs.Releases.{IsReleaseIn}
-use Rattle.settings_run.specs.Laws.{RequestEvents, ServeEvents, GetEvents, VerifyEvents, GenerateEvents, ProvisionEvents}
+use Rattle.settings_run.specs.Laws.{RequestEvents, ServeEvents, LogsAll, GetEvents, VerifyEvents, GenerateEvents, ProvisionEvents}
 
 -- The release of the image, and what its migrations made, led from W to the version by these events: one, or none where the store was there
 -- in format 2.
@@ -36,12 +36,12 @@ abbrev pub IsUnbegun : Outcome → List Event → Type 0
 IsUnbegun outcome events = (outcome ≡ Err refused.Memory) × (events ≡ [])
 
 -- What each command makes of W, where a store is there, on a disk with this history. `init`, `check`, `prune` and `load` make no event. The connections
--- that the door has accepted, the programs that were asked, and how often the devices have failed are those before and after.
+-- that the door has accepted, the programs that were asked, what was logged, and how often the devices have failed are those before and after.
 abbrev pub Makes : Order → Image → Folder → World → Devices → Devices → Outcome → History → List Event → Type 0
 Makes (init version) I folder W b n outcome old events = events ≡ []
-Makes (serve boot slice while_idle connections) I folder W b n outcome old events =
-    ServeEvents I W boot (pace_of slice while_idle) (counts_of b.faults) (counts_of n.faults) b.connections n.connections outcome events
-    ⊎ (IsUnbegun outcome events × (n.connections ≡ b.connections))
+Makes (serve boot slice while_idle connections quiet) I folder W b n outcome old events =
+    (ServeEvents I W boot (pace_of slice while_idle) (counts_of b.faults) (counts_of n.faults) b.connections n.connections outcome events
+    ⊎ (IsUnbegun outcome events × (n.connections ≡ b.connections))) × LogsAll quiet I W events b.log n.log
 Makes (set pairs) I folder W b n outcome old events = RequestEvents I W (set_requests pairs) IsSettingsLine outcome events ⊎ IsUnbegun outcome events
 Makes (get keys) I folder W b n outcome old events = GetEvents I W keys outcome events ⊎ IsUnbegun outcome events
 Makes (apply all) I folder W b n outcome old events = RequestEvents I W (apply_requests all) IsJobLine outcome events ⊎ IsUnbegun outcome events

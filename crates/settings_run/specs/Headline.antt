@@ -39,7 +39,7 @@ pub record IsMachines (order : Order) (I : Image) (folder : Folder) (W : World) 
 
 -- Whether a command acknowledges all its events by ending well. `serve` acknowledges requests alone, each by its reply.
 abbrev pub acknowledges_all : Order → Bool
-acknowledges_all (serve boot slice while_idle connections) = false
+acknowledges_all (serve boot slice while_idle connections quiet) = false
 acknowledges_all _ = true
 
 -- A crash at any moment recovers to a prefix of the events. For each prefix there is a moment at which its events were made: from it on a crash recovers

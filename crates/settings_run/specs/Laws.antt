@@ -1,5 +1,5 @@
 -- Laws of commands: the run of the machine that each makes, crash included.
-use Rattle.std.specs.Prelude.{◌≡◌, ◌⊎◌, ℕ, Bool, false, List, [], ◌∷◌, ◌++◌, Option, Some, Ok, Err, OnOk, codes}
+use Rattle.std.specs.Prelude.{◌≡◌, ◌⊎◌, ℕ, Bool, true, false, List, [], ◌∷◌, ◌++◌, Option, Some, Ok, Err, OnOk, codes}
 use Rattle.std.specs.FinMap.{get}
 use Rattle.outside.specs.Exchange.{Exchange}
 use Rattle.outside.specs.History.{History, tree_of}
@@ -34,6 +34,7 @@ use Rattle.api_server.specs.Causes.{FaultCounts, AreCounted}
 use Rattle.api_server.specs.Rounds.{Round, AreExchanged}
 use Rattle.api_server.specs.Serving.{AreServed}
 use Rattle.api_server.specs.declared.pace.Pace.{Pace}
+use Rattle.event_lines.specs.Logs.{LogState, Logs}
 use Rattle.version_links.specs.declared.version.Version.{Version}
 use Rattle.release_file.specs.declared.release.Release.{Release}
 use Rattle.migrate_chain.specs.Tasks.{Mapped}
@@ -102,12 +103,18 @@ ServeEvents I W boot pace n n' x x' outcome events =
     × AreServed I pace boot fine false (opened I W boot) rounds later × AreCounted later n n' × Moves x x' (AreExchanged rounds) × (outcome ≡ served fine))
     ⊎ (IsUnopened boot outcome events × (x' ≡ x))
 
--- A `serve` is a run of these events.
+-- What a `serve` has logged is its events; or nothing, where that was ordered.
+abbrev pub LogsAll : Bool → Image → World → List Event → LogState → LogState → Type 0
+LogsAll true I W events l l' = l' ≡ l
+LogsAll false I W events l l' = Logs I W events l l'
+
+-- A `serve` is a run of these events, which were logged.
 abbrev pub ServesRun : Type 0
-ServesRun = (I : Image) → IsGood I → (folder : Folder) → IsImageOfFolder I folder → (W : World) (boot : Bool) (pace : Pace) (n n' : FaultCounts)
-    (x x' : Option (List Exchange)) (outcome : Outcome) (ran_before ran_after : Option (List Run)) (old new : History) → Begins I folder W old
-    → IsServed boot pace n n' x x' ran_before ran_after outcome (Some old) (Some new)
-    → IsRun I folder W (ServeEvents I W boot pace n n' x x' outcome) ran_before ran_after old new
+ServesRun = (I : Image) → IsGood I → (folder : Folder) → IsImageOfFolder I folder → (W : World) (boot : Bool) (pace : Pace) (quiet : Bool)
+    (n n' : FaultCounts) (x x' : Option (List Exchange)) (l l' : LogState) (outcome : Outcome) (ran_before ran_after : Option (List Run))
+    (old new : History) → Begins I folder W old
+    → IsServed boot pace quiet n n' x x' ran_before ran_after l l' outcome (Some old) (Some new)
+    → IsRun I folder W (λ events. ServeEvents I W boot pace n n' x x' outcome events × LogsAll quiet I W events l l') ran_before ran_after old new
 
 -- ---- get
 

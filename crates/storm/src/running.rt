@@ -71,7 +71,8 @@ fn run_over(
     requires unused { (state door.old).accepted ≡ 0 }
 {
     let first = set_fault(alloc, disk, step.fault)?;
-    let status = run(alloc, &step.words, disk, spawner, door, out);
+    let mut log = MemorySink::new(alloc);
+    let status = run(alloc, &step.words, disk, spawner, door, out, &mut log);
     disk.fail_calls(Vec::new(alloc));
     Ok(Seen {
         status,

@@ -5,7 +5,7 @@ use Rattle.api_server.proofs.idling.idle.Goals as goal
 
 pub loop-turn-init : goal.loop-turn-init
 loop-turn-init g c = record {
-  idles = moves_stay (λ h. idled_none c.args.while_idle c.args.core.now _ _ _ h);
+  idles = moves_stay (λ h. idled_none c.args.while_idle c.args.core.now _ _ _ _ h);
   sound = c.requires;
   same = refl;
   told = refl;
@@ -22,13 +22,12 @@ loop-turn-preserved g c =
     record {
       idles = moves_then
           (λ old between new idles turns. idled_more c.args.while_idle (c.is_idle.ensures.allowed c.if-not-is_idle.false) c.args.core.now c.loop-turn.core
-          c.turns.new.self
-          _ _ _ _ _ _ _ _ _ old between new idles turn.disk_faults turn.spawner_faults turns) was.idles turn.turns;
+          c.turns.new.core _ _ _ _ _ _ _ _ _ old between new idles turns) was.idles turn.turns;
       sound = turn.sound;
       same = c.is_idle.ensures.same ∙ was.same;
       told = c.is_idle.ensures.told ∙ was.told;
-      disk_later = omega (arith, was.disk_later, turn.disk_faults.later);
-      spawner_later = omega (arith, was.spawner_later, turn.spawner_faults.later);
+      disk_later = omega (arith, was.disk_later, turn.disk_faults);
+      spawner_later = omega (arith, was.spawner_later, turn.spawner_faults);
       door_faults = c.is_idle.ensures.faults ∙ was.door_faults;
       asked = turn.asked ∙ was.asked;
     }

@@ -6,7 +6,7 @@ use Rattle.api_server.proofs.serving.serve_all.Goals as goal
 
 pub loop-number-init : goal.loop-number-init
 loop-number-init g c = record {
-  serves = moves_stay (λ h. rounds_none c.args.pace c.args.core.now _ _ _ _ h);
+  serves = moves_stay (λ h. rounds_none c.args.pace c.args.core.now _ _ _ _ _ h);
   sound = c.requires.sound;
   idle = c.requires.idle;
   accepted = c.requires.unused;
@@ -26,12 +26,11 @@ loop-number-preserved g c =
     record {
       serves = moves_then
           (λ old between new all next.
-          rounds_more c.in-Ok-true.field-0 c.in-Ok-true.field-0-test c.args.pace c.args.core.now c.idle.new.core c.serve_one.new.core _ _ _ _ _ _ _ _ _ _
-          old
-          between new
+          rounds_more c.in-Ok-true.field-0 c.in-Ok-true.field-0-test c.args.pace c.args.core.now c.idle.new.core c.serve_one.new.core _ _ _ _ _ _ _ _ _ _ _ _ _
+          old between new
           (moves_after idle.told c.in-Ok-true.ensures.opened) all next)
           (moves_then
-          (λ old between new all idles. rounds_idle c.args.pace c.args.core.now c.loop-number.core c.idle.new.core _ _ _ _ _ _ _ _ old between new all idles)
+          (λ old between new all idles. rounds_idle c.args.pace c.args.core.now c.loop-number.core c.idle.new.core _ _ _ _ _ _ _ _ _ _ _ old between new all idles)
           was.serves idle.idles)
           one.serves;
       sound = one.sound;
@@ -49,16 +48,16 @@ pub returns-in-Ok-false-clause-serves : goal.returns-in-Ok-false-clause-serves
 returns-in-Ok-false-clause-serves g c =
     let idle = c.idle.ensures in
     moves_then
-    (λ old between new all idles. rounds_closed c.args.pace c.args.core.now c.idle.new.core _ _ _ _ _ _ _ old new
+    (λ old between new all idles. rounds_closed c.args.pace c.args.core.now c.idle.new.core _ _ _ _ _ _ _ _ _ old new
     (moves_after idle.told (none_opened c.in-Ok-false.field-0 c.in-Ok-false.field-0-test _ _ c.in-Ok-false.ensures.opened))
-    (rounds_idle c.args.pace c.args.core.now c.loop-number.core c.idle.new.core _ _ _ _ _ _ _ _ old between new all idles))
+    (rounds_idle c.args.pace c.args.core.now c.loop-number.core c.idle.new.core _ _ _ _ _ _ _ _ _ _ _ old between new all idles))
     c.loop-number.invariant.serves idle.idles
 
 pub returns-in-Err-clause-serves : goal.returns-in-Err-clause-serves
 returns-in-Err-clause-serves g c =
     let idle = c.idle.ensures in
     moves_then
-    (λ old between new all idles. rounds_closed c.args.pace c.args.core.now c.idle.new.core _ _ _ _ _ _ _ old new
+    (λ old between new all idles. rounds_closed c.args.pace c.args.core.now c.idle.new.core _ _ _ _ _ _ _ _ _ old new
     (moves_after idle.told c.in-Err.ensures.opened)
-    (rounds_idle c.args.pace c.args.core.now c.loop-number.core c.idle.new.core _ _ _ _ _ _ _ _ old between new all idles))
+    (rounds_idle c.args.pace c.args.core.now c.loop-number.core c.idle.new.core _ _ _ _ _ _ _ _ _ _ _ old between new all idles))
     c.loop-number.invariant.serves idle.idles

@@ -14,7 +14,7 @@ returns-clause-counted g c = λ runs.
     reply_is fine c.args.counts.now c.count.new.counts c.in_ok-count.ensures.success c.in_ok-count.ensures.refused in
     moves_map
     (λ old new handles. counted_reply c.args.request.now c.args.core.now c.handle.new.core (request_of c.in_ok-request.request) sent fine c.args.counts.now
-    c.count.new.counts runs old new c.requires.calm c.requires.idle
+    c.count.new.counts runs _ _ old new c.requires.calm c.requires.idle
     (heard_by c.args.request.now c.in_ok-request.request _ _ c.in_ok-door.ensures.fresh c.in_ok-request.ensures.heard.told) refl is handles)
     c.in-Answered.ensures.handles
 

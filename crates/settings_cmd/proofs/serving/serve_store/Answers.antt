@@ -12,17 +12,17 @@ use Rattle.settings_cmd.proofs.serving.serve_store.Goals as goal
 pub returns-in-Ok-clause-served : goal.returns-in-Ok-clause-served
 returns-in-Ok-clause-served g c = record {
   opening = Ok c.in-Ok.store;
-  fine = c.serve-fine.result;
+  fine = c.serve_open-fine.result;
   between = g.D.Disk.told c.open_store.new.disk;
   opens = subst (λ (r : Result Opened OpenError). Moves (g.D.Disk.told c.args.disk.now) (g.D.Disk.told c.open_store.new.disk) (Opens c.args.boot r)) c.in-Ok.is
       c.open_store.ensures.opens;
   follows = (
     c.ended.ensures,
     moves_map
-        (λ old new serves. serves_store c.args.boot c.args.pace c.serve-fine.result c.in-Ok.store c.new-core.result c.serve-fine.new.core
-        _ _ _ _ _ _ _ old new c.new-core.ensures.state c.new-core.ensures.image serves
-        (ap (λ (d : ℕ). fault_counts d (g.S.Spawner.faults c.args.spawner.now)) (sym c.in-Ok.ensures.cause.kept)))
-        c.serve-fine.ensures.serves,
+        (λ old new serves. serves_store c.args.boot c.args.pace c.serve_open-fine.result c.in-Ok.store c.new-core.result c.serve_open-fine.new.core
+        _ _ _ _ _ _ _ old new c.new-core.ensures.state c.new-core.ensures.image
+        (ap (λ (d : ℕ). fault_counts d (g.S.Spawner.faults c.args.spawner.now)) (sym c.in-Ok.ensures.cause.kept)) c.args.quiet _ _ serves)
+        c.serve_open-fine.ensures.serves,
   );
 }
 
@@ -33,5 +33,5 @@ returns-in-Err-clause-served g c = record {
   between = g.D.Disk.told c.open_store.new.disk;
   opens = subst (λ (r : Result Opened OpenError). Moves (g.D.Disk.told c.args.disk.now) (g.D.Disk.told c.open_store.new.disk) (Opens c.args.boot r)) c.in-Err.is
       c.open_store.ensures.opens;
-  follows = (ap (λ (r : Refusal). Err r) c.not_opened.ensures, refl, refl, refl);
+  follows = (ap (λ (r : Refusal). Err r) c.not_opened.ensures, refl, refl, refl, refl);
 }

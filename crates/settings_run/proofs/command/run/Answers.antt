@@ -18,8 +18,8 @@ returns-clause-headline g c =
     }) c.carry_out-outcome.ensures.usage
 
 pub returns-clause-served : goal.returns-clause-served
-returns-clause-served g c boot slice while_idle connections spells is =
-    (c.carry_out-outcome.ensures.does (serve boot slice while_idle connections) spells).1.all
+returns-clause-served g c boot slice while_idle connections quiet spells is =
+    (c.carry_out-outcome.ensures.does (serve boot slice while_idle connections quiet) spells).1.all
     (ended_well c.carry_out-outcome.result c.tell.result _ _ c.tell.ensures.ends is)
 
 pub returns-clause-disk_fault : goal.returns-clause-disk_fault

@@ -8,7 +8,8 @@ use Rattle.api_core.proofs.serving.Core.affected.Goals as goal
 
 pub returns-clause-reads : goal.returns-clause-reads
 returns-clause-reads c = record {
-  changes_nothing = λ I os manifest templates W version. ap (λ (l : List (Key × List (List ℕ))). stays (with_core W c.args.self.now.held (job_of c.args.self.now.job))
+  changes_nothing = λ I os manifest templates W version.
+      ap (λ (l : List (Key × List (List ℕ))). stays (with_core W c.args.self.now.held (job_of c.args.self.now.job))
       (Said (ListsByKey l)))
       (sym (c.in_ok-nearest_lists.ensures I (sym manifest)));
 }

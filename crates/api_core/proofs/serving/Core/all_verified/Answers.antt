@@ -12,7 +12,7 @@ loop-file-preserved g c =
       is_finite = tt;
       same = c.verified.ensures.same ∙ c.loop-file.invariant.same;
       faults = c.in_ok-verified.ensures.cause.kept ∙ c.loop-file.invariant.faults;
-      verified = told_one c.args.self.now _ (into_iter_items c.next.new.self) _ _ c.push.new.self.items _ c.in_ok-verified.verified _ _ c.loop-file.invariant.verified
-          c.in-Some.ensures.steps.0 c.loop-file.invariant.same c.in_ok-verified.ensures.verified c.in_ok-push.ensures.items;
+      verified = told_one c.args.self.now _ (into_iter_items c.next.new.self) _ _ c.push.new.self.items _ c.in_ok-verified.verified _ _
+          c.loop-file.invariant.verified c.in-Some.ensures.steps.0 c.loop-file.invariant.same c.in_ok-verified.ensures.verified c.in_ok-push.ensures.items;
       left = grind arith;
     }

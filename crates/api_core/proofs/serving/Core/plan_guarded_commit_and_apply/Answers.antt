@@ -11,6 +11,7 @@ returns-in-Some-clause-planned c =
     let core = c.args.self.now in
     let p = c.without_effect in
     subst (λ (a : Answer). Plans core (machine.Guarded (machine.CommitAndApply c.args.tx.now)) a p.result.effect) (sym p.ensures.answer)
-    (refuses core (machine.CommitAndApply c.args.tx.now) c.in-Some.refusal (subst (λ (o : Option Refusal). Comes core (machine.CommitAndApply c.args.tx.now) o) c.in-Some.is
+    (refuses core (machine.CommitAndApply c.args.tx.now) c.in-Some.refusal (subst (λ (o : Option Refusal). Comes core (machine.CommitAndApply c.args.tx.now) o)
+    c.in-Some.is
     (both_comes core c.args.tx.now c.in_ok-refusal.field-0 c.in_ok-refusal.ensures.there c.in_ok-refusal.ensures.missing))
     p.result.effect p.ensures.change p.ensures.next)

@@ -26,7 +26,8 @@ returns-in_ok-copy-in-Err-NoPending-clause-asked c =
     let err : CommitError → Result (List Key) CommitError = λ e. Err e in
     let guarded : Option Refusal → Type 0 = IsGuardedBy c.args.image.now c.args.self.now (CommitAndApply c.args.tx.now) in
     let missing = c.in-Err-NoPending.ensures.missing (ap err c.in-Err-NoPending.field-0-is) in
-    subst (λ (tx : List ℕ). IsAsked c.args.image.now c.args.self.now (Guarded (CommitAndApply c.args.tx.now)) c.commit_and_apply.new.self (Refused (NoPending tx)))
+    subst (λ (tx : List ℕ). IsAsked c.args.image.now c.args.self.now (Guarded (CommitAndApply c.args.tx.now)) c.commit_and_apply.new.self
+    (Refused (NoPending tx)))
     (sym c.in_ok-copy-in-Err-NoPending.ensures)
     (asked_guarded c.args.image.now c.args.self.now (CommitAndApply c.args.tx.now)
     (subst guarded c.in_default.is c.in_ok-refusal.ensures.both) _ _ missing)

@@ -1,0 +1,4 @@
+pub mod Texts
+pub mod Made
+pub mod Changes
+pub mod Logging

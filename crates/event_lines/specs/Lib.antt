@@ -1,0 +1,4 @@
+pub mod Logfmt
+pub mod Lines
+pub mod Due
+pub mod Logs
