@@ -65,18 +65,19 @@ fn run_over(
     spawner: &mut MemorySpawner,
     door: &mut MemoryDoor,
     out: &mut MemorySink,
+    log: &mut MemorySink,
     step: &Step,
 ) -> Result<Seen, AllocError>
     requires idle { (state door.old).busy ≡ false }
     requires unused { (state door.old).accepted ≡ 0 }
 {
     let first = set_fault(alloc, disk, step.fault)?;
-    let mut log = MemorySink::new(alloc);
-    let status = run(alloc, &step.words, disk, spawner, door, out, &mut log);
+    let status = run(alloc, &step.words, disk, spawner, door, out, log);
     disk.fail_calls(Vec::new(alloc));
     Ok(Seen {
         status,
         printed: out.written().to_vec(alloc)?,
+        logged: log.written().to_vec(alloc)?,
         replies: replies(alloc, door, step.sent.len())?,
         programs: spawned_lines(alloc, spawner)?,
         struck: disk.calls() >= first,
@@ -99,6 +100,14 @@ pub fn run_step(alloc: Global, disk: &mut MemoryDisk, step: &Step) -> Result<See
     let mut door = MemoryDoor::of_inputs(alloc, inputs);
     door.fail_accept(step.accept_fails.unwrap_or(NEVER));
     door.keep_away(away(step));
-    let mut out = MemorySink::new(alloc);
-    run_over(alloc, disk, &mut spawner, &mut door, &mut out, step)
+    let (mut out, mut log) = (MemorySink::new(alloc), MemorySink::new(alloc));
+    run_over(
+        alloc,
+        disk,
+        &mut spawner,
+        &mut door,
+        &mut out,
+        &mut log,
+        step,
+    )
 }

@@ -6,7 +6,7 @@ use crate::outcomes::{Outcome, check_end};
 use crate::replay::Replay;
 use crate::run::{Run, Seen};
 use crate::serving::serve;
-use crate::trouble::{Trouble, differs};
+use crate::trouble::{Trouble, differs, same};
 use std::alloc::Global;
 use storm_steps::Order;
 
@@ -34,9 +34,19 @@ fn outcome(alloc: Global, replay: &mut Replay, run: &Run) -> Result<Outcome, Tro
     }
 }
 
+// What a server logged has to be the lines of its events, unless it was to be quiet. Other runs log nothing.
+fn check_log(alloc: Global, replay: &Replay, run: &Run) -> Result<(), Trouble> {
+    let lines = match &run.step.order {
+        Order::Serve(serving) if !serving.quiet => replay.log.as_str(),
+        _ => "",
+    };
+    same(alloc, &run.seen.logged, lines.as_bytes(), "the log")
+}
+
 // What was seen, and the disk, have to be what the machine has come to.
 fn check_run(alloc: Global, replay: &Replay, run: &Run, outcome: &Outcome) -> Result<(), Trouble> {
     check_end(alloc, run.seen, outcome)?;
+    check_log(alloc, replay, run)?;
     let host = &replay.host;
     match &replay.moved {
         Some((version, held)) => check_store(alloc, run.disk, version, held)?,

@@ -8,6 +8,8 @@ mod commands;
 mod faults;
 mod following;
 mod found;
+mod log_lines;
+mod log_words;
 mod moves;
 mod outcomes;
 mod planned;

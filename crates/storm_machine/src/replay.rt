@@ -3,6 +3,7 @@ ghost use Rattle.settings_machine.specs.Asked.{request_of};
 ghost use Rattle.settings_machine.specs.Requests.{IsProper};
 
 use crate::faults::{Faults, Strike};
+use crate::log_lines::{Before, asked, next_doing, opened, turned};
 use key_names::{Bytes, Text};
 use machine_replies::{Host, Told, changes};
 use plain_machine::{OpeningAnswer, TurnAnswer};
@@ -26,6 +27,8 @@ pub struct Replay {
     pub statuses: Vec<Option<u16>>,
     /// Where the run moved the store: its version, and what it holds.
     pub moved: Option<(Version, Held)>,
+    /// The lines of the events, as a server logs them.
+    pub log: String,
 }
 
 // What a running job is to do next.
@@ -112,6 +115,7 @@ impl Replay {
             faults: Faults::of(None),
             statuses: Vec::new(alloc),
             moved: None,
+            log: String::new(alloc),
         }
     }
 
@@ -127,6 +131,7 @@ impl Replay {
         self.statuses = statuses.to_vec(alloc)?;
         self.statuses.reverse();
         self.moved = None;
+        self.log.clear();
         Ok(())
     }
 
@@ -140,6 +145,7 @@ impl Replay {
         }
         self.faults.heal();
         self.host.open(alloc, boot, OpeningAnswer::Succeeded)?;
+        opened(&mut self.log, &self.host.machine)?;
         Ok(true)
     }
 
@@ -151,13 +157,10 @@ impl Replay {
         Ok(true)
     }
 
-    /// A request, and what is replied; None where the disk failed. Where it has failed since the store was opened, that is opened again first.
-    pub fn ask(&mut self, alloc: Global, request: &Request) -> Result<Option<Told>, AllocError>
+    // A request over an open store, and what is replied; None where the disk failed.
+    fn make(&mut self, alloc: Global, request: &Request) -> Result<Option<Told>, AllocError>
         requires { IsProper (request_of request.now) }
     {
-        if !self.open_again(alloc)? {
-            return Ok(None);
-        }
         if !needs_disk(request) || !self.faults.strikes() {
             return Ok(Some(self.host.ask(alloc, request)?));
         }
@@ -166,6 +169,22 @@ impl Replay {
         }
         fail_job(&mut self.host);
         Ok(None)
+    }
+
+    /// A request, and what is replied; None where the disk failed. Where it has failed since the store was opened, that is opened again first.
+    pub fn ask(&mut self, alloc: Global, request: &Request) -> Result<Option<Told>, AllocError>
+        requires { IsProper (request_of request.now) }
+    {
+        let is_open = self.open_again(alloc)?;
+        let before = Before::of(&self.host.machine, request)?;
+        let told = if is_open {
+            self.make(alloc, request)?
+        } else {
+            None
+        };
+        let machine = &self.host.machine;
+        asked(&mut self.log, request, &told, &before, machine)?;
+        Ok(told)
     }
 
     // What the devices let the next turn come to; None where no job runs.
@@ -192,7 +211,9 @@ impl Replay {
             let Some(answer) = self.answer()? else {
                 return Ok(());
             };
+            let doing = next_doing(alloc, &self.host)?;
             self.host.turn(alloc, answer)?;
+            turned(&mut self.log, &doing, &self.host.machine)?;
         }
         Ok(())
     }

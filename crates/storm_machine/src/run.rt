@@ -9,6 +9,8 @@ pub struct Seen {
     pub status: u8,
     /// What was printed.
     pub printed: Vec<u8>,
+    /// What was logged.
+    pub logged: Vec<u8>,
     /// What was written to each connection that was accepted.
     pub replies: Vec<Vec<u8>>,
     /// The lines of the programs that were run.

@@ -1,4 +1,6 @@
 //! The events of `serve`.
+use crate::log_lines::refused;
+use crate::log_words::word_of;
 use crate::outcomes::{Outcome, bytes};
 use crate::replay::Replay;
 use crate::run::Run;
@@ -25,7 +27,10 @@ fn reply_to(alloc: Global, replay: &mut Replay, sent: &Sent) -> Result<Option<Re
     }
     match read_request(alloc, &sent.bytes)? {
         Reading::NotYet => Ok(None),
-        Reading::Refused { refusal } => Ok(Some(print_refusal(alloc, &refusal)?)),
+        Reading::Refused { refusal } => {
+            refused(&mut replay.log, refusal.status(), word_of(&refusal))?;
+            Ok(Some(print_refusal(alloc, &refusal)?))
+        }
         Reading::Whole { request, .. } => {
             let told = replay.ask(alloc, &request)?;
             Ok(Some(printed(alloc, told)?))

@@ -22,6 +22,7 @@ fn serving(dice: &mut Dice) -> Serving {
         slice: number(dice, 60, 4, 1),
         connections: number(dice, 15, 9, 0),
         while_idle: dice.chance(40),
+        quiet: dice.chance(10),
         away: dice.below(4) as u32,
     }
 }
@@ -48,6 +49,9 @@ fn serve_line(alloc: Global, serving: &Serving) -> Result<String, AllocError> {
     add_number(alloc, &mut line, "--connections", serving.connections)?;
     if serving.while_idle {
         line.push_str(" --while-idle")?;
+    }
+    if serving.quiet {
+        line.push_str(" --quiet")?;
     }
     Ok(line)
 }

@@ -12,6 +12,8 @@ pub struct Serving {
     pub connections: Option<u32>,
     /// Whether turns are made while no client is there.
     pub while_idle: bool,
+    /// Whether nothing is logged.
+    pub quiet: bool,
     /// So many looks before each accept find no client.
     pub away: u32,
 }
