@@ -3,7 +3,7 @@
 _settings() {
     local word=${COMP_WORDS[COMP_CWORD]}
     if [ "$COMP_CWORD" -eq 1 ]; then
-        COMPREPLY=($(compgen -W 'init serve set get apply verify check migrate prune generate user-data load --help --version' -- "$word"))
+        COMPREPLY=($(compgen -W 'init serve set get apply verify check migrate prune generate user-data dump restore forget load --help --version' -- "$word"))
         return
     fi
     case ${COMP_WORDS[1]} in
@@ -11,7 +11,7 @@ _settings() {
         serve) COMPREPLY=($(compgen -W '--boot --slice --while-idle --connections --quiet' -- "$word")) ;;
         apply) COMPREPLY=($(compgen -W '--all' -- "$word")) ;;
         migrate) COMPREPLY=($(compgen -W '--to' -- "$word")) ;;
-        user-data) COMPREPLY=($(compgen -f -- "$word")) ;;
+        user-data | restore) COMPREPLY=($(compgen -f -- "$word")) ;;
     esac
 }
 

@@ -1,13 +1,13 @@
 # Completion of `settings` and `settingsctl` for fish.
 
-set -l commands init serve set get apply verify check migrate prune generate user-data load
+set -l commands init serve set get apply verify check migrate prune generate user-data dump restore forget load
 complete -c settings -f
 complete -c settings -n "not __fish_seen_subcommand_from $commands" -a "$commands --help --version"
 complete -c settings -n '__fish_seen_subcommand_from init' -a --version
 complete -c settings -n '__fish_seen_subcommand_from serve' -a '--boot --slice --while-idle --connections --quiet'
 complete -c settings -n '__fish_seen_subcommand_from apply' -a --all
 complete -c settings -n '__fish_seen_subcommand_from migrate' -a --to
-complete -c settings -n '__fish_seen_subcommand_from user-data' -F
+complete -c settings -n '__fish_seen_subcommand_from user-data restore' -F
 
 # Asks the server in the folder of a verb.
 function __settingsctl_asked

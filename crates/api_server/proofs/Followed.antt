@@ -229,7 +229,8 @@ pub rounds_more : (came : Bool) → came ≡ true
     → (pace : Pace) (c mid now : Core) (counts counts_mid counts_after : FaultCounts)
     (told told_mid told_opened told_after : Option (List Exchange)) (ran_before ran_mid ran_after : Option (List Run)) (log log_mid log_after : LogState)
     (old between new : History)
-    → Moves told_mid told_opened (Opens {E = Failed} (Ok came)) → ServesAll pace c mid counts counts_mid told told_mid ran_before ran_mid log log_mid old between
+    → Moves told_mid told_opened (Opens {E = Failed} (Ok came))
+    → ServesAll pace c mid counts counts_mid told told_mid ran_before ran_mid log log_mid old between
     → ServesOne pace.slice mid now counts_mid counts_after told_opened told_after ran_mid ran_after log_mid log_after between new
     → ServesAll pace c now counts counts_after told told_after ran_before ran_after log log_after old new
 rounds_more came is pace c mid now counts counts_mid counts_after told told_mid told_opened told_after ran_before ran_mid ran_after log log_mid log_after old

@@ -60,7 +60,8 @@ parts_same q held held' n n' before before' now now' a b c d =
     ∙ ap (λ (x : Job). parts q held' n' x now) c ∙ ap (λ (x : Job). parts q held' n' before' x) d
 
 -- What was told, by equal parts.
-pub told_by : (q : Request) (held held' : Held) (number : ℕ) (ran ran' : Bool) (now now' : Job) (log log_after : LogState) → held ≡ held' → ran ≡ ran' → now ≡ now'
+pub told_by : (q : Request) (held held' : Held) (number : ℕ) (ran ran' : Bool) (now now' : Job) (log log_after : LogState)
+    → held ≡ held' → ran ≡ ran' → now ≡ now'
     → Tells (request_line q (changes held q) number ++ job_lines ran now) log log_after
     → Tells (request_line q (changes held' q) number ++ job_lines ran' now') log log_after
 told_by q held held' number ran ran' now now' log log_after a b c tells =

@@ -188,7 +188,8 @@ module _ (c : Core) (q : Request) (faulted : c.faulted ≡ true) where
         (logs_silent I W (Opened false (Failing n.taken)) log refl)
         (unanswered_logged I X q o number (core_state c).job idle_one job_one unsuccessful number_is job log log_after tells)
 
-    failed_handled : (log log_after : LogState) → TellsGivenUp c q came.DiskFault log log_after → IsHandled I folder W V q came.DiskFault c c log log_after old new
+    failed_handled : (log log_after : LogState) → TellsGivenUp c q came.DiskFault log log_after
+        → IsHandled I folder W V q came.DiskFault c c log log_after old new
     unfolding request_next
     failed_handled log log_after tells = record {
       events = Opened false (Failing n.taken) ∷ Asked q (Faulted false) ∷ [];
@@ -272,7 +273,8 @@ module _ (c : Core) (q : Request) (faulted : c.faulted ≡ true) where
               replied = refl;
             };
             made = refused_ran I folder W V q at old new (core_state c) faulted kept k.disk k.moments k.touches;
-            logged = unanswered_logged I W q (Unopened at) 500 (core_state c).job (idle_at I folder W V old kept) kept.core.job refl refl refl log log_after tells;
+            logged = unanswered_logged I W q (Unopened at) 500 (core_state c).job (idle_at I folder W V old kept) kept.core.job refl refl refl log log_after
+                tells;
             image = holds;
           };
     }

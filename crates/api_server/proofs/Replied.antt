@@ -31,7 +31,8 @@ handles_told c q sent now log log_after a b handles other = record { told = both
 
 -- Where the image is as before, no request is given up.
 pub opened_again : (c : Core) (q : Request) (sent : Handled) (now : Core) (log log_after : LogState) (old new : History)
-    → HandlesFor c q sent now log log_after old new → (I : Image) → IsGood I → HoldsImage I c.image → (folder : Folder) → IsImageOfFolder I folder → (W V : World)
+    → HandlesFor c q sent now log log_after old new → (I : Image) → IsGood I → HoldsImage I c.image → (folder : Folder) → IsImageOfFolder I folder
+    → (W V : World)
     → Kept I folder W V old (core_state c) → (done : IsHandled I folder W V q sent c now log log_after old new) → (at : List ℕ) → done.replied ≢ NotOpened at
 opened_again c q sent now log log_after old new handles I good of folder made W V kept done at is =
     (handles.other (subst (λ (r : Reply). Fits r sent) is done.fits)).other I good of folder made W V kept

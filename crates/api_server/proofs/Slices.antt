@@ -1,5 +1,6 @@
 -- A slice of turns has at most one failure of a kind among them, which is what the job has failed with.
-use Rattle.std.proofs.Common.{◌≡◌, ◌≢◌, ◌⊎◌, ◌+◌, ◌-◌, ◌&&◌, inl, inr, ℕ, zero, suc, Bool, true, false, List, [], ◌∷◌, Option, Some, None, Result, OnErr, refl, sym, ◌∙◌, ap}
+use Rattle.std.proofs.Common.{◌≡◌, ◌≢◌, ◌⊎◌, ◌+◌, ◌-◌, ◌&&◌, inl, inr, ℕ, zero, suc, Bool, true, false, List, [], ◌∷◌, Option, Some, None}
+use Rattle.std.proofs.Common.{Result, OnErr, refl, sym, ◌∙◌, ap}
 use Rattle.std.proofs.Common.{subst, ◌++◌, ◌≤◌, arith}
 use Rattle.std.specs.Option.{option_map}
 use Rattle.api_server.proofs.Counted.{none_rose}
@@ -9,7 +10,7 @@ use Rattle.outside.specs.Spawner.{Run}
 use Rattle.settings_machine.specs.World.{Image, World, Work, Job, Idle, Failed, Running, is_running}
 use Rattle.settings_machine.specs.Step.{Answer, Fine, NoRoom, FileFault, NoSpawn, SyncFault, OwedFault}
 use Rattle.settings_machine.specs.Step.{Command, fits, fits_work, after_files_turn, work_turn, job_turn, turn_next}
-use Rattle.settings_machine.specs.Events.{Event, Opened, Asked, Unread, Turned, Began, Moved, is_disk_fault, after}
+use Rattle.settings_machine.specs.Events.{Event, Opened, Asked, Unread, Turned, Began, Moved, Forgot, is_disk_fault, after}
 use Rattle.settings_machine.specs.declared.cause.Cause.TheVariants as cause
 use Rattle.machine_disk.specs.Kept.{Folder, Kept}
 use Rattle.machine_disk.specs.Ran.{IsSlice, IsDriven}
@@ -107,6 +108,7 @@ slice_fits I n W (Asked q o ∷ es) are = absurd are
 slice_fits I n W (Unread why ∷ es) are = absurd are
 slice_fits I n W (Began version ∷ es) are = absurd are
 slice_fits I n W (Moved version held ∷ es) are = absurd are
+slice_fits I n W (Forgot keys ∷ es) are = absurd are
 
 driven_fits : (I : Image) (W : World) (es : List Event) → IsDriven I W es → AreFitting I W es
 driven_fits I W [] are = tt
@@ -116,6 +118,7 @@ driven_fits I W (Asked q o ∷ es) are = absurd are
 driven_fits I W (Unread why ∷ es) are = absurd are
 driven_fits I W (Began version ∷ es) are = absurd are
 driven_fits I W (Moved version held ∷ es) are = absurd are
+driven_fits I W (Forgot keys ∷ es) are = absurd are
 
 turns_fit : (I : Image) (slice : Option ℕ) (W : World) (es : List Event) → AreTurns I slice W es → AreFitting I W es
 turns_fit I None W es are = driven_fits I W es are
@@ -130,6 +133,7 @@ none_fit I W (Asked q o ∷ es) still are = absurd are
 none_fit I W (Unread why ∷ es) still are = absurd are
 none_fit I W (Began version ∷ es) still are = absurd are
 none_fit I W (Moved version held ∷ es) still are = absurd are
+none_fit I W (Forgot keys ∷ es) still are = absurd are
 
 -- Some, and then others.
 slice_then : (I : Image) (n m : ℕ) (W : World) (es fs : List Event) → IsSlice I n W es → IsSlice I m (after I W es) fs → IsSlice I (n + m) W (es ++ fs)
@@ -151,6 +155,7 @@ slice_then I n m W (Asked q o ∷ es) fs are more = absurd are
 slice_then I n m W (Unread why ∷ es) fs are more = absurd are
 slice_then I n m W (Began version ∷ es) fs are more = absurd are
 slice_then I n m W (Moved version held ∷ es) fs are more = absurd are
+slice_then I n m W (Forgot keys ∷ es) fs are more = absurd are
 
 -- A turn, and then others until no job runs.
 driven_then : (I : Image) (n : ℕ) (W : World) (es fs : List Event) → IsSlice I n W es → IsDriven I (after I W es) fs → IsDriven I W (es ++ fs)
@@ -161,6 +166,7 @@ driven_then I n W (Asked q o ∷ es) fs are more = absurd are
 driven_then I n W (Unread why ∷ es) fs are more = absurd are
 driven_then I n W (Began version ∷ es) fs are more = absurd are
 driven_then I n W (Moved version held ∷ es) fs are more = absurd are
+driven_then I n W (Forgot keys ∷ es) fs are more = absurd are
 
 -- A turn, and then the rest of a slice.
 pub turns_more : (I : Image) (left : Option ℕ) (W : World) (es rest : List Event) → left ≢ Some 0 → IsSlice I 1 W es
@@ -220,6 +226,7 @@ module _ (I : Image) (p : Event → Bool) (failed : Job → Bool) (stops : (j : 
   at_most_one W (Unread why ∷ es) are = absurd are
   at_most_one W (Began version ∷ es) are = absurd are
   at_most_one W (Moved version held ∷ es) are = absurd are
+  at_most_one W (Forgot keys ∷ es) are = absurd are
 
   -- So the device's count rose by as many.
   rose_by : (W : World) (es : List Event) → AreFitting I W es → (before now : Job) → before ≡ W.job → now ≡ (after I W es).job → (n m : ℕ)

@@ -8,7 +8,7 @@ use Rattle.outside.specs.History.{History}
 use Rattle.outside.specs.Spawner.{Run}
 use Rattle.settings_machine.specs.World.{Image, World, Job, is_running}
 use Rattle.settings_machine.specs.Step.{Answer}
-use Rattle.settings_machine.specs.Events.{Event, Opened, Asked, Unread, Turned, Began, Moved, after}
+use Rattle.settings_machine.specs.Events.{Event, Opened, Asked, Unread, Turned, Began, Moved, Forgot, after}
 use Rattle.settings_machine.specs.Paid.{IsGood}
 use Rattle.settings_machine.proofs.Sequences.{after-append}
 use Rattle.machine_disk.specs.Kept.{Folder, Kept}
@@ -43,11 +43,13 @@ one_answer I W (Turned a ∷ Asked q o ∷ es) running is = absurd is.3
 one_answer I W (Turned a ∷ Unread why ∷ es) running is = absurd is.3
 one_answer I W (Turned a ∷ Began version ∷ es) running is = absurd is.3
 one_answer I W (Turned a ∷ Moved version held ∷ es) running is = absurd is.3
+one_answer I W (Turned a ∷ Forgot keys ∷ es) running is = absurd is.3
 one_answer I W (Opened boot o ∷ es) running is = absurd is
 one_answer I W (Asked q o ∷ es) running is = absurd is
 one_answer I W (Unread why ∷ es) running is = absurd is
 one_answer I W (Began version ∷ es) running is = absurd is
 one_answer I W (Moved version held ∷ es) running is = absurd is
+one_answer I W (Forgot keys ∷ es) running is = absurd is
 
 -- What was told is the lines of the turn.
 turn_told : (I : Image) (W : World) (es : List Event) (before now : Job) → IsSlice I 1 W es → is_running before ≡ true → before ≡ W.job
@@ -124,7 +126,8 @@ pub one_turn_more : (slice left left_after : Option ℕ) → left ≢ Some 0 →
     → SoFar slice left c mid counts counts_mid ran_before ran_mid log log_mid old between
     → Turns (Some 1) mid now counts_mid counts_now ran_mid ran_now log_mid log_now between new
     → SoFar slice left_after c now counts counts_now ran_before ran_now log log_now old new
-one_turn_more slice left left_after some fewer c mid now counts counts_mid counts_now ran_before ran_mid ran_now log log_mid log_now old between new so_far turn =
+one_turn_more slice left left_after some fewer c mid now counts counts_mid counts_now ran_before ran_mid ran_now log log_mid log_now old between new
+    so_far turn =
     record { each = by } where
       by : (I : Image) → IsGood I → HoldsImage I c.image → (folder : Folder) (W V : World) → Kept I folder W V old (core_state c)
           → SoFarIn I folder W V slice left_after c now counts counts_now ran_before ran_now log log_now old new

@@ -10,7 +10,7 @@ use Rattle.command_outcome.specs.declared.refusal.Refusal.{Refusal}
 use Rattle.command_outcome.specs.declared.refusal.Refusal.TheVariants.{Memory, Usage, Disk, Door, Spawn, NoStore}
 use Rattle.command_outcome.specs.declared.refusal.Refusal.TheVariants.{Damaged, BadLink, BadJournal, BadImage, IllTyped, NotCovered}
 use Rattle.command_outcome.specs.declared.refusal.Refusal.TheVariants.{Render, Status, Missing, Conflict, Refused, AlreadyThere}
-use Rattle.command_outcome.specs.declared.refusal.Refusal.TheVariants.{OldFormat, GeneratorStatus, GeneratorOutput, UserData}
+use Rattle.command_outcome.specs.declared.refusal.Refusal.TheVariants.{OldFormat, GeneratorStatus, GeneratorOutput, UserData, Dump}
 use Rattle.command_outcome.specs.declared.refusal.Refusal.TheVariants.{MigrationStatus, MigrationOutput, NotCurrent}
 
 -- The status of a refused command.
@@ -37,6 +37,7 @@ status_of (OldFormat directory) = 15
 status_of (GeneratorStatus key number) = 16
 status_of (GeneratorOutput key) = 16
 status_of (UserData kind at) = 17
+status_of (Dump kind at) = 17
 status_of (MigrationStatus name number) = 18
 status_of (MigrationOutput name) = 18
 status_of (NotCurrent lines) = 19
@@ -69,6 +70,7 @@ told (OldFormat directory) = codes "old format" ++ spaced (joined directory)
 told (GeneratorStatus key number) = codes "generator" ++ spaced (printed key) ++ codes " status " ++ decimal number
 told (GeneratorOutput key) = codes "generator" ++ spaced (printed key) ++ codes " output"
 told (UserData kind at) = codes "user data" ++ spaced kind ++ spaced at
+told (Dump kind at) = codes "dump" ++ spaced kind ++ spaced at
 told (MigrationStatus name number) = codes "migration" ++ spaced name ++ codes " status " ++ decimal number
 told (MigrationOutput name) = codes "migration" ++ spaced name ++ codes " output"
 told (NotCurrent lines) = []

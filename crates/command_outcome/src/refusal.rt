@@ -115,6 +115,13 @@ pub enum Refusal {
         /// Where the fault is.
         at: Text,
     },
+    /// 17: the file of a dump is missing, or has a fault.
+    Dump {
+        /// The kind of its fault.
+        kind: Text,
+        /// Where the fault is.
+        at: Text,
+    },
     /// 18: the program of a migration ended with another status than 0.
     MigrationStatus {
         /// The migration.

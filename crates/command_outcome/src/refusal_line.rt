@@ -142,11 +142,11 @@ fn push_output(line: &mut Vec<u8>, words: &str, name: &Text) -> Result<(), Alloc
     line.extend_from_slice(b" output")
 }
 
-fn push_data(line: &mut Vec<u8>, kind: &Text, at: &Text) -> Result<(), AllocError>
-    ensures { OnOk result (line.new.items ≡ line.old.items ++ (codes "user data" ++ spaced kind.now ++ spaced at.now)) }
+// Adds words, a space, a kind, a space and where the fault is.
+fn push_fault(line: &mut Vec<u8>, words: &str, kind: &Text, at: &Text) -> Result<(), AllocError>
+    ensures { OnOk result (line.new.items ≡ line.old.items ++ (words.now ++ spaced kind.now ++ spaced at.now)) }
 {
-    line.extend_from_slice(b"user data")?;
-    push_text(line, kind)?;
+    push_name(line, words, kind)?;
     push_text(line, at)
 }
 
@@ -193,7 +193,8 @@ fn push_told(alloc: Global, line: &mut Vec<u8>, refusal: &Refusal) -> Result<(),
             push_program_status(line, "generator", &key.print()?, *number)
         }
         Refusal::GeneratorOutput { key } => push_output(line, "generator", &key.print()?),
-        Refusal::UserData { kind, at } => push_data(line, kind, at),
+        Refusal::UserData { kind, at } => push_fault(line, "user data", kind, at),
+        Refusal::Dump { kind, at } => push_fault(line, "dump", kind, at),
         Refusal::MigrationStatus { name, number } => {
             push_program_status(line, "migration", name, *number)
         }
@@ -232,7 +233,7 @@ impl Refusal {
             Refusal::AlreadyThere { .. } => 14,
             Refusal::OldFormat { .. } => 15,
             Refusal::GeneratorStatus { .. } | Refusal::GeneratorOutput { .. } => 16,
-            Refusal::UserData { .. } => 17,
+            Refusal::UserData { .. } | Refusal::Dump { .. } => 17,
             Refusal::MigrationStatus { .. } | Refusal::MigrationOutput { .. } => 18,
             Refusal::NotCurrent { .. } => 19,
         }

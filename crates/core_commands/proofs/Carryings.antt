@@ -44,6 +44,7 @@ comes_err I W qs P Q (refused.OldFormat directory) asked turned comes = comes
 comes_err I W qs P Q (refused.GeneratorStatus key number) asked turned comes = comes
 comes_err I W qs P Q (refused.GeneratorOutput key) asked turned comes = comes
 comes_err I W qs P Q (refused.UserData kind at) asked turned comes = comes
+comes_err I W qs P Q (refused.Dump kind at) asked turned comes = comes
 comes_err I W qs P Q (refused.MigrationStatus name number) asked turned comes = comes
 comes_err I W qs P Q (refused.MigrationOutput name) asked turned comes = comes
 comes_err I W qs P Q (refused.NotCurrent lines) asked turned comes = comes

@@ -13,7 +13,7 @@ use Rattle.settings_machine.specs.Requests.{Request, DropTx, Patch, CommitAndApp
 use Rattle.settings_machine.specs.Step.{Answered, Answer, Fine, NoRoom, FileFault, NoSpawn, SyncFault, OwedFault, Command}
 use Rattle.settings_machine.specs.Step.{noting, begun, asked_for, applied, owing_all, committed_world, patch_next, commit_and_apply_next, request_next}
 use Rattle.settings_machine.specs.Step.{wrote, file_turn, ran, command_turn, resting, last_turn, after_files_turn, work_turn, job_turn, turn_next}
-use Rattle.settings_machine.specs.Events.{Event, Opened, Asked, Unread, Turned, Began, Moved, next, after}
+use Rattle.settings_machine.specs.Events.{Event, Opened, Asked, Unread, Turned, Began, Moved, Forgot, next, after}
 use Rattle.machine_disk.specs.Ran.{IsDriven}
 use Rattle.core_commands.specs.Asking.{asked_all}
 use Rattle.core_commands.specs.Carried.{HasEnded, set_tx, puts_of, set_requests, apply_requests}
@@ -97,6 +97,7 @@ turns_pay I W (Asked q o ∷ es) driven pays = absurd driven
 turns_pay I W (Unread why ∷ es) driven pays = absurd driven
 turns_pay I W (Began v ∷ es) driven pays = absurd driven
 turns_pay I W (Moved v h ∷ es) driven pays = absurd driven
+turns_pay I W (Forgot keys ∷ es) driven pays = absurd driven
 
 -- ---- requests
 

@@ -18,6 +18,6 @@ pub use applying::apply;
 pub use committing::commit_pairs;
 pub use handing::not_opened;
 pub use law::laws;
-pub use lines::tree_line;
+pub use lines::{line_of, tree_line};
 pub use setting::set;
 pub use verifying::verify;

@@ -17,7 +17,7 @@ use Rattle.settings_machine.specs.Requests.{Request, Root, OsNames, Settings, Se
 use Rattle.settings_machine.specs.Requests.{Affected, Pends, DropTx, TxList, Commit, Apply, CommitAndApply, JobNow, Set, ApplyAll, Guarded}
 use Rattle.settings_machine.specs.Requests.{Plan, PlanFile, Store, Verify, status}
 use Rattle.settings_machine.specs.Step.{Command, request_next, turn_next, opened}
-use Rattle.settings_machine.specs.Events.{Event, Succeeded, Failing, Opened, Asked, Unreadable, Unread, Turned, Began, Moved}
+use Rattle.settings_machine.specs.Events.{Event, Succeeded, Failing, Opened, Asked, Unreadable, Unread, Turned, Began, Moved, Forgot}
 use Rattle.machine_answers.specs.RenderWords.{render_word, render_path}
 use Rattle.event_lines.specs.Logfmt.{Pair, line}
 
@@ -222,3 +222,4 @@ lines_of I W (Unread why) = refused_line why
 lines_of I W (Turned answer) = turn_lines (due_in I W.job) (turn_next I W answer).job
 lines_of I W (Began version) = []
 lines_of I W (Moved version held) = []
+lines_of I W (Forgot keys) = []

@@ -72,7 +72,7 @@ module _ (h : Held) (is : IsHeld h) where
   weak : IsReadable 5 (keys_data h.live.weak)
   weak = readable_within 1 5 _ (omega arith) (readable_keys h.live.weak (each_valid h.live.weak is.live.weak.valid))
 
-  readable_held : IsReadable 6 (held_data h)
+  pub readable_held : IsReadable 6 (held_data h)
   readable_held = readable_object 5 (held_members h) (image, (live, (meta, (owed, (pend, (weak, tt)))))) refl
 
   -- What is read of the held text is the value of what is held.

@@ -1,4 +1,6 @@
 pub mod ContentReadings
+pub mod DumpBack
+pub mod DumpReadings
 pub mod Fillings
 pub mod HeldBack
 pub mod HeldReadings
@@ -6,7 +8,9 @@ pub mod HeldWalks
 pub mod JsonLists
 pub mod KeysLeft
 pub mod MapsLeft
+pub mod NoFractions
 pub mod OwedReadings
 pub mod PartReadings
 pub mod Readings
 pub mod RowsBack
+pub mod VersionsBack

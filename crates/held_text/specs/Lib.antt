@@ -1,3 +1,4 @@
+pub mod Dump
 pub mod HeldRules
 pub mod HeldText
 pub mod Refusals

@@ -69,8 +69,8 @@ pub fn write_held(writer: &mut Writer, alloc: Global, held: &Held) -> Result<(),
     writer.end_object()
 }
 
-// Refuses what is printed as another text.
-fn expect_text(held: &Held, text: &[u8]) -> Result<(), HeldError>
+/// Refuses what is printed as another text.
+pub(crate) fn expect_text(held: &Held, text: &[u8]) -> Result<(), HeldError>
     ensures ok { OnOk result (held_text held.now ≡ text.now) }
     ensures valid { OnOk result (IsHeld held.now) }
     ensures err { IfErr result (λ e. e ≢ Memory → held_text held.now ≢ text.now) }

@@ -24,7 +24,7 @@ use Rattle.settings_machine.specs.declared.cause.Cause.TheVariants as cause
 use Rattle.settings_machine.specs.Step.{Outcome, Answered, WithoutMemory, Unopened, Faulted, request_next}
 use Rattle.settings_machine.specs.Step.{Answer, Fine, NoRoom, FileFault, NoSpawn, SyncFault, OwedFault}
 use Rattle.settings_machine.specs.Step.{Command, after_files_turn, work_turn, job_turn, turn_next}
-use Rattle.settings_machine.specs.Events.{Event, Opened, Asked, Unread, Turned, Began, Moved, next, after}
+use Rattle.settings_machine.specs.Events.{Event, Opened, Asked, Unread, Turned, Began, Moved, Forgot, next, after}
 use Rattle.settings_machine.specs.Paid.{IsGood}
 use Rattle.settings_machine.proofs.Programs.{request_runs}
 use Rattle.settings_machine.proofs.Sequences.{after-append}
@@ -58,6 +58,7 @@ idle-append I W (Unread why ∷ es) fs first second = idle-append I (next I W (U
 idle-append I W (Turned a ∷ es) fs first second = idle-append I (next I W (Turned a)) es fs first second
 idle-append I W (Began v ∷ es) fs first second = idle-append I (next I W (Began v)) es fs first second
 idle-append I W (Moved v held ∷ es) fs first second = idle-append I (next I W (Moved v held)) es fs first second
+idle-append I W (Forgot keys ∷ es) fs first second = idle-append I (next I W (Forgot keys)) es fs first second
 
 well-append : (es fs : List Event) → WentWell es → WentWell fs → WentWell (es ++ fs)
 well-append [] fs first second = second
@@ -67,6 +68,7 @@ well-append (Opened boot o ∷ es) fs first second = absurd first
 well-append (Unread why ∷ es) fs first second = absurd first
 well-append (Began v ∷ es) fs first second = absurd first
 well-append (Moved v held ∷ es) fs first second = absurd first
+well-append (Forgot keys ∷ es) fs first second = absurd first
 
 requests-append : (es fs : List Event) → requests_in (es ++ fs) ≡ requests_in es ++ requests_in fs
 requests-append [] fs = refl
@@ -76,6 +78,7 @@ requests-append (Unread why ∷ es) fs = requests-append es fs
 requests-append (Turned a ∷ es) fs = requests-append es fs
 requests-append (Began v ∷ es) fs = requests-append es fs
 requests-append (Moved v held ∷ es) fs = requests-append es fs
+requests-append (Forgot keys ∷ es) fs = requests-append es fs
 
 both_asked : (bs cs : List (List ℕ)) (qs ps : List Request) → AreAskedBy bs qs → AreAskedBy cs ps → AreAskedBy (bs ++ cs) (qs ++ ps)
 both_asked [] cs [] ps first second = second
@@ -221,6 +224,7 @@ none_left I W (Asked q o) es is = is
 none_left I W (Unread why) es is = is
 none_left I W (Began v) es is = is
 none_left I W (Moved v held) es is = is
+none_left I W (Forgot keys) es is = is
 
 one_left : (I : Image) (W : World) (es : List Event) → is_running W.job ≡ true → IsSlice I 1 W es → (a : Answer) × (es ≡ Turned a ∷ [])
 one_left I W [] running (inl none) = let is : 1 ≡ 0 = none in absurd (omega (arith, is))
@@ -232,6 +236,7 @@ one_left I W (Asked q o ∷ es) running is = absurd is
 one_left I W (Unread why ∷ es) running is = absurd is
 one_left I W (Began v ∷ es) running is = absurd is
 one_left I W (Moved v held ∷ es) running is = absurd is
+one_left I W (Forgot keys ∷ es) running is = absurd is
 
 -- One turn of a running job: whether a program more was run, and whether the job goes on.
 pub counted_turn : (c now : Core) (n m : Counts) (r s : List Run) (old new : History) → is_running (core_state c).job ≡ true

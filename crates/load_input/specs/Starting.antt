@@ -7,6 +7,7 @@ use Rattle.disk_memory.specs.Nodes.{tree_of_last}
 use Rattle.disk_memory.specs.declared.node.Node.{Node}
 use Rattle.disk_memory.specs.declared.node.Node.TheVariants as node
 use Rattle.version_links.specs.declared.version.Version.{Version}
+use Rattle.settings_machine.specs.Events.{new_held}
 use Rattle.settings_machine.specs.World.{Idle}
 use Rattle.store_open.specs.Beginning.{Begins}
 use Rattle.store_open.specs.Opening.{Opens}
@@ -46,5 +47,5 @@ pub record IsOver (c : Core) (old new : History) : Type 0 where
 -- A store is begun and opened without boot, and the core is over what was opened.
 pub record Starts (c : Core) (old new : History) : Type 0 where
   pub between : History
-  pub begins : Begins first_version (Ok tt) old between
+  pub begins : Begins first_version new_held (Ok tt) old between
   pub over : IsOver c between new

@@ -1,6 +1,7 @@
 //! The store that a load run begins and opens.
 ghost use Rattle.std.specs.Prelude.{◌≡◌, false, Ok, IfOk, OnOk};
 ghost use Rattle.outside.specs.Told.{Moves};
+ghost use Rattle.settings_machine.specs.Events.{new_held};
 ghost use Rattle.settings_machine.specs.World.{Idle};
 ghost use Rattle.store_open.specs.Beginning.{Begins};
 ghost use Rattle.api_core.specs.Cores.{core_state, IsSound};
@@ -21,7 +22,7 @@ const FIRST: Version = Version {
 
 // Begins a store.
 fn begin<D: Disk>(alloc: Global, disk: &mut D) -> Result<(), AllocError>
-    ensures { OnOk result (Moves (D.told disk.old) (D.told disk.new) (Begins first_version (Ok tt))) }
+    ensures { OnOk result (Moves (D.told disk.old) (D.told disk.new) (Begins first_version new_held (Ok tt))) }
 {
     match init(alloc, disk, &FIRST) {
         Ok(()) => Ok(()),

@@ -8,7 +8,7 @@ use crate::lists::{keys_text, names_text};
 use crate::objects::{lists_text, texts_text};
 use crate::plan_body::plan_text;
 use crate::states_body::states_body;
-use crate::store_body::store_text;
+use held_text::dump_text;
 use json_trees::{nest, nest_pending};
 use key_names::{Bytes, Key, Text};
 use settings_machine::{JobStatus, Plan, Refusal, VerifiedFile};
@@ -86,7 +86,7 @@ impl Body {
             Body::Names(names) => names_text(alloc, names.as_slice()),
             Body::Job { status, owed } => job_text(alloc, status, owed),
             Body::Plan(plan) => plan_text(alloc, plan),
-            Body::Store { version, held } => store_text(alloc, *version, held),
+            Body::Store { version, held } => dump_text(alloc, *version, held),
             Body::States(files) => states_body(alloc, files.as_slice()),
         }
     }

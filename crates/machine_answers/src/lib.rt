@@ -10,7 +10,6 @@ mod refusal_body;
 mod render_words;
 mod state_lines;
 mod states_body;
-mod store_body;
 
 pub use answer::{Answer, Body};
 pub use job_body::job_text;

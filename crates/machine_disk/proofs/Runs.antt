@@ -11,7 +11,7 @@ use Rattle.settings_machine.specs.World.{Image, World, Files, is_running}
 use Rattle.settings_machine.specs.Requests.{Request}
 use Rattle.settings_machine.specs.Step.{Unopened, request_next, turn_next, opened}
 use Rattle.settings_machine.specs.Events.{Event, Succeeded, Failing, Opened, Asked, Unreadable, Unread, Turned}
-use Rattle.settings_machine.specs.Events.{Began, Moved, next, after, acknowledges, acknowledges_any, faulted_next}
+use Rattle.settings_machine.specs.Events.{Began, Moved, Forgot, next, after, acknowledges, acknowledges_any, faulted_next}
 use Rattle.settings_machine.specs.Events.{faulted_after, are_served}
 use Rattle.settings_machine.specs.Paid.{IsFit}
 use Rattle.settings_machine.proofs.Sequences.{faulted-append, or_false, after-append, none_acked}
@@ -291,6 +291,7 @@ module _ (I : Image) where
   slice_served n W (Unread why ∷ es) slice = absurd slice
   slice_served n W (Began v ∷ es) slice = absurd slice
   slice_served n W (Moved v h ∷ es) slice = absurd slice
+  slice_served n W (Forgot keys ∷ es) slice = absurd slice
 
   pub driven_served : (W : World) (es : List Event) → IsDriven I W es → are_served es ≡ true
   driven_served W [] driven = refl
@@ -300,6 +301,7 @@ module _ (I : Image) where
   driven_served W (Unread why ∷ es) driven = absurd driven
   driven_served W (Began v ∷ es) driven = absurd driven
   driven_served W (Moved v h ∷ es) driven = absurd driven
+  driven_served W (Forgot keys ∷ es) driven = absurd driven
 
   -- ---- the end of a run
 

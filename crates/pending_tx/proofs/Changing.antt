@@ -26,7 +26,7 @@ use Rattle.pending_tx.specs.Entries.{live_entry, is_pending, is_new}
 use Rattle.settings_maps.specs.KeyList.{has_key}
 use Rattle.pending_tx.specs.Transactions.{differs, keys_of}
 
-abbrev Changes : Held → Entry → Type 0
+abbrev pub Changes : Held → Entry → Type 0
 Changes h e = laid_one h e ≢ h
 
 unlike : (b : Bool) → b ≡ true → not b ≡ true → ⊥
@@ -53,7 +53,8 @@ all_live_change h (e ∷ es) = by (differs e.1 (get h.live.values e.0)) refl (al
   by true is rest = All-cons (Changes h) (live_entry e.0 e.1) _ (live_changes h e.0 e.1 is) rest
   by false is rest = rest
 
-gone_changes : (h : Held) (tx : List ℕ) (k : List (List ℕ)) → has_key (keys_of h tx) k ≡ true → laid_one h (PendGone tx k) ≢ h
+-- An entry that takes a key that its transaction has.
+pub gone_changes : (h : Held) (tx : List ℕ) (k : List (List ℕ)) → has_key (keys_of h tx) k ≡ true → laid_one h (PendGone tx k) ≢ h
 gone_changes h tx k has same =
     let none : value_at h.pending tx k ≡ None = sym (ap (λ (g : Held). value_at g.pending tx k) same)
     ∙ value_at-without_same bytes_total key_total h.pending tx k in

@@ -28,12 +28,12 @@ use Rattle.settings_tree.specs.declared.entry.Owed.{Owed}
 use Rattle.settings_tree.specs.declared.held.Held.{Held}
 use Rattle.settings_tree.proofs.LaidAt.{laid-append, weak_set}
 use Rattle.pending_tx.specs.Changes.{Tells, NamesOnlyChanges}
-use Rattle.pending_tx.specs.Entries.{live_entry, ended_by, CommitAdds}
+use Rattle.pending_tx.specs.Entries.{live_entry, CommitAdds}
 use Rattle.settings_maps.specs.KeyList.{has_key, without_keys}
 use Rattle.pending_tx.specs.Transactions.{changed_in, changes_in, committed, differs, overlaid, owing, pending_of, with_pending, FitOver}
 use Rattle.pending_tx.proofs.Changing.{all_live_change, owed_changes, weak_changes}
 use Rattle.pending_tx.proofs.Effects.{live_laid, owed_laid, weak_laid, changes_suffice}
-use Rattle.pending_tx.proofs.Endings.{EndsBy}
+use Rattle.pending_tx.proofs.Endings.{EndsBy, ended_none}
 use Rattle.settings_maps.proofs.KeySets.{has_key-without}
 use Rattle.pending_tx.proofs.Named.{are_apart, apart-append1, unnamed-append, once-append, live_once, live_bare, live_other}
 use Rattle.pending_tx.proofs.Named.{live_apart, live_no_weak}
@@ -85,6 +85,14 @@ none_laid m q none = by (get m q) (contains_key-keys m q ∙ none) where
   by None e = refl
   by (Some p) e = absurd (cc e)
 
+-- Each key that is put there overlaps no other live key, and no other that is put there.
+pub record PutsFit (h : Held) (m : FinMap key_cmp Pending) : Type 0 where
+  pub fits : (k : List (List ℕ)) (v : Scalar) → get m k ≡ Some (Put v) → Fits h.live.values k
+  pub apart : (k q : List (List ℕ)) (v w : Scalar) → get m k ≡ Some (Put v) → get m q ≡ Some (Put w) → IsTrue (is_prefix k q) → k ≡ q
+
+pub puts_fit : (h : Held) (m : FinMap key_cmp Pending) → FitOver h m → PutsFit h m
+puts_fit h m fit = record { fits = fit.fits; apart = λ k q v w has other begins. fit.free.alone k q (ap is_some has) (ap is_some other) begins }
+
 module _ (h : Held) (m : FinMap key_cmp Pending) where
   -- A value that is there afterwards was there before, or was laid there.
   stood : (q : Key) → IsSome (get (overlaid h m).live.values q) → IsSome (get h.live.values q) ⊎ ((v : Scalar) × (get m q ≡ Some (Put v)))
@@ -95,14 +103,14 @@ module _ (h : Held) (m : FinMap key_cmp Pending) where
     by (Some (Put v)) is has = inr (v, is)
     by (Some Gone) is has = absurd (cc has)
 
-  overlaid_free : IsPrefixFree h.live.values → FitOver h m → IsPrefixFree (overlaid h m).live.values
+  overlaid_free : IsPrefixFree h.live.values → PutsFit h m → IsPrefixFree (overlaid h m).live.values
   overlaid_free free fit = record { alone = λ k q has other begins. by k q begins (stood k has) (stood q other) } where
     by : (k q : Key) → IsTrue (is_prefix k q) → IsSome (get h.live.values k) ⊎ ((v : Scalar) × (get m k ≡ Some (Put v)))
         → IsSome (get h.live.values q) ⊎ ((v : Scalar) × (get m q ≡ Some (Put v))) → k ≡ q
     by k q begins (inl a) (inl b) = free.alone k q a b begins
     by k q begins (inl a) (inr b) = let fits : Fits h.live.values q = fit.fits q b.0 b.1 in fits.shorter.alone k a begins
     by k q begins (inr a) (inl b) = let fits : Fits h.live.values k = fit.fits k a.0 a.1 in fits.longer.alone q b begins
-    by k q begins (inr a) (inr b) = fit.free.alone k q (ap is_some a.1) (ap is_some b.1) begins
+    by k q begins (inr a) (inr b) = fit.apart k q a.0 b.0 a.1 b.1 begins
 
   -- The keys that stay weak have the values that they had.
   stay_weak : (weak : List Key) → All (MayBeWeak h.live.values) weak → All (MayBeWeak (overlaid h m).live.values) (without_keys weak (keys m))
@@ -268,7 +276,7 @@ module _ (h : Held) (m : FinMap key_cmp Pending) (ended : List Entry) (after : P
         ((eq_by_cmp_equiv key_total).refl (slice_index_or h.live.weak i d))));
   }
 
-  pub commit_rule : KeepsPrefixRule h → FitOver h m → ((tx : List ℕ) → IsPrefixFree (inner after tx)) → KeepsPrefixRule (laid h commit_entries)
+  pub commit_rule : KeepsPrefixRule h → PutsFit h m → ((tx : List ℕ) → IsPrefixFree (inner after tx)) → KeepsPrefixRule (laid h commit_entries)
   commit_rule rule fit free = subst KeepsPrefixRule (sym commit_laid) (record { live = overlaid_free h m rule.live fit; pending = free })
 
 -- A change that lays values and removals over the live values, after which this is pending.
@@ -276,24 +284,23 @@ pub record CommitsTo (h : Held) (m : FinMap key_cmp Pending) (after : FinMap byt
   pub once : is_once es ≡ true
   pub bare : list_all has_bare_name es ≡ true
   pub gives : laid h es ≡ record (overlaid h m) { pending = after }
-  pub rule : KeepsPrefixRule h → FitOver h m → ((tx : List ℕ) → IsPrefixFree (inner after tx)) → KeepsPrefixRule (laid h es)
+  pub rule : KeepsPrefixRule h → PutsFit h m → ((tx : List ℕ) → IsPrefixFree (inner after tx)) → KeepsPrefixRule (laid h es)
   pub weak : NamesWeak h es
   pub told : TellsWeak h es
   pub strong : is_unnamed TheWeak es ≡ not (list_any (has_key h.live.weak) (keys m))
   pub changes : NamesOnlyChanges h es
 
 -- The entries that were added part by part.
-pub adds_made : (h : Held) (tx : Option (List ℕ)) (owed_part weak_part : Option Entry) (ks changed weak : List (List (List ℕ)))
+pub adds_made : (h : Held) (ended : List Entry) (owed_part weak_part : Option Entry) (ks changed weak : List (List (List ℕ)))
     (changes : List (List (List ℕ) × Pending)) (old first second third all : List Entry) → weak ≡ h.live.weak
     → Tells owed_part OwedSet h.owed (owing h.owed changed) → Tells weak_part WeakIs weak (without_keys weak ks)
     → is_some weak_part ≡ list_any (has_key weak) ks
-    → first ≡ old ++ map (λ e. live_entry e.0 e.1) changes → second ≡ first ++ ended_by tx ks → third ≡ second ++ option_to_list owed_part
+    → first ≡ old ++ map (λ e. live_entry e.0 e.1) changes → second ≡ first ++ ended → third ≡ second ++ option_to_list owed_part
     → all ≡ third ++ option_to_list weak_part
-    → CommitAdds h tx ks changed changes old all
-adds_made h tx owed_part weak_part ks changed weak changes old first second third all is_weak owed_tells weak_tells is_strong is_first is_second is_third
+    → CommitAdds h ended ks changed changes old all
+adds_made h ended owed_part weak_part ks changed weak changes old first second third all is_weak owed_tells weak_tells is_strong is_first is_second is_third
     is_all =
     let lives = map (λ (e : Key × Pending). live_entry e.0 e.1) changes in
-    let ended = ended_by tx ks in
     let owed_list = option_to_list owed_part in
     let weak_list = option_to_list weak_part in
     record {
@@ -308,10 +315,11 @@ adds_made h tx owed_part weak_part ks changed weak changes old first second thir
           ∙ append_assoc old (lives ++ ended ++ owed_list) weak_list;
     }
 
-whole_made : (h : Held) (m : FinMap key_cmp Pending) (tx : Option (List ℕ)) (after : Pendings) (none all : List Entry) → EndsBy h (ended_by tx (keys m)) after
-    → IsContent h.live → none ≡ [] → CommitAdds h tx (keys m) (changed_in h m) (changes_in h m) none all → CommitsTo h m after all
-whole_made h m tx after none all ends content is_none p =
-    subst (CommitsTo h m after) (sym whole) (record {
+-- What was added to none lays the values and removals over the live values.
+pub whole_made : (h : Held) (m : FinMap key_cmp Pending) (ended : List Entry) (after : FinMap bytes_cmp (FinMap key_cmp Pending)) (all : List Entry)
+    → EndsBy h ended after → IsContent h.live → CommitAdds h ended (keys m) (changed_in h m) (changes_in h m) [] all → CommitsTo h m after all
+whole_made h m ended after all ends content p =
+    subst (CommitsTo h m after) (sym p.added) (record {
       once = commit_once h m ended after ends p.owed_part p.weak_part p.owed p.weak;
       bare = commit_bare h m ended after ends p.owed_part p.weak_part p.owed p.weak;
       gives = commit_laid h m ended after ends p.owed_part p.weak_part p.owed p.weak;
@@ -321,20 +329,27 @@ whole_made h m tx after none all ends content is_none p =
       strong = commit_strong h m ended after ends p.owed_part p.weak_part p.owed p.weak ∙ ap not p.strong;
       changes = commit_changes h m ended after ends p.owed_part p.weak_part p.owed p.weak;
     })
-  where
-    ended : List Entry
-    ended = ended_by tx (keys m)
 
-    whole : all ≡ commit_entries h m ended after ends p.owed_part p.weak_part p.owed p.weak
-    whole = p.added ∙ ap (λ (l : List Entry). l ++ commit_entries h m ended after ends p.owed_part p.weak_part p.owed p.weak) is_none
+-- Where nothing that is pending is taken away, it stays.
+pub set_made : (h : Held) (m : FinMap key_cmp Pending) (ended all : List Entry) → ended ≡ [] → IsContent h.live
+    → CommitAdds h ended (keys m) (changed_in h m) (changes_in h m) [] all → CommitsTo h m h.pending all
+set_made h m ended all none content p = whole_made h m ended h.pending all
+    (subst (λ (es : List Entry). EndsBy h es h.pending) (sym none) (ended_none h)) content p
+
+-- The parts of what was added, as the values and removals have them.
+pub adds_at : (h : Held) (m : FinMap key_cmp Pending) (ended : List Entry) (ks changed : List (List (List ℕ))) (changes : List (List (List ℕ) × Pending))
+    (none all : List Entry) → none ≡ [] → ks ≡ keys m → changed ≡ changed_in h m → changes ≡ changes_in h m → CommitAdds h ended ks changed changes none all
+    → CommitAdds h ended (keys m) (changed_in h m) (changes_in h m) [] all
+adds_at h m ended ks changed changes none all is_none is_keys is_changed is_changes adds =
+    subst (λ (l : List Entry). CommitAdds h ended (keys m) (changed_in h m) (changes_in h m) l all) is_none
+    (subst (λ (l : List Key). CommitAdds h ended l (changed_in h m) (changes_in h m) none all) is_keys
+    (subst (λ (l : List Key). CommitAdds h ended ks l (changes_in h m) none all) is_changed
+    (subst (λ (l : List (Key × Pending)). CommitAdds h ended ks changed l none all) is_changes adds)))
 
 -- The entries of a commit, added to none, lay the values and removals over the live values.
-pub commit_made : (h : Held) (m : FinMap key_cmp Pending) (after : FinMap bytes_cmp (FinMap key_cmp Pending)) (tx : Option (List ℕ))
+pub commit_made : (h : Held) (m : FinMap key_cmp Pending) (after : FinMap bytes_cmp (FinMap key_cmp Pending)) (ended : List Entry)
     (ks changed : List (List (List ℕ))) (changes : List (List (List ℕ) × Pending)) (none all : List Entry)
-    → EndsBy h (ended_by tx (keys m)) after → IsContent h.live → none ≡ [] → ks ≡ keys m → changed ≡ changed_in h m → changes ≡ changes_in h m
-    → CommitAdds h tx ks changed changes none all → CommitsTo h m after all
-commit_made h m after tx ks changed changes none all ends content is_none is_keys is_changed is_changes adds =
-    whole_made h m tx after none all ends content is_none
-    (subst (λ (l : List Key). CommitAdds h tx l (changed_in h m) (changes_in h m) none all) is_keys
-    (subst (λ (l : List Key). CommitAdds h tx ks l (changes_in h m) none all) is_changed
-    (subst (λ (l : List (Key × Pending)). CommitAdds h tx ks changed l none all) is_changes adds)))
+    → EndsBy h ended after → IsContent h.live → none ≡ [] → ks ≡ keys m → changed ≡ changed_in h m → changes ≡ changes_in h m
+    → CommitAdds h ended ks changed changes none all → CommitsTo h m after all
+commit_made h m after ended ks changed changes none all ends content is_none is_keys is_changed is_changes adds =
+    whole_made h m ended after all ends content (adds_at h m ended ks changed changes none all is_none is_keys is_changed is_changes adds)

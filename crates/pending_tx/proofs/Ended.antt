@@ -14,7 +14,7 @@ use Rattle.settings_maps.specs.KeyList.{has_key}
 abbrev Pendings : Type 0
 Pendings = FinMap bytes_cmp (FinMap key_cmp Pending)
 
-abbrev taken : Pendings → List ℕ → List (List (List ℕ)) → Pendings
+abbrev pub taken : Pendings → List ℕ → List (List (List ℕ)) → Pendings
 taken m tx ks = fold (λ n k. without_value n tx k) m ks
 
 both_taken : (a b c : Bool) (x : Option Pending) → cond a (cond b None (cond a (cond c None x) x)) (cond a (cond c None x) x) ≡ cond a (cond (c || b) None x) x
@@ -29,7 +29,7 @@ none_taken true x = refl
 none_taken false x = refl
 
 -- What is where after some keys are taken.
-value_at-taken : (m : Pendings) (tx : List ℕ) (ks : List (List (List ℕ))) (t : List ℕ) (q : List (List ℕ))
+pub value_at-taken : (m : Pendings) (tx : List ℕ) (ks : List (List (List ℕ))) (t : List ℕ) (q : List (List ℕ))
     → value_at (taken m tx ks) t q ≡ cond (eq_by_cmp bytes_cmp t tx) (cond (has_key ks q) None (value_at m t q)) (value_at m t q)
 value_at-taken m tx [] t q = none_taken (eq_by_cmp bytes_cmp t tx) (value_at m t q)
 value_at-taken m tx (k ∷ ks) t q = value_at-taken (without_value m tx k) tx ks t q

@@ -1,6 +1,6 @@
 -- The entries that end a transaction, or none.
-use Rattle.std.proofs.Common.{◌≡◌, ◌≢◌, ℕ, List, Some, None, true, refl, ◌∙◌, ap}
-use Rattle.std.specs.Prelude.{All, fold}
+use Rattle.std.proofs.Common.{◌≡◌, ◌≢◌, ℕ, List, [], ◌++◌, true, refl, sym, ◌∙◌, ap, subst}
+use Rattle.std.specs.Prelude.{All, fold, map}
 use Rattle.std.specs.List.{list_all}
 use Rattle.std.specs.FinMap.{FinMap, remove}
 use Rattle.std.proofs.lemmas.List.Elements.{All-nil}
@@ -12,9 +12,9 @@ use Rattle.settings_tree.specs.Change.{Live, Pend, TheWeak}
 use Rattle.settings_tree.specs.Laid.{laid, laid_one}
 use Rattle.settings_tree.specs.Pending.{IsPending}
 use Rattle.settings_tree.specs.declared.entry.Entry.{Entry}
+use Rattle.settings_tree.specs.declared.entry.Entry.TheVariants.{PendGone}
 use Rattle.settings_tree.specs.declared.held.Held.{Held}
 use Rattle.settings_tree.proofs.Rising.{keys_rise}
-use Rattle.pending_tx.specs.Entries.{ended_by}
 use Rattle.pending_tx.specs.Transactions.{keys_of}
 use Rattle.pending_tx.proofs.Changing.{all_gone_change}
 use Rattle.pending_tx.proofs.Effects.{gone_laid}
@@ -35,7 +35,7 @@ pub record EndsBy (h : Held) (ended : List Entry) (after : FinMap bytes_cmp (Fin
   pub gives : (g : Held) → g.pending ≡ h.pending → laid g ended ≡ record g { pending = after }
 
 -- A transaction ends by its keys.
-pub ended_tx : (h : Held) (tx : List ℕ) → IsPending h.pending → EndsBy h (ended_by (Some tx) (keys_of h tx)) (remove h.pending tx)
+pub ended_tx : (h : Held) (tx : List ℕ) → IsPending h.pending → EndsBy h (map (λ k. PendGone tx k) (keys_of h tx)) (remove h.pending tx)
 ended_tx h tx valid = record {
   once = gone_once tx (keys_of h tx) (keys_rise (inner h.pending tx) (keys_of h tx) refl);
   bare = gone_bare tx (keys_of h tx);
@@ -48,9 +48,15 @@ ended_tx h tx valid = record {
       ∙ ap (λ (m : Pendings). record g { pending = m }) (all_taken h.pending tx valid.full);
 }
 
+-- The entries that were added for its keys to none.
+pub ended_made : (h : Held) (tx : List ℕ) (none all : List Entry) (ks : List (List (List ℕ))) → IsPending h.pending → none ≡ [] → ks ≡ keys_of h tx
+    → all ≡ none ++ map (λ k. PendGone tx k) ks → EndsBy h all (remove h.pending tx)
+ended_made h tx none all ks valid is_none is_keys is_all = subst (λ (es : List Entry). EndsBy h es (remove h.pending tx))
+    (sym (is_all ∙ ap (λ (es : List Entry). es ++ map (λ k. PendGone tx k) ks) is_none ∙ ap (map (λ k. PendGone tx k)) is_keys)) (ended_tx h tx valid)
+
 -- Where none ends, what is pending stays.
-pub ended_none : (h : Held) (keys : List (List (List ℕ))) → EndsBy h (ended_by None keys) h.pending
-ended_none h keys = record {
+pub ended_none : (h : Held) → EndsBy h [] h.pending
+ended_none h = record {
   once = refl;
   bare = refl;
   no_live = λ k. refl;

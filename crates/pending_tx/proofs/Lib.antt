@@ -8,6 +8,9 @@ pub mod Found
 pub mod Named
 pub mod OneChange
 pub mod Patches
+pub mod Places
+pub mod Forgets
 pub mod Present
 pub mod Rows
+pub mod Takings
 pub mod Walked

@@ -36,18 +36,17 @@ pend_entry h tx k v = if is_new h tx k v then PendSet tx k v ∷ [] else []
 abbrev pub patch_entries : Held → List ℕ → List (List (List ℕ) × Pending) → List Entry
 patch_entries h tx pairs = map (λ e. PendSet tx e.0 e.1) (filter (λ e. is_new h tx e.0 e.1) (entries (last_of pairs)))
 
--- The entries that take its keys from the transaction that ends, none where none ends.
-abbrev pub ended_by : Option (List ℕ) → List (List (List ℕ)) → List Entry
-ended_by None keys = []
-ended_by (Some tx) keys = map (λ k. PendGone tx k) keys
+-- The entries that take each of these keys from its transaction.
+abbrev pub taken_by : List (List ℕ × List (List ℕ)) → List Entry
+taken_by pairs = map (λ p. PendGone p.0 p.1) pairs
 
--- What a commit adds to some entries: those for the live values, those that end a transaction, and one for the owed and one for the weak keys where
--- these change.
-pub record CommitAdds (h : Held) (tx : Option (List ℕ)) (keys changed : List (List (List ℕ))) (changes : List (List (List ℕ) × Pending))
+-- What a commit adds to some entries: those for the live values, those that take away what was pending, and one for the owed and one for the weak keys
+-- where these change.
+pub record CommitAdds (h : Held) (ended : List Entry) (keys changed : List (List (List ℕ))) (changes : List (List (List ℕ) × Pending))
     (old new : List Entry) : Type 0 where
   pub owed_part : Option Entry
   pub weak_part : Option Entry
   pub owed : Tells owed_part OwedSet h.owed (owing h.owed changed)
   pub weak : Tells weak_part WeakIs h.live.weak (without_keys h.live.weak keys)
   pub strong : is_some weak_part ≡ list_any (has_key h.live.weak) keys
-  pub added : new ≡ old ++ (map (λ e. live_entry e.0 e.1) changes ++ ended_by tx keys ++ option_to_list owed_part ++ option_to_list weak_part)
+  pub added : new ≡ old ++ (map (λ e. live_entry e.0 e.1) changes ++ ended ++ option_to_list owed_part ++ option_to_list weak_part)

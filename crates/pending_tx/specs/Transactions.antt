@@ -1,18 +1,19 @@
 -- What the calls read of a transaction, and what they make of what is held.
-use Rattle.std.specs.Prelude.{◌≡◌, ℕ, Bool, true, not, List, Option, Some, None, IsTrue, All, is_some, filter, fold, map}
+use Rattle.std.specs.Prelude.{◌≡◌, ◌||◌, ℕ, Bool, true, not, List, Option, Some, None, IsTrue, All, is_some, filter, fold, map}
+use Rattle.std.specs.List.{flat_map, list_any}
 use Rattle.std.specs.FinMap.{FinMap, empty, get, insert, remove, entries, keys}
-use Rattle.key_names.specs.Order.{key_cmp}
+use Rattle.key_names.specs.Order.{bytes_cmp, key_cmp}
 use Rattle.key_names.specs.Key.{is_prefix}
 use Rattle.json_trees.specs.Equal.{scalar_eq}
 use Rattle.json_trees.specs.declared.scalar.Scalar.{Scalar}
 use Rattle.json_trees.specs.declared.pending.Pending.{Pending}
 use Rattle.json_trees.specs.declared.pending.Pending.TheVariants.{Put, Gone}
-use Rattle.settings_maps.specs.Maps.{inner, value_at, with_value}
+use Rattle.settings_maps.specs.Maps.{inner, value_at, with_value, without_value}
 use Rattle.settings_tree.specs.Rule.{Fits, IsPrefixFree}
 use Rattle.settings_tree.specs.declared.entry.Owed.{Owed}
 use Rattle.settings_tree.specs.declared.entry.Owed.TheVariants as owed
 use Rattle.settings_tree.specs.declared.held.Held.{Held}
-use Rattle.settings_maps.specs.KeyList.{joined, without_keys}
+use Rattle.settings_maps.specs.KeyList.{has_key, joined, without_keys}
 
 -- What the transaction has pending, by key; nothing where there is no such transaction.
 abbrev pub pending_of : Held → List ℕ → FinMap key_cmp Pending
@@ -84,6 +85,26 @@ last_of pairs = fold (λ m e. insert m e.0 e.1) empty pairs
 -- What is held after the pairs are laid over the live values at once; of several pairs of a key the last one counts.
 abbrev pub set_at_once : Held → List (List (List ℕ) × Pending) → Held
 set_at_once h pairs = overlaid h (last_of pairs)
+
+-- The removal of each of these keys.
+abbrev pub removals : List (List (List ℕ)) → List (List (List ℕ) × Pending)
+removals ks = map (λ k. (k, Gone)) ks
+
+-- These keys, each once and rising.
+abbrev pub rising : List (List (List ℕ)) → List (List (List ℕ))
+rising ks = keys (last_of (removals ks))
+
+-- The keys of these for which something is pending, each with the name of its transaction.
+abbrev pub pending_at : FinMap bytes_cmp (FinMap key_cmp Pending) → List (List (List ℕ)) → List (List ℕ × List (List ℕ))
+pending_at m ks = flat_map (λ t. map (λ k. (t.0, k)) (filter (has_key ks) (keys t.1))) (entries m)
+
+-- What is held once these keys are forgotten: they are removed at once, and nothing is pending for them any more.
+abbrev pub forgotten : Held → List (List (List ℕ)) → Held
+forgotten h ks = record (set_at_once h (removals ks)) { pending = fold (λ m p. without_value m p.0 p.1) h.pending (pending_at h.pending ks) }
+
+-- Whether the key has a value, live or pending.
+abbrev pub is_held : Held → List (List ℕ) → Bool
+is_held h k = is_some (get h.live.values k) || list_any (λ t. is_some (get t.1 k)) (entries h.pending)
 
 -- Each key that is set overlaps no other live key, and no other that is set.
 pub record FitOver (h : Held) (m : FinMap key_cmp Pending) : Type 0 where

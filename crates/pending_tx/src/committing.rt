@@ -1,13 +1,13 @@
 //! The commit of a transaction.
 ghost use Rattle.std.specs.Prelude.{◌≡◌, ◌++◌, IfOk, OnOk, None, Err, not};
 ghost use Rattle.std.specs.List.{list_any};
-ghost use Rattle.std.specs.Option.{option_copied, option_to_list};
+ghost use Rattle.std.specs.Option.{option_to_list};
 ghost use Rattle.std.specs.FinMap.{get};
 ghost use Rattle.settings_tree.specs.Change.{TheWeak, is_unnamed};
 ghost use Rattle.settings_tree.specs.Laid.{laid, KeepsPrefixRule, NamesWeak, TellsWeak};
 ghost use Rattle.settings_tree.specs.Content.{IsContent};
 ghost use Rattle.pending_tx.specs.Changes.{NamesOnlyChanges};
-ghost use Rattle.pending_tx.specs.Entries.{ended_by, CommitAdds};
+ghost use Rattle.pending_tx.specs.Entries.{CommitAdds};
 ghost use Rattle.settings_maps.specs.KeyList.{has_key};
 ghost use Rattle.pending_tx.specs.Transactions.{changed_keys, committed, keys_of, FitLive};
 ghost use Rattle.pending_tx.specs.declared.answers.CommitError.TheVariants.{NoPending};
@@ -30,31 +30,29 @@ fn push_some(entries: &mut Vec<Entry>, entry: Option<Entry>) -> Result<(), Alloc
     Ok(())
 }
 
-fn end_some(entries: &mut Vec<Entry>, tx: Option<&TxName>, keys: &KeyList) -> Result<(), AllocError>
-    ensures { OnOk result (entries.new.items ≡ entries.old.items ++ ended_by (option_copied tx.entry) keys.now) }
+fn push_all(entries: &mut Vec<Entry>, more: Vec<Entry>) -> Result<(), AllocError>
+    ensures { OnOk result (entries.new.items ≡ entries.old.items ++ more.items) }
 {
-    match tx {
-        Some(tx) => end(entries, tx, keys),
-        None => Ok(()),
-    }
+    let mut more = more;
+    entries.append(&mut more)
 }
 
-/// Adds the entries of a commit: those that lay the changes over the live values, those that take the
-/// keys from the transaction that ends, if one does, and one for the owed and one for the weak keys
-/// where these change. The only error is out of memory.
+/// Adds the entries of a commit: those that lay the changes over the live values, those that take away
+/// what was pending, and one for the owed and one for the weak keys where these change. The only error
+/// is out of memory.
 pub(crate) fn push_commit(
     entries: &mut Vec<Entry>,
     held: &Held,
-    tx: Option<&TxName>,
+    ended: Vec<Entry>,
     keys: &KeyList,
     changed: &KeyList,
     changes: Vec<(Key, Pending)>,
 ) -> Result<(), AllocError>
-    ensures added { OnOk result (CommitAdds held.now (option_copied tx.entry) keys.now changed.now changes.items entries.old.items entries.new.items) }
+    ensures added { OnOk result (CommitAdds held.now ended.items keys.now changed.now changes.items entries.old.items entries.new.items) }
     ensures valid { OnOk result (IsContent held.now.live) }
 {
     set_live(entries, changes)?;
-    end_some(entries, tx, keys)?;
+    push_all(entries, ended)?;
     push_some(entries, owed_entry(&held.owed, changed)?)?;
     push_some(entries, weak_entry(held.live.weak(), keys)?)
 }
@@ -73,8 +71,10 @@ fn commit_pending(alloc: Global, held: &Held, tx: &TxName) -> Result<Commit, All
     let keys = keys_of(alloc, held, tx)?;
     let changes = changes_in(held, pending(alloc, held, tx)?);
     let changed = keys_in(alloc, &changes)?;
+    let mut ended = Vec::new(alloc);
+    end(&mut ended, tx, &keys)?;
     let mut entries = Vec::new(alloc);
-    push_commit(&mut entries, held, Some(tx), &keys, &changed, changes)?;
+    push_commit(&mut entries, held, ended, &keys, &changed, changes)?;
     let change = Change::of(entries);
     Ok(Commit {
         keys,

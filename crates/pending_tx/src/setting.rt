@@ -9,9 +9,7 @@ ghost use Rattle.pending_tx.specs.Changes.{NamesOnlyChanges};
 ghost use Rattle.pending_tx.specs.Transactions.{changed_in, last_of, set_at_once, FitOver};
 
 use crate::answers::Commit;
-use crate::committing::push_commit;
-use crate::live_changes::{changes_in, keys_in};
-use crate::pairs::last_pairs;
+use crate::overlaying::overlay;
 use key_names::Key;
 use settings_tree::{Change, Held, Pending};
 use std::alloc::{AllocError, Global};
@@ -34,16 +32,10 @@ pub fn set(alloc: Global, held: &Held, pairs: &[(Key, Pending)]) -> Result<Commi
     ensures strong { IfOk result (λ c. is_unnamed TheWeak c.change ≡ not (list_any (has_key held.now.live.weak) (keys (last_of pairs.now)))) }
     ensures changes { IfOk result (λ c. NamesOnlyChanges held.now c.change) }
 {
-    let last = last_pairs(alloc, pairs)?;
-    let keys = keys_in(alloc, &last)?;
-    let changes = changes_in(held, last);
-    let changed = keys_in(alloc, &changes)?;
-    let mut entries = Vec::new(alloc);
-    push_commit(&mut entries, held, None, &keys, &changed, changes)?;
-    let change = Change::of(entries);
+    let overlaid = overlay(alloc, held, pairs, Vec::new(alloc))?;
     Ok(Commit {
-        keys,
-        changed,
-        change,
+        keys: overlaid.keys,
+        changed: overlaid.changed,
+        change: Change::of(overlaid.entries),
     })
 }

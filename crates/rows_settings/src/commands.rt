@@ -15,11 +15,11 @@ fn pairs(out: &mut String, pairs: &[(Key, Scalar)]) -> Result<(), AllocError> {
     out.push('\n')
 }
 
-fn user_data(out: &mut String, path: &Path) -> Result<(), AllocError> {
+fn word_with_path(out: &mut String, word: &str, path: &Path) -> Result<(), AllocError> {
     let alloc = *out.allocator();
     let names = path.names().len();
     let path = String::from_utf8_lossy(alloc, &path.print()?)?;
-    writeln!(out, "user-data of {names} names <{path}>")
+    writeln!(out, "{word} of {names} names <{path}>")
 }
 
 fn told(out: &mut String, command: &Command) -> Result<(), AllocError> {
@@ -44,7 +44,10 @@ fn told(out: &mut String, command: &Command) -> Result<(), AllocError> {
         Command::Prune => out.push_str("prune\n"),
         Command::Load { count } => writeln!(out, "load {count}"),
         Command::Generate => out.push_str("generate\n"),
-        Command::UserData { path } => user_data(out, path),
+        Command::UserData { path } => word_with_path(out, "user-data", path),
+        Command::Dump => out.push_str("dump\n"),
+        Command::Restore { path } => word_with_path(out, "restore", path),
+        Command::Forget { keys } => lines::keys(out, "forget", keys),
     }
 }
 

@@ -1,5 +1,5 @@
 //! Held texts.
-use held_text::{HeldError, HeldText};
+use held_text::{DumpError, HeldError, HeldText, dump_text, read_dump};
 use key_names::Bytes;
 use row_files::{bad, parts};
 use settings_tree::{Content, Held, KeyList, Owed, PendMaps};
@@ -45,6 +45,22 @@ pub fn held_of(alloc: Global, members: &str) -> io::Result<Held> {
 /// Tells what is held.
 pub fn print(out: &mut String, held: &Held) -> Result<(), AllocError> {
     writeln!(out, "{}", held.print()?.as_str())
+}
+
+/// Tells the dump that the text is, printed, or why it is none.
+pub fn dump(out: &mut String, text: &[u8]) -> Result<(), AllocError> {
+    let alloc = *out.allocator();
+    let refusal = match read_dump(alloc, text) {
+        Ok(dump) => {
+            let text = dump_text(alloc, dump.version, &dump.held)?;
+            return writeln!(out, "{}", text.as_str());
+        }
+        Err(DumpError::NotJson) => "not-json\n",
+        Err(DumpError::BadHeld) => "bad-held\n",
+        Err(DumpError::BadVersion) => "bad-version\n",
+        Err(DumpError::Memory) => return Err(AllocError),
+    };
+    out.push_str(refusal)
 }
 
 /// Holds the text, and tells a copy of it if `is_told`, or tells that it is none.

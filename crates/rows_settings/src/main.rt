@@ -5,7 +5,7 @@
 //!   `settings`, and `pairs KEY JSON` the pairs below the key. `names TEXT` says what the text may name.
 //! - `joined`, `without` and `shares` take two lists of keys, and `removed` a list and a key.
 //! - `text TEXT` reads a held text, `held MEMBERS` that of the members, as `live:[["a",1]]`: both print a copy of it. `with MEMBERS` comes to nothing.
-//!   `print` prints what is held.
+//!   `print` prints what is held. `dump TEXT` reads a dump, and prints it as a dump again.
 //! - Of the live settings: `below KEY`, `put KEY JSON`, `take KEY`, `put-meta KEY NAME JSON`, `take-meta KEY NAME` and `may-be-weak KEYS`; `setting KEY` of
 //!   none. What is taken is printed, and whether something is there then.
 //! - Of transactions: `transactions`, `pending NAME`, `put-pending NAME KEY JSON`, `take-pending NAME KEY`, `patch NAME PAIRS`, `commit NAME` and
@@ -95,6 +95,7 @@ impl Subject for Rows {
                 sets::tell(out, word, given.input_text()?)?;
             }
             "names" => sets::names(out, input)?,
+            "dump" => held::dump(out, input)?,
             "words" => commands::tell(out, given.words()?)?,
             "release" => releases::tell(out, input)?,
             "plan" => releases::plans(out, given)?,

@@ -3,7 +3,7 @@ use command_words::{Command, WordsError};
 use std::alloc::{AllocError, Global};
 
 // The words of all commands.
-const COMMANDS: [&str; 12] = [
+const COMMANDS: [&str; 15] = [
     "init",
     "serve",
     "set",
@@ -15,6 +15,9 @@ const COMMANDS: [&str; 12] = [
     "prune",
     "generate",
     "user-data",
+    "dump",
+    "restore",
+    "forget",
     "load",
 ];
 
@@ -62,7 +65,7 @@ fn wrong_pair(alloc: Global, word: &str) -> Result<&'static str, AllocError> {
     }
 }
 
-// What is wrong with a word of `set` or `get`, if something is.
+// What is wrong with a word of `set`, `get` or `forget`, if something is.
 fn wrong_word(
     alloc: Global,
     command: &str,
@@ -87,7 +90,8 @@ fn wanted_by(command: &str) -> &'static str {
             "[--boot] [--slice N] [--while-idle] [--connections N] [--quiet], N at most 4294967295 and a slice at least 1",
         "set" => "KEY=JSON ...",
         "apply" => "[--all]",
-        "user-data" => "PATH, a path below the working folder",
+        "forget" => "KEY ...",
+        "user-data" | "restore" => "PATH, a path below the working folder",
         "load" => "N, from 1 to 10000",
         _ => "no word behind it",
     }
@@ -118,7 +122,7 @@ pub fn fault_of(alloc: Global, words: &[String]) -> Result<Option<String>, Alloc
     if !COMMANDS.contains(&command) {
         return Ok(Some(format!(in alloc; "{command}: no command")?));
     }
-    if command == "set" || command == "get" {
+    if matches!(command, "set" | "get" | "forget") {
         let found = fault_of_each(alloc, command, behind)?;
         if found.is_some() {
             return Ok(found);

@@ -19,5 +19,8 @@ pub const PAGE: &str = "usage: settings COMMAND, in the folder of the host
   prune                removes the files of other versions
   generate             asks the image's generators for settings that have no value
   user-data PATH       sets what the file of user data at the path says
+  dump                 prints what the store holds and its version
+  restore PATH         begins a store with what the file of a dump at the path says
+  forget KEY ...       takes away what is set and what is pending at the keys
   load N               makes a generated run of N settings in memory, and prints its counts
 ";

@@ -40,6 +40,7 @@ told files image (Err (refused.Conflict key)) read reports = absurd reports
 told files image (Err (refused.GeneratorStatus key number)) read reports = absurd reports
 told files image (Err (refused.GeneratorOutput key)) read reports = absurd reports
 told files image (Err (refused.UserData kind at)) read reports = absurd reports
+told files image (Err (refused.Dump kind at)) read reports = absurd reports
 told files image (Err (refused.MigrationStatus name number)) read reports = absurd reports
 told files image (Err (refused.MigrationOutput name)) read reports = absurd reports
 told files image (Err (refused.NotCurrent lines)) read reports = absurd reports

@@ -3,6 +3,7 @@ use Rattle.std.proofs.Common.{arith, ◌≡◌, ◌≤◌, inl, inr, ℕ, Option
 use Rattle.outside.specs.Door.{DoorState}
 use Rattle.outside.proofs.Told.{where_all}
 use Rattle.command_words.specs.Orders.{Order, order_of, init, serve, set, get, apply, verify, check, migrate, prune, load, generate, user_data}
+use Rattle.command_words.specs.Orders.{dump, restore, forget}
 use Rattle.command_words.specs.declared.command.Command.{Command}
 use Rattle.command_outcome.specs.Ends.{Outcome}
 use Rattle.command_outcome.specs.declared.refusal.Refusal.TheVariants as refused
@@ -42,3 +43,6 @@ does_nothing now unused prune = inr (refl, refl)
 does_nothing now unused (load count) = inr (refl, refl)
 does_nothing now unused generate = inr (record { answers = refl; same = refl; unasked = refl })
 does_nothing now unused (user_data path) = inr (refl, refl)
+does_nothing now unused dump = inr (refl, refl)
+does_nothing now unused (restore path) = inr (refl, refl)
+does_nothing now unused (forget keys) = inr (refl, refl)

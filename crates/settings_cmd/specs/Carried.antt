@@ -6,6 +6,7 @@ use Rattle.outside.specs.Told.{Moves, WhereTold}
 use Rattle.outside.specs.Tree.{node_at, file_in}
 use Rattle.outside.specs.Spawner.{Question}
 use Rattle.store_image.specs.Paths.{sources_in}
+use Rattle.settings_machine.specs.Events.{new_held}
 use Rattle.version_links.specs.Versions.{version_text}
 use Rattle.version_links.specs.declared.version.Version.{Version}
 use Rattle.store_open.specs.Beginning.{Begins}
@@ -77,7 +78,7 @@ AnswersBeginning version (Err e) outcome = HandsBeginning e outcome
 -- A store of this version is begun.
 pub record IsBegun (version : Version) (outcome : Outcome) (d d' : Option History) : Type 0 where
   pub result : Result (Unit {0}) InitError
-  pub begins : Moves d d' (Begins version result)
+  pub begins : Moves d d' (Begins version new_held result)
   pub answers : AnswersBeginning version result outcome
 
 -- The store is opened, and the values at the keys and below them are reported.

@@ -8,12 +8,14 @@ use Rattle.api_server.specs.Causes.{FaultCounts, fault_counts}
 use Rattle.api_server.specs.declared.pace.Pace.{Pace}
 use Rattle.command_outcome.specs.Ends.{Outcome}
 use Rattle.command_words.specs.Orders.{Order, init, serve, set, get, apply, verify, check, migrate, prune, load, generate, user_data}
+use Rattle.command_words.specs.Orders.{dump, restore, forget}
 use Rattle.core_commands.specs.Carried.{Carried as Commanded, set_requests, apply_requests}
 use Rattle.core_commands.specs.Lines.{IsSettingsLine, IsJobLine}
 use Rattle.core_commands.specs.Verifying.{HasVerified}
 use Rattle.settings_cmd.specs.Carried.{Carried, IsBegun, IsGot, IsChecked, IsMigrated, IsPruned, GeneratesOrNot, IsProvided, IsLoaded}
 use Rattle.event_lines.specs.Logs.{LogState}
 use Rattle.settings_cmd.specs.Serving.{HasServed, HasAccepted}
+use Rattle.settings_cmd.specs.Stores.{IsDumped, IsForgotten, IsRestored}
 
 -- How often disk, door and spawner have failed.
 pub record Faults : Type 0 where
@@ -65,4 +67,7 @@ Does (migrate to) outcome old new = IsMigrated to old.asked new.asked outcome ol
 Does prune outcome old new = Carried IsPruned outcome old.disk new.disk
 Does generate outcome old new = GeneratesOrNot old.asked new.asked outcome old.disk new.disk
 Does (user_data path) outcome old new = Carried (IsProvided path) outcome old.disk new.disk
+Does dump outcome old new = Carried IsDumped outcome old.disk new.disk
+Does (restore path) outcome old new = Carried (IsRestored path) outcome old.disk new.disk
+Does (forget keys) outcome old new = Carried (IsForgotten keys) outcome old.disk new.disk
 Does (load count) outcome old new = Carried (IsLoaded count) outcome old.disk new.disk

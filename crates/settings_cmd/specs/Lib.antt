@@ -9,4 +9,5 @@ pub mod Laws
 pub mod Prunes
 pub mod Releases
 pub mod Serving
+pub mod Stores
 pub mod UserData

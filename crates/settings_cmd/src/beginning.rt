@@ -11,8 +11,8 @@ use std::alloc::Global;
 use store_open::{InitError, init};
 use version_links::Version;
 
-// Why no store was begun.
-fn refusal_of(error: InitError) -> Result<Bytes, Refusal>
+/// Why no store was begun.
+pub(crate) fn not_begun(error: InitError) -> Result<Bytes, Refusal>
     ensures { HandsBeginning error result }
 {
     match error {
@@ -38,6 +38,6 @@ pub(crate) fn begin<D: Disk>(
     let line = version_line(alloc, version)?;
     match init(alloc, disk, version) {
         Ok(()) => Ok(line),
-        Err(error) => refusal_of(error),
+        Err(error) => not_begun(error),
     }
 }

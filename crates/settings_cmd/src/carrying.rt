@@ -10,11 +10,14 @@ ghost use Rattle.settings_cmd.specs.Does.{Does, devices, faults};
 
 use crate::beginning::begin;
 use crate::checking::check;
+use crate::dumping::dump;
+use crate::forgetting::forget;
 use crate::generating::generate;
 use crate::getting::get;
 use crate::migrating::migrate_to;
 use crate::provisioning::provision;
 use crate::pruning::prune_others;
+use crate::restoring::restore;
 use crate::serving::serve_store;
 use api_server::Pace;
 use command_outcome::Refusal;
@@ -91,6 +94,9 @@ pub fn carry_out<D: Disk, S: Asker, N: Door, L: Sink>(
         Ok(Command::Prune) => prune_others(alloc, disk),
         Ok(Command::Generate) => generate(alloc, disk, spawner),
         Ok(Command::UserData { path }) => provision(alloc, disk, &path),
+        Ok(Command::Dump) => dump(alloc, disk),
+        Ok(Command::Restore { path }) => restore(alloc, disk, &path),
+        Ok(Command::Forget { keys }) => forget(alloc, disk, &keys),
         Ok(Command::Load { count }) => load(alloc, count),
         Err(WordsError::Usage) => Err(Refusal::Usage),
         Err(WordsError::Memory) => Err(Refusal::Memory),

@@ -4,6 +4,8 @@
 mod beginning;
 mod carrying;
 mod checking;
+mod dumping;
+mod forgetting;
 mod generating;
 mod generator_file;
 mod getting;
@@ -12,6 +14,7 @@ mod migrating;
 mod provisioning;
 mod pruning;
 mod releasing;
+mod restoring;
 mod serving;
 mod version_line;
 

@@ -11,6 +11,7 @@ use Rattle.json_trees.specs.declared.pending.Pending.{Pending}
 use Rattle.settings_maps.specs.Maps.{with_value}
 use Rattle.settings_maps.proofs.NestedMaps.{get-insert_same, get-insert_other, get-remove_same, get-remove_other}
 use Rattle.template_eval.specs.Rendered.{Rendered}
+use Rattle.pending_tx.proofs.Places.{forgotten_alike}
 use Rattle.settings_machine.specs.World.{Key, Image, World, Work, Job, Idle, Failed, Running, rendered}
 use Rattle.settings_machine.specs.Typed.{Wanted, first_wanted}
 use Rattle.settings_machine.specs.Requests.{Request, Root, OsNames, Settings, SettingsAt, SettingsBelow}
@@ -20,7 +21,7 @@ use Rattle.settings_machine.specs.Requests.{Commit, Apply, CommitAndApply, JobNo
 use Rattle.settings_machine.specs.Step.{Outcome, Answered, WithoutMemory, Unopened, Faulted, Answer, Fine, NoRoom, FileFault, NoSpawn, SyncFault, OwedFault}
 use Rattle.settings_machine.specs.Step.{patch_next, commit_next, commit_and_apply_next, answered, request_next}
 use Rattle.settings_machine.specs.Step.{wrote, Command, command_turn, last_turn, after_files_turn, work_turn, job_turn, turn_next, opened}
-use Rattle.settings_machine.specs.Events.{Event, Opening, Succeeded, Failing, Opened, Asked, Unread, Turned, Began, Moved, opening_next, next, after}
+use Rattle.settings_machine.specs.Events.{Event, Opening, Succeeded, Failing, Opened, Asked, Unread, Turned, Began, Moved, Forgot, opening_next, next, after}
 use Rattle.settings_machine.specs.Apart.{is_on, is_event_on, events_on, is_guarded, is_guarded_event, OthersLeaveIt, TransactionsAreApart}
 use Rattle.settings_machine.specs.Step.{set_next, changed_by}
 use Rattle.settings_machine.proofs.Elements.{name_tied}
@@ -176,6 +177,7 @@ module _ (I : Image) (tx : List ℕ) where
   next_other W (Turned a) else' = ap (λ (m : Maps). get m tx) (turn_keeps I W a)
   next_other W (Began version) else' = absurd (cc else')
   next_other W (Moved version held) else' = absurd (cc else')
+  next_other W (Forgot keys) else' = absurd (cc else')
 
   -- ---- requests on the transaction
 
@@ -250,6 +252,7 @@ module _ (I : Image) (tx : List ℕ) where
     next_own (Turned a) is plain = absurd (cc is)
     next_own (Began version) is plain = refl
     next_own (Moved version held) is plain = refl
+    next_own (Forgot keys) is plain = forgotten_alike tx keys W.held X.held same
 
     reply_same : (o : Outcome) → (request_next I W (Pends tx) o).reply ≡ (request_next I X (Pends tx) o).reply
     unfolding request_next

@@ -23,7 +23,7 @@ use Rattle.settings_machine.specs.Step.{with_job, begun}
 use Rattle.settings_machine.specs.Step.{with_file, wrote, file_turn, Command, ended, ran}
 use Rattle.settings_machine.specs.Step.{command_turn, last_turn, after_files_turn, work_turn, job_turn, turn_next, opened}
 use Rattle.settings_machine.specs.Events.{Event, Opening, Succeeded, Failing, Opened, Asked, Unread}
-use Rattle.settings_machine.specs.Events.{Turned, Began, Moved, opening_next, next, after, is_served, are_served}
+use Rattle.settings_machine.specs.Events.{Turned, Began, Moved, Forgot, opening_next, next, after, is_served, are_served}
 use Rattle.settings_machine.specs.Covered.{IsCovered}
 use Rattle.settings_machine.proofs.Coverage.{covered_service}
 use Rattle.settings_machine.specs.Paid.{IsCurrent, IsGood}
@@ -292,6 +292,7 @@ module _ (I : Image) (image : IsGood I) (S : List ℕ → Type 0) (are_covered :
   next_good W (Turned a) served good = turn_good W a good
   next_good W (Began version) served good = absurd (cc served)
   next_good W (Moved version held) served good = absurd (cc served)
+  next_good W (Forgot keys) served good = absurd (cc served)
 
   pub after_good : (W : World) (events : List Event) → are_served events ≡ true → IsGoodWorld W → IsGoodWorld (after I W events)
   after_good W [] served good = good

@@ -10,6 +10,7 @@ pub mod Openings
 pub mod Paying
 pub mod Lasting
 pub mod PaidLaws
+pub mod Forgetting
 pub mod Sequences
 pub mod Restarts
 pub mod Programs

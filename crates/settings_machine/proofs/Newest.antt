@@ -9,9 +9,9 @@ use Rattle.settings_machine.specs.declared.cause.Cause.TheVariants as cause
 use Rattle.settings_machine.specs.World.{Among, Image, World, Work, Job, Idle, Failed, Running, is_running, owes_none, rendered}
 use Rattle.settings_machine.specs.Step.{Answer, Fine, NoRoom, FileFault, NoSpawn, SyncFault, OwedFault, begun}
 use Rattle.settings_machine.specs.Step.{wrote, file_turn, Command, ended, command_turn, last_turn, after_files_turn, work_turn, job_turn, turn_next}
-use Rattle.settings_machine.specs.Events.{Event, Opened, Asked, Unread, Turned, Began, Moved, next}
+use Rattle.settings_machine.specs.Events.{Event, Opened, Asked, Unread, Turned, Began, Moved, Forgot, next}
 use Rattle.settings_machine.specs.Jobs.{Course, has_none, run_of, is_last, ending_of, followed, begun_by, courses_by}
-use Rattle.settings_machine.proofs.Restarts.{Leads, Begins, GoesOn, same_leads, request_leads, opening_leads}
+use Rattle.settings_machine.proofs.Restarts.{Leads, Begins, GoesOn, same_leads, noting_leads, request_leads, opening_leads}
 
 -- ---- what is known of the newest job
 
@@ -130,6 +130,7 @@ module _ (I : Image) where
   next_follows W (Turned a) = turn_follows W W.job a refl
   next_follows W (Began version) = Idles
   next_follows W (Moved version held) = Idles
+  next_follows W (Forgot keys) = lead_follows (Forgot keys) W.job _ _ refl (noting_leads I W.job _ _)
 
   -- It is known after an event where it holds of a job that begins, and of one that goes on if it did before.
   module _ (P : World → Owed → Work → Type 0) (W N : World) where

@@ -20,7 +20,7 @@ use Rattle.settings_machine.specs.World.{Key, Among, Image, World, Job, Idle, Fa
 use Rattle.settings_machine.specs.Opening.{added_keys}
 use Rattle.settings_machine.specs.Step.{noting, opened}
 use Rattle.settings_machine.specs.Events.{Event, Opening, Succeeded, Failing, Opened, Asked, Unread}
-use Rattle.settings_machine.specs.Events.{Turned, Began, Moved, new_held, opening_next, next, after, is_served}
+use Rattle.settings_machine.specs.Events.{Turned, Began, Moved, Forgot, new_held, opening_next, next, after, is_served}
 use Rattle.settings_machine.specs.Events.{are_served, is_taken, boots, has_booted}
 use Rattle.settings_machine.specs.Covered.{IsCovered}
 use Rattle.settings_machine.specs.Paid.{IsDue, IsDuePath, IsCurrent, RunningOwes, RunningPays, IsPaid, Paid, WasPaid, IsFit, IsGood}
@@ -66,12 +66,12 @@ no_owing I X Idle e = tt
 no_owing I X (Failed c) e = tt
 no_owing I X (Running w) e = absurd (cc e)
 
-no_paying : (I : Image) (X : World) (f : List ℕ) (j : Job) → is_running j ≡ false → RunningPays I X f j
+pub no_paying : (I : Image) (X : World) (f : List ℕ) (j : Job) → is_running j ≡ false → RunningPays I X f j
 no_paying I X f Idle e = tt
 no_paying I X f (Failed c) e = tt
 no_paying I X f (Running w) e = absurd (cc e)
 
-still : (j : Job) (keys : List Key) → is_running j ≡ false → is_running (noting j keys) ≡ false
+pub still : (j : Job) (keys : List Key) → is_running j ≡ false → is_running (noting j keys) ≡ false
 still Idle keys e = refl
 still (Failed c) keys e = refl
 still (Running w) keys e = absurd (cc e)
@@ -98,19 +98,19 @@ module _ (I : Image) (image : IsGood I) where
   -- ---- one file that is covered
 
   module _ (f : List ℕ) (covered : IsCovered I f) where
-    abbrev IsThis : List ℕ → Type 0
+    abbrev pub IsThis : List ℕ → Type 0
     IsThis g = g ≡ f
 
-    this_covered : (g : List ℕ) → IsThis g → IsCovered I g
+    pub this_covered : (g : List ℕ) → IsThis g → IsCovered I g
     this_covered g same = subst (IsCovered I) (sym same) covered
 
-    owed_or_current : (W : World) → W.held.image ≡ I.text → IsPaid I W f → FilesPaid I IsThis this_covered W
+    pub owed_or_current : (W : World) → W.held.image ≡ I.text → IsPaid I W f → FilesPaid I IsThis this_covered W
     owed_or_current W fit paid = record {
       each = λ g same. subst (λ (h : List ℕ). IsCurrent I W h ⊎ Among (files_of I.manifest W.held.owed) h) (sym same)
           (subst (λ (o : Owed). IsCurrent I W f ⊎ Among (files_of I.manifest o) f) (due_owed I W.held fit) paid.now);
     }
 
-    due_or_current : (W : World) → W.held.image ≡ I.text → FilesPaid I IsThis this_covered W → IsCurrent I W f ⊎ IsDue I W.held f
+    pub due_or_current : (W : World) → W.held.image ≡ I.text → FilesPaid I IsThis this_covered W → IsCurrent I W f ⊎ IsDue I W.held f
     due_or_current W fit files = subst (λ (o : Owed). IsCurrent I W f ⊎ Among (files_of I.manifest o) f) (sym (due_owed I W.held fit)) (files.each f refl)
 
     after_paid : (W : World) → IsFit I W → (events : List Event) → are_served events ≡ true → IsPaid I W f → IsPaid I (after I W events) f
@@ -172,6 +172,7 @@ module _ (I : Image) (image : IsGood I) where
     booted_paid W (Turned a) is = absurd (cc is)
     booted_paid W (Began version) is = all_paid (next I W (Began version)) refl refl f covered
     booted_paid W (Moved version held) is = all_paid (next I W (Moved version held)) refl refl f covered
+    booted_paid W (Forgot keys) is = absurd (cc is)
 
     stays_paid : (W : World) → IsFit I W → (events : List Event) → are_served events ≡ true → WasPaid I W events f → IsPaid I (after I W events) f
     stays_paid W fit events served (inl paid) = after_paid W fit events served paid

@@ -108,7 +108,8 @@ module _ (I : Image) (W V : World) (tx : Option (List ℕ)) (changed : List Key)
     apart f g at at' same = let k : HasGoodFiles I.manifest = good_files I.defaults I.manifest good.manifest in k.apart f g (known f at) (known g at') same
 
     answer_of : (f : List ℕ) (r : Rendered) → Among files f → rendered I f V.held.live ≡ r → (answered I W (PlanFile f tx)).reply ≡ rendered_reply f r
-    answer_of f r at is = ap (λ (b : Bool). if b then planned_file I W.held f tx else Refused (NoName f)) (known f at) ∙ ready.answers f ∙ ap (rendered_reply f) is
+    answer_of f r at is = ap (λ (b : Bool). if b then planned_file I W.held f tx else Refused (NoName f)) (known f at) ∙ ready.answers f
+        ∙ ap (rendered_reply f) is
 
     -- A file of which W answers that it doesn't render doesn't.
     refuses_so : (f : List ℕ) (e : RenderError) (r : Rendered) → Among files f → rendered I f V.held.live ≡ r

@@ -17,7 +17,7 @@ use Rattle.settings_machine.specs.Requests.{Set, ApplyAll, Guarded, Plan, PlanFi
 use Rattle.settings_machine.specs.Step.{Outcome, Answered, WithoutMemory, Unopened, Faulted, Answer, Fine, NoRoom, FileFault, NoSpawn, SyncFault, OwedFault}
 use Rattle.settings_machine.specs.Step.{patch_next, commit_next, commit_and_apply_next, set_next, changed_by, answered, request_next}
 use Rattle.settings_machine.specs.Step.{wrote, Command, after_files_turn, work_turn, job_turn, turn_next, opened}
-use Rattle.settings_machine.specs.Events.{Event, Opening, Succeeded, Failing, Opened, Asked, Unread, Turned, Began, Moved, opening_next, next, after}
+use Rattle.settings_machine.specs.Events.{Event, Opening, Succeeded, Failing, Opened, Asked, Unread, Turned, Began, Moved, Forgot, opening_next, next, after}
 use Rattle.settings_machine.specs.Jobs.{Ending, Course, run_at, run_of, is_last, ending_of, followed, begun_by, next_courses}
 use Rattle.settings_machine.specs.Jobs.{courses, runs_in, IsHistoryOf, JobsRunInOrder}
 use Rattle.settings_machine.proofs.Guards.{guarded_one}
@@ -139,6 +139,7 @@ module _ (I : Image) where
   next_runs W (Turned a) = turned_runs W W.job a
   next_runs W (Began version) = no_run W _ refl
   next_runs W (Moved version held) = no_run W _ refl
+  next_runs W (Forgot keys) = no_run W _ refl
 
   -- No program is run without a job.
   none_of_rest : (e : Event) (j : Job) → is_running j ≡ false → run_of e j ≡ []
@@ -148,6 +149,7 @@ module _ (I : Image) where
   none_of_rest (Turned a) j rests = rests_none a j rests
   none_of_rest (Began version) j rests = refl
   none_of_rest (Moved version held) j rests = refl
+  none_of_rest (Forgot keys) j rests = refl
 
   begun_runs : (j k : Job) (b : Bool) (o : Owed) (cs : List Course) → runs_in (begun_by j k b o cs) ≡ runs_in cs
   begun_runs Idle Idle b o cs = refl

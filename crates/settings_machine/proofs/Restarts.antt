@@ -23,7 +23,7 @@ use Rattle.settings_machine.specs.Step.{NoRoom, FileFault, NoSpawn, SyncFault, O
 use Rattle.settings_machine.specs.Step.{patch_next, committed_world, commit_next, begun, asked_for, applied, commit_and_apply_next, set_world}
 use Rattle.settings_machine.specs.Step.{set_next, changed_by, answered, request_next}
 use Rattle.settings_machine.specs.Step.{wrote, file_turn, Command, ended, command_turn, last_turn, after_files_turn, work_turn, job_turn, turn_next, opened}
-use Rattle.settings_machine.specs.Events.{Event, Opening, Succeeded, Failing, Opened, Asked, Unread, Turned, Began, Moved, opening_next, next, after}
+use Rattle.settings_machine.specs.Events.{Event, Opening, Succeeded, Failing, Opened, Asked, Unread, Turned, Began, Moved, Forgot, opening_next, next, after}
 use Rattle.settings_machine.specs.Jobs.{Going, Done, Broken, Course, run_at, has_none, run_of, is_last, ending_of, followed, begun_by, courses_by, next_courses}
 use Rattle.settings_machine.specs.Jobs.{courses, RunsAll, RunsInOrder, HaveEnded, IsHistoryOf}
 use Rattle.settings_machine.proofs.Guards.{guarded_one}
@@ -107,7 +107,7 @@ module _ (I : Image) where
   same_leads (Failed c) o = Fails c
   same_leads (Running w) o = GoesOn w w refl refl refl
 
-  noting_leads : (j : Job) (keys : List Key) (o : Owed) → Leads j o (noting j keys)
+  pub noting_leads : (j : Job) (keys : List Key) (o : Owed) → Leads j o (noting j keys)
   noting_leads Idle keys o = Rests
   noting_leads (Failed c) keys o = Fails c
   noting_leads (Running w) keys o = GoesOn w _ refl refl refl
@@ -350,6 +350,7 @@ module _ (I : Image) where
   next_history W (Turned a) cs history = turned W W.job a cs refl history
   next_history W (Began version) cs history = led W.job Idle owed.All cs Rests history
   next_history W (Moved version held) cs history = led W.job Idle owed.All cs Rests history
+  next_history W (Forgot keys) cs history = led W.job _ _ cs (noting_leads W.job _ _) history
 
   pub after_history : (W : World) (events : List Event) (cs : List Course) → IsHistoryOf I W.job cs
       → IsHistoryOf I (after I W events).job (courses I W events cs)

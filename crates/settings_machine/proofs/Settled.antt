@@ -19,7 +19,7 @@ use Rattle.settings_machine.specs.Requests.{Commit, Apply, CommitAndApply, JobNo
 use Rattle.settings_machine.specs.Step.{Outcome, Answered, WithoutMemory, Unopened, Faulted, Answer, Fine, NoRoom, FileFault, NoSpawn, SyncFault, OwedFault}
 use Rattle.settings_machine.specs.Step.{failing, patch_next, committed_world, begun, asked_for, applied, commit_and_apply_next, answered, request_next}
 use Rattle.settings_machine.specs.Step.{wrote, file_turn, Command, ended, command_turn, last_turn, after_files_turn, work_turn, job_turn, turn_next}
-use Rattle.settings_machine.specs.Events.{Event, Opened, Asked, Unread, Turned, Began, Moved, next, after}
+use Rattle.settings_machine.specs.Events.{Event, Opened, Asked, Unread, Turned, Began, Moved, Forgot, next, after}
 use Rattle.settings_machine.specs.Plans.{first_refusing}
 use Rattle.settings_machine.specs.Step.{Next, set_world, set_next, owing_all, changed_by, unless_refusing, guarded_next}
 use Rattle.settings_machine.proofs.Guards.{guarded_one}
@@ -248,6 +248,7 @@ module _ (I : Image) where
   next_settles W (Turned a) else' settles = turn_settles W a settles
   next_settles W (Began version) else' settles = absurd (cc else')
   next_settles W (Moved version held) else' settles = absurd (cc else')
+  next_settles W (Forgot keys) else' settles = absurd (cc else')
 
   after_settles : (W : World) (events : List Event) → list_any leaves_owed events ≡ false → WillSettle W → WillSettle (after I W events)
   after_settles W [] else' settles = settles

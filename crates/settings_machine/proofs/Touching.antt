@@ -13,7 +13,7 @@ use Rattle.template_eval.specs.Rendered.{Rendered}
 use Rattle.settings_machine.specs.World.{Among, Image, World, Files, Work, Job, Idle, Failed, Running, is_running, path_of, rendered}
 use Rattle.settings_machine.specs.Step.{Answer, Fine, NoRoom, FileFault, NoSpawn, SyncFault, OwedFault, with_file, opened}
 use Rattle.settings_machine.specs.Step.{wrote, file_turn, Command, command_turn, last_turn, after_files_turn, work_turn, job_turn, turn_next}
-use Rattle.settings_machine.specs.Events.{Event, Opening, Succeeded, Failing, Opened, Asked, Unread, Turned, Began, Moved}
+use Rattle.settings_machine.specs.Events.{Event, Opening, Succeeded, Failing, Opened, Asked, Unread, Turned, Began, Moved, Forgot}
 use Rattle.settings_machine.specs.Events.{opening_next, next, after, is_served, are_served}
 use Rattle.settings_machine.specs.Covered.{IsCovered}
 use Rattle.settings_machine.specs.Paid.{IsCurrent, RunningPays, IsPaid, IsFit, IsGood}
@@ -154,6 +154,7 @@ module _ (I : Image) where
   next_touches W (Turned a) path = turn_touches W a path
   next_touches W (Began version) path = inl refl
   next_touches W (Moved version held) path = inl refl
+  next_touches W (Forgot keys) path = inl refl
 
   -- ---- a job touches its files
 

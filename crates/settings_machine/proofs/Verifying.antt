@@ -1,16 +1,14 @@
 -- The laws of the states of configuration files.
-use Rattle.std.proofs.Common.{◌≡◌, ◌≢◌, ◌⊎◌, inl, inr, ⊎_elim, ℕ, Bool, true, false, if◌then◌else◌, List, Option, Some, None, IsSome, Ok, Err, refl, sym, ◌∙◌, ap, subst}
+use Rattle.std.proofs.Common.{◌≡◌, ◌≢◌, ⊎_elim, ℕ, Bool, true, false, if◌then◌else◌, List, Option, Some, None, IsSome, Ok, Err, refl, sym, ◌∙◌, ap, subst}
 use Rattle.std.specs.FinMap.{get}
-use Rattle.std.specs.Str.{bytes_eq}
-use Rattle.std.proofs.lemmas.Bool.{cond-true, cond-false, false_from_ne_true}
+use Rattle.std.proofs.lemmas.Bool.{false_from_ne_true}
 use Rattle.std.proofs.lemmas.Slice.Eq.{bytes_eq-Decides}
 use Rattle.metadata_links.specs.Links.{files_of}
 use Rattle.template_eval.specs.Rendered.{Rendered}
-use Rattle.template_eval.specs.declared.render_error.RenderError.{RenderError}
 use Rattle.settings_machine.specs.declared.states.FileState.{FileState}
 use Rattle.settings_machine.specs.declared.states.FileState.TheVariants.{Current, Owed, Refused, Differs, Absent}
 use Rattle.settings_machine.specs.World.{Image, World, path_of, rendered, due}
-use Rattle.settings_machine.specs.Paid.{IsDue, IsCurrent, IsPaid}
+use Rattle.settings_machine.specs.Paid.{IsCurrent, IsPaid}
 use Rattle.settings_machine.specs.Verified.{is_due, has_bytes, stale_state, state_in, file_state}
 use Rattle.settings_machine.specs.VerifyLaws.{IsStale, IsForeign, IsState, StatesAreExact, PaidFilesAreOurs}
 use Rattle.settings_machine.proofs.Elements.{name_among, among_name}

@@ -6,7 +6,7 @@ use Rattle.std.specs.Str.{bytes_eq}
 use Rattle.settings_machine.specs.World.{Image, World}
 use Rattle.settings_machine.specs.Requests.{Request, Patch, Pends, DropTx, Commit, CommitAndApply, Guarded}
 use Rattle.settings_machine.specs.Step.{Outcome, request_next}
-use Rattle.settings_machine.specs.Events.{Event, Asked, Began, Moved, after}
+use Rattle.settings_machine.specs.Events.{Event, Asked, Began, Moved, Forgot, after}
 
 -- Whether the request is a patch, the drop or the commit of the transaction, guarded or not.
 abbrev pub is_on : List ℕ → Request → Bool
@@ -17,11 +17,12 @@ is_on tx (CommitAndApply t) = bytes_eq t tx
 is_on tx (Guarded q) = is_on tx q
 is_on tx _ = false
 
--- Whether the event is such a request, or leads to another store.
+-- Whether the event is such a request, or leads to another store, or takes what is pending away.
 abbrev pub is_event_on : List ℕ → Event → Bool
 is_event_on tx (Asked q o) = is_on tx q
 is_event_on tx (Began version) = true
 is_event_on tx (Moved version held) = true
+is_event_on tx (Forgot keys) = true
 is_event_on tx _ = false
 
 -- The events on a transaction alone, in their order.

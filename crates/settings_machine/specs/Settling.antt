@@ -4,7 +4,7 @@ use Rattle.std.specs.List.{list_any}
 use Rattle.settings_machine.specs.World.{Image, World, Idle, owes_none}
 use Rattle.settings_machine.specs.Requests.{Request, Commit, Apply, CommitAndApply, Set, ApplyAll, Guarded, is_success}
 use Rattle.settings_machine.specs.Step.{Outcome, Answered, Faulted, request_next}
-use Rattle.settings_machine.specs.Events.{Event, Opened, Asked, Unread, Turned, Began, Moved, after}
+use Rattle.settings_machine.specs.Events.{Event, Opened, Asked, Unread, Turned, Began, Moved, Forgot, after}
 
 -- Whether the request asks for a job.
 abbrev pub is_applying : Request → Bool
@@ -24,7 +24,7 @@ commits_alone ApplyAll (Faulted taken) = true
 commits_alone (Guarded q) o = commits_alone q o
 commits_alone _ o = false
 
--- Whether keys may be owed after the event for which no job was asked: after such a request, an opening, a beginning and a migration.
+-- Whether keys may be owed after the event for which no job was asked: after such a request, an opening, a beginning, a migration and the forgetting of keys.
 abbrev pub leaves_owed : Event → Bool
 leaves_owed (Opened boot o) = true
 leaves_owed (Asked q o) = commits_alone q o
@@ -32,6 +32,7 @@ leaves_owed (Unread why) = false
 leaves_owed (Turned a) = false
 leaves_owed (Began version) = true
 leaves_owed (Moved version held) = true
+leaves_owed (Forgot keys) = true
 
 -- From each world: after a request for a job that was answered with success, and events of which none leaves keys owed for which no
 -- job was asked, an idle job owes nothing.

@@ -9,7 +9,7 @@ use Rattle.settings_tree.specs.declared.entry.Owed.{Owed}
 use Rattle.settings_tree.specs.declared.entry.Owed.TheVariants as owed
 use Rattle.settings_tree.specs.declared.held.Held.{Held}
 use Rattle.settings_maps.specs.KeyList.{has_key, joined}
-use Rattle.pending_tx.specs.Transactions.{pending_of, keys_of, changed_keys, committed, dropped, patched, last_of, changed_in, set_at_once}
+use Rattle.pending_tx.specs.Transactions.{pending_of, keys_of, changed_keys, committed, dropped, patched, last_of, changed_in, set_at_once, removals, forgotten}
 use Rattle.metadata_links.specs.Links.{files_of, commands_of}
 use Rattle.template_eval.specs.Rendered.{Rendered}
 use Rattle.template_eval.specs.declared.render_error.RenderError.{RenderError}
@@ -127,6 +127,10 @@ set_world W pairs = record W { held = set_at_once W.held pairs; job = noting W.j
 abbrev pub set_next : Image → World → List (Key × Pending) → Option Wanted → Next
 set_next I W pairs None = record { world = applied I (set_world W pairs); reply = Said (KeyList (keys (last_of pairs))) }
 set_next I W pairs (Some wanted) = stays W (Refused (BadType wanted.0 wanted.1))
+
+-- The world after keys are forgotten: a running job notes those that had a live value.
+abbrev pub forgot_world : World → List Key → World
+forgot_world W keys = record W { held = forgotten W.held keys; job = noting W.job (changed_in W.held (last_of (removals keys))) }
 
 -- With all owed.
 abbrev pub owing_all : World → World

@@ -1,5 +1,5 @@
 -- What the states of configuration files say.
-use Rattle.std.specs.Prelude.{◌≡◌, ◌≢◌, ℕ, List, Option, Some, None, IsSome, Ok, Err}
+use Rattle.std.specs.Prelude.{◌≡◌, ◌≢◌, ℕ, List, Some, None, IsSome, Ok, Err}
 use Rattle.std.specs.FinMap.{get}
 use Rattle.settings_machine.specs.declared.states.FileState.{FileState}
 use Rattle.settings_machine.specs.declared.states.FileState.TheVariants.{Current, Owed, Refused, Differs, Absent}

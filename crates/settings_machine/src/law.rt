@@ -8,6 +8,7 @@ ghost use Rattle.settings_machine.specs.Settling.{IdleOwesNothing};
 ghost use Rattle.settings_machine.specs.Calm.{CalmJobsEnd, CalmAppliesPay};
 ghost use Rattle.settings_machine.specs.Touched.{JobsTouchTheirFiles, FilesComeFirst};
 ghost use Rattle.settings_machine.specs.PlanLaws.{SetIsOneChange, GuardsHold, PlansComeTrue};
+ghost use Rattle.settings_machine.specs.Forgetting.{ForgettingForgets, ForgettingMendsTypes, ForgettingPays};
 ghost use Rattle.settings_machine.specs.VerifyLaws.{StatesAreExact, PaidFilesAreOurs};
 
 /// The laws of the machine. It does nothing: its clauses are what holds of every image that can be read.
@@ -34,6 +35,9 @@ ghost use Rattle.settings_machine.specs.VerifyLaws.{StatesAreExact, PaidFilesAre
 /// its files written as they were answered and its commands run, or stops at the first template that the plan has as refusing.
 ///
 /// The state that is answered of a file is the one that is the case with it. Where a file is paid, nobody else wrote it or took it away.
+///
+/// Forgetting takes away what the named keys have, live and pending, and nothing else; where each key whose value the types refuse
+/// is named, the world is typed after it; and a covered file is paid after it that was.
 pub fn laws()
     ensures fit { FitStays }
     ensures files { FilesStayPaid }
@@ -59,4 +63,7 @@ pub fn laws()
     ensures plans { PlansComeTrue }
     ensures states { StatesAreExact }
     ensures ours { PaidFilesAreOurs }
+    ensures forgets { ForgettingForgets }
+    ensures mends { ForgettingMendsTypes }
+    ensures forgetting { ForgettingPays }
 {}

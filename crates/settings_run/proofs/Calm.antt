@@ -3,7 +3,7 @@ use Rattle.std.proofs.Common.{◌≡◌, inl, inr, ℕ, Bool, true, false, List,
 use Rattle.settings_machine.specs.World.{Image, World, Idle, Failed, is_running}
 use Rattle.settings_machine.specs.Requests.{Request}
 use Rattle.settings_machine.specs.Step.{Answered, WithoutMemory, Unopened, Faulted, turn_next, opened}
-use Rattle.settings_machine.specs.Events.{Event, Opened, Asked, Unread, Turned, Began, Moved, is_disk_fault, after, faulted_after}
+use Rattle.settings_machine.specs.Events.{Event, Opened, Asked, Unread, Turned, Began, Moved, Forgot, is_disk_fault, after, faulted_after}
 use Rattle.settings_machine.specs.declared.cause.Cause.{Cause}
 use Rattle.settings_machine.specs.declared.cause.Cause.TheVariants as cause
 use Rattle.settings_machine.proofs.Sequences.{faulted-append}
@@ -26,6 +26,7 @@ module _ (I : Image) where
   stays_failed W c (Unread why ∷ es) failed driven = absurd driven
   stays_failed W c (Began version ∷ es) failed driven = absurd driven
   stays_failed W c (Moved version held ∷ es) failed driven = absurd driven
+  stays_failed W c (Forgot keys ∷ es) failed driven = absurd driven
 
   -- Where the job is idle in the end, the disk failed in no turn.
   driven_calm : (W : World) (es : List Event) → IsDriven I W es → (after I W es).job ≡ Idle → faulted_after false es ≡ false
@@ -42,6 +43,7 @@ module _ (I : Image) where
   driven_calm W (Unread why ∷ es) driven idle = absurd driven
   driven_calm W (Began version ∷ es) driven idle = absurd driven
   driven_calm W (Moved version held ∷ es) driven idle = absurd driven
+  driven_calm W (Forgot keys ∷ es) driven idle = absurd driven
 
 -- ---- requests that were all answered, and turns until the job is idle
 

@@ -8,7 +8,7 @@ use Rattle.outside.proofs.Told.{moves_same, moves_map, moves_then}
 use Rattle.json_trees.specs.declared.scalar.Scalar.{Scalar}
 use Rattle.settings_machine.specs.World.{Key, Image, World}
 use Rattle.settings_machine.specs.Requests.{Request}
-use Rattle.settings_machine.specs.Events.{Event}
+use Rattle.settings_machine.specs.Events.{Event, new_held}
 use Rattle.machine_disk.specs.Kept.{Folder}
 use Rattle.machine_disk.specs.Touched.{MayChange}
 use Rattle.version_links.specs.declared.version.Version.{Version}
@@ -53,7 +53,7 @@ module _ (b n : Devices) (outcome : Outcome) where
   pub inits : (version : Version) (d d' : Option History) → n.runs ≡ b.runs → Carried (IsBegun version) outcome d d'
       → Moves d d' (RunsOverAll (init version) b n outcome)
   inits version d d' no_runs (inl is) = moves_map begun is.begins where
-    begun : (old new : History) → Begins version is.result old new → RunsOverAll (init version) b n outcome old new
+    begun : (old new : History) → Begins version new_held is.result old new → RunsOverAll (init version) b n outcome old new
     begun old new begins I good folder image W at =
         let same : new ≡ old = begins.still W.version at.disk.store.directory at.disk.store.resolves in
         subst (λ (h : History). RunsOver (init version) I folder W b n outcome old h) (sym same)

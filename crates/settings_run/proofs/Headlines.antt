@@ -3,15 +3,18 @@ use Rattle.std.proofs.Common.{◌≡◌, ℕ, List, Option}
 use Rattle.outside.specs.Told.{Moves}
 use Rattle.command_outcome.specs.Ends.{Outcome, Ends}
 use Rattle.command_words.specs.Orders.{Order, Spells, SpellsNone, init, serve, set, get, apply, verify, check, migrate, prune, load, generate, user_data}
+use Rattle.command_words.specs.Orders.{dump, restore, forget}
 use Rattle.settings_cmd.specs.Carried.{Carried, IsMisused, RunsNothing}
 use Rattle.settings_cmd.specs.Does.{Devices, Does}
 use Rattle.settings_run.specs.Headline.{HasCauses, RunsOverAll, Headline}
-use Rattle.settings_run.proofs.Beginnings.{begins_store}
+use Rattle.settings_run.proofs.Beginnings.{begins_store, restores_store}
 use Rattle.settings_run.proofs.Commands.{inits, checks, prunes, sets, applies, verifies, gets, serves, loads}
+use Rattle.settings_run.proofs.Stores.{dumps, restores, forgets}
 use Rattle.settings_run.proofs.Inputs.{generates, provides}
 use Rattle.settings_run.proofs.Moves.{migrates}
 use Rattle.settings_run.proofs.Words.{init_runs_nothing, get_runs_nothing, check_runs_nothing, migrate_runs_nothing, prune_runs_nothing, load_runs_nothing}
 use Rattle.settings_run.proofs.Words.{generate_runs_nothing, user_data_runs_nothing, verify_runs_nothing}
+use Rattle.settings_run.proofs.Words.{dump_runs_nothing, restore_runs_nothing, forget_runs_nothing}
 
 module _ (words : List (List ℕ)) (outcome : Outcome) (b n : Devices) (unrun : RunsNothing words → n.runs ≡ b.runs)
     (does : (order : Order) → Spells words order → Does order outcome b n) where
@@ -46,6 +49,11 @@ module _ (words : List (List ℕ)) (outcome : Outcome) (b n : Devices) (unrun : 
   runs (user_data path) spells =
       provides b n (unrun (user_data_runs_nothing words path spells)) outcome path b.disk n.disk
       (does (user_data path) spells)
+  runs dump spells = dumps b n outcome (unrun (dump_runs_nothing words spells)) b.disk n.disk (does dump spells)
+  runs (restore path) spells =
+      restores b n outcome (unrun (restore_runs_nothing words path spells)) path b.disk n.disk (does (restore path) spells)
+  runs (forget keys) spells =
+      forgets b n outcome (unrun (forget_runs_nothing words keys spells)) keys b.disk n.disk (does (forget keys) spells)
 
   pub headline : (status : ℕ) (s s' : Option (List ℕ)) → Ends outcome status s s' → HasCauses words outcome status b.faults n.faults
       → (SpellsNone words → Carried IsMisused outcome b.disk n.disk) → Headline words status b n s s'
@@ -57,4 +65,5 @@ module _ (words : List (List ℕ)) (outcome : Outcome) (b n : Devices) (unrun : 
     does = does;
     runs = runs;
     begins = λ version spells. begins_store version outcome b.disk n.disk (does (init version) spells);
+    restores = λ path spells. restores_store path outcome b.disk n.disk (does (restore path) spells);
   }

@@ -26,8 +26,7 @@ use Rattle.machine_disk.proofs.Prefixes.{leaves_paid}
 use Rattle.machine_disk.proofs.Settled.{in_store, store_same}
 use Rattle.command_words.specs.Orders.{Order, Spells, SpellsNone}
 use Rattle.settings_cmd.specs.Carried.{Carried, IsMisused}
-use Rattle.settings_run.specs.Events.{MovesBy}
-use Rattle.settings_run.specs.Headline.{LeavesFiles, FailsToMove, RunsOver, RunsOverAll}
+use Rattle.settings_run.specs.Headline.{LeavesFiles, ChangesBy, FailsToChange, RunsOver, RunsOverAll}
 use Rattle.settings_run.specs.Touched.{MayTouch, StaysElsewhere}
 use Rattle.settings_run.specs.Life.{Invocation, Ending, Left, Synced, Killed, Crashed, Passage, Ran, Misused, Laid, disk_after, IsLater, MayEnd, IsLaid, IsLife}
 use Rattle.settings_run.specs.Life.{Part, world_after, IsRunOf, Keeps, IsPart, IsPaidAnew, LivesBy, Rests, LivesAreRuns}
@@ -150,9 +149,9 @@ module _ (order : Order) (I : Image) (folder : Folder) (W : World) (run : Invoca
         let k : Kept order I folder W run r at image ends.0 ends.1 ends.2 = kept order I folder W run r at image ends.0 ends.1 ends.2 in
         record { events = k.events; keeps = k.cut; leaves = leaves k.events k.cut.rest k.cut.whole image k.recovers }
 
-  module _ (fails : FailsToMove order I folder W run.before run.now run.promised.outcome run.old run.new) where
+  module _ (fails : FailsToChange order I folder W run.before run.now run.promised.outcome run.old run.new) where
     abbrev Either : Tree → Type 0
-    Either image = LeavesFiles I W [] image ⊎ ((events : List Event) × MovesBy folder W fails.to events × LeavesFiles I W events image)
+    Either image = LeavesFiles I W [] image ⊎ ((events : List Event) × ChangesBy order folder W events × LeavesFiles I W events image)
 
     either_kept : (ending : Ending) → Either (tree_of (disk_after run.new ending)) → Kept_of order I folder W run rests (inr fails) ending
     either_kept ending (inl stays) = record { events = []; keeps = inl refl; leaves = stays }

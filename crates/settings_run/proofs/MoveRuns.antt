@@ -3,7 +3,7 @@ use Rattle.std.proofs.Common.{inl, inr, ℕ, List, [], Some, Result, Ok, Err}
 use Rattle.outside.specs.History.{History, tree_of}
 use Rattle.version_links.specs.declared.version.Version.{Version}
 use Rattle.settings_machine.specs.World.{Image, World}
-use Rattle.settings_machine.specs.Events.{Began, next}
+use Rattle.settings_machine.specs.Events.{Began, new_held, next}
 use Rattle.settings_machine.specs.Paid.{IsGood}
 use Rattle.machine_disk.specs.Kept.{Folder, DiskAt}
 use Rattle.machine_disk.specs.Store.{bytes_at}
@@ -23,12 +23,11 @@ use Rattle.settings_cmd.specs.Carried.{AnswersBeginning, AnswersMoving}
 use Rattle.settings_run.specs.Laws.{InitsRun, IsMoveBy, MigratesRun}
 
 module _ (I : Image) (good : IsGood I) (W : World) (version : Version) (line : List ℕ) (old new : History) (bare : IsBare W old) where
-  begun : (result : Result (Unit {0}) InitError) → Begins version result old new → AnswersBeginning version result (Ok line)
+  begun : (result : Result (Unit {0}) InitError) → Begins version new_held result old new → AnswersBeginning version result (Ok line)
       → IsBeginning I (next I W (Began version)) old new × HasBegun I (bytes_at (tree_of old)) (next I W (Began version)) new
   begun (Ok done) begins answers = (
-    beginnings_are_whole I good W version (Ok done) old new bare begins,
-    beginnings_begin I good W version done old new bare
-        begins,
+    beginnings_are_whole I good W version new_held (Ok done) old new bare begins,
+    beginnings_begin I good W version new_held done old new bare begins,
   )
   begun (Err (beginning.AlreadyThere other)) begins answers = absurd (cc answers)
   begun (Err (beginning.BadLink path)) begins answers = absurd (cc answers)

@@ -120,8 +120,7 @@ module _ (b n : Devices) (no_runs : n.runs ≡ b.runs) (to : Version) where
             moves_are_whole I good folder W to release.transitions.items release.migrations.items (Some []) (Some mapped) p q (Err moving.Failed) old new
             at.disk migrates in
             inr (record {
-              to = to;
-              order_is = refl;
+              at_once = refl;
               outcome_is = told;
               any_moment = since_map _ _ old new (λ c either. ⊎_elim
                   (λ was. inl (leaves_files I W [] c was))

@@ -10,12 +10,13 @@ use Rattle.settings_machine.proofs.Sequences.{after-append}
 use Rattle.machine_disk.specs.Kept.{Folder}
 use Rattle.command_outcome.specs.Ends.{Outcome}
 use Rattle.command_words.specs.Orders.{Order, init, serve, set, get, apply, verify, check, migrate, prune, load, generate, user_data}
+use Rattle.command_words.specs.Orders.{dump, restore, forget}
 use Rattle.core_commands.specs.Carried.{HasEnded, set_requests, apply_requests}
 use Rattle.core_commands.specs.Lines.{IsSettingsLine, IsJobLine}
 use Rattle.core_commands.proofs.Paying.{set_pays, apply_pays_all}
 use Rattle.settings_run.specs.Laws.{Begins, RequestEvents}
 use Rattle.settings_run.specs.Events.{IsUnbegun}
-use Rattle.settings_run.specs.Headline.{acknowledges_all, FailsToMove, RunsOver}
+use Rattle.settings_run.specs.Headline.{acknowledges_all, FailsToChange, RunsOver}
 use Rattle.settings_run.specs.Life.{Invocation, IsRunOf, Rests, PaysAll, is_to_apply}
 use Rattle.settings_run.proofs.Cuts.{of_ok}
 use Rattle.settings_run.proofs.DoorFaults.{ended_well}
@@ -47,7 +48,7 @@ module _ (run : Invocation) (I : Image) (folder : Folder) (W : World) (rests : R
   idle : (opened I W false).job ≡ Idle
   idle = opened_idle I W rests.begins.idle
 
-  no_failure : {A : Type 0} (order : Order) → FailsToMove order I folder W run.before run.now run.promised.outcome run.old run.new → A
+  no_failure : {A : Type 0} (order : Order) → FailsToChange order I folder W run.before run.now run.promised.outcome run.old run.new → A
   no_failure order fails = let clash : false ≡ true = subst IsOk fails.outcome_is ok in absurd (false≢true clash)
 
   by_order : (order : Order) → is_to_apply order ≡ true → RunsOver order I folder W run.before run.now run.promised.outcome run.old run.new
@@ -66,6 +67,9 @@ module _ (run : Invocation) (I : Image) (folder : Folder) (W : World) (rests : R
   by_order (load count) to_apply is = absurd (false≢true to_apply)
   by_order generate to_apply is = absurd (false≢true to_apply)
   by_order (user_data path) to_apply is = absurd (false≢true to_apply)
+  by_order dump to_apply is = absurd (false≢true to_apply)
+  by_order (restore path) to_apply is = absurd (false≢true to_apply)
+  by_order (forget keys) to_apply is = absurd (false≢true to_apply)
   by_order order to_apply (inr fails) = no_failure order fails
 
 pub pays_all : PaysAll

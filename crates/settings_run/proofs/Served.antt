@@ -72,6 +72,7 @@ module _ (I : Image) (W : World) (qs : List Request) where
   comes_served Tells (Err (refused.GeneratorStatus key number)) asked turned comes = absurd comes
   comes_served Tells (Err (refused.GeneratorOutput key)) asked turned comes = absurd comes
   comes_served Tells (Err (refused.UserData kind at)) asked turned comes = absurd comes
+  comes_served Tells (Err (refused.Dump kind at)) asked turned comes = absurd comes
   comes_served Tells (Err (refused.MigrationStatus name number)) asked turned comes = absurd comes
   comes_served Tells (Err (refused.MigrationOutput name)) asked turned comes = absurd comes
   comes_served Tells (Err (refused.NotCurrent lines)) asked turned comes = absurd comes
@@ -116,6 +117,7 @@ module _ (I : Image) (W : World) (tx : List ℕ) (pairs : List (Key × Scalar)) 
   commits_plain (Err (refused.GeneratorStatus key number)) events comes = absurd comes
   commits_plain (Err (refused.GeneratorOutput key)) events comes = absurd comes
   commits_plain (Err (refused.UserData kind at)) events comes = absurd comes
+  commits_plain (Err (refused.Dump kind at)) events comes = absurd comes
   commits_plain (Err (refused.MigrationStatus name number)) events comes = absurd comes
   commits_plain (Err (refused.MigrationOutput name)) events comes = absurd comes
   commits_plain (Err (refused.NotCurrent lines)) events comes = absurd comes

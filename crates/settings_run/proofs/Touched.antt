@@ -17,6 +17,7 @@ use Rattle.version_links.specs.Names.{store, name_of, numbers}
 use Rattle.version_links.specs.declared.version.Version.{Version}
 use Rattle.migrate_chain.specs.Store.{IsInOther}
 use Rattle.command_words.specs.Orders.{Order, init, serve, set, get, apply, verify, check, migrate, prune, load, generate, user_data}
+use Rattle.command_words.specs.Orders.{dump, restore, forget}
 use Rattle.settings_run.specs.Touched.{ChangesOnly, MayTouch, StaysElsewhere, TouchesWithin, OtherStoresStay}
 
 pub changes_only : (P : Names → Type 0) (old new : History) → Touches P old new → ChangesOnly P old new
@@ -84,6 +85,9 @@ touches_within prune I events tree version directory leads path may = inl (other
 touches_within (load count) I events tree version directory leads path may = absurd may
 touches_within generate I events tree version directory leads path may = change_within I events tree version directory leads path may
 touches_within (user_data from) I events tree version directory leads path may = change_within I events tree version directory leads path may
+touches_within dump I events tree version directory leads path may = change_within I events tree version directory leads path may
+touches_within (restore from) I events tree version directory leads path may = absurd may
+touches_within (forget keys) I events tree version directory leads path may = change_within I events tree version directory leads path may
 
 pub other_stores_stay : OtherStoresStay
 other_stores_stay = other_stays

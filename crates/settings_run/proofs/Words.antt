@@ -4,6 +4,7 @@ use Rattle.std.specs.Str.{bytes_eq}
 use Rattle.std.proofs.lemmas.Slice.Eq.{bytes_eq-Decides}
 use Rattle.version_links.specs.declared.version.Version.{Version}
 use Rattle.command_words.specs.Orders.{Order, Spells, word_of, init, serve, set, get, apply, verify, check, migrate, prune, load, generate, user_data}
+use Rattle.command_words.specs.Orders.{dump, restore, forget}
 use Rattle.settings_cmd.specs.Carried.{RunsNothing}
 
 -- Texts that differ by their bytes are not the same.
@@ -60,3 +61,15 @@ module _ (words : List (List ℕ)) where
   pub user_data_runs_nothing : (path : List (List ℕ)) → Spells words (user_data path) → RunsNothing words
   user_data_runs_nothing path spells = runs_nothing words (user_data path) spells
       (differs (codes "user-data") (codes "serve") refl) (differs (codes "user-data") (codes "set") refl) (differs (codes "user-data") (codes "apply") refl)
+
+  pub dump_runs_nothing : Spells words dump → RunsNothing words
+  dump_runs_nothing spells = runs_nothing words dump spells
+      (differs (codes "dump") (codes "serve") refl) (differs (codes "dump") (codes "set") refl) (differs (codes "dump") (codes "apply") refl)
+
+  pub restore_runs_nothing : (path : List (List ℕ)) → Spells words (restore path) → RunsNothing words
+  restore_runs_nothing path spells = runs_nothing words (restore path) spells
+      (differs (codes "restore") (codes "serve") refl) (differs (codes "restore") (codes "set") refl) (differs (codes "restore") (codes "apply") refl)
+
+  pub forget_runs_nothing : (keys : List (List (List ℕ))) → Spells words (forget keys) → RunsNothing words
+  forget_runs_nothing keys spells = runs_nothing words (forget keys) spells
+      (differs (codes "forget") (codes "serve") refl) (differs (codes "forget") (codes "set") refl) (differs (codes "forget") (codes "apply") refl)

@@ -1,26 +1,29 @@
 -- The headline: what every run of the program is, said of the map machine.
-use Rattle.std.specs.Prelude.{◌≡◌, ◌⊎◌, ◌++◌, ℕ, Bool, true, false, List, [], Option, Err, OnOk}
+use Rattle.std.specs.Prelude.{◌≡◌, ◌⊎◌, ◌++◌, ℕ, Bool, true, false, List, [], Option, Some, Err, OnOk}
 use Rattle.outside.specs.Faults.{HasCauseOf, Rose}
 use Rattle.outside.specs.History.{History, tree_of, EachImage}
 use Rattle.outside.specs.Since.{EachSince}
 use Rattle.outside.specs.Spawner.{Run}
 use Rattle.outside.specs.Told.{Moves}
-use Rattle.outside.specs.Tree.{Tree}
+use Rattle.outside.specs.Names.{Names}
+use Rattle.outside.specs.Tree.{Tree, node_at, file_in}
+use Rattle.settings_tree.specs.declared.held.Held.{Held}
+use Rattle.held_text.specs.Dump.{SpellsDump}
 use Rattle.settings_machine.specs.World.{Image, World, Idle, owes_none, due}
 use Rattle.settings_machine.specs.Covered.{IsCovered}
 use Rattle.settings_machine.specs.Step.{with_job}
-use Rattle.settings_machine.specs.Events.{Event, Began, next, after, faulted_after}
+use Rattle.settings_machine.specs.Events.{Event, Began, Moved, next, after, faulted_after}
 use Rattle.settings_machine.specs.Jobs.{RunInOrder}
 use Rattle.settings_machine.specs.Paid.{IsCurrent, IsPaid, WasPaid, IsGood}
 use Rattle.machine_disk.specs.Kept.{Folder}
 use Rattle.machine_disk.specs.Ran.{AtPrefix, AtLatePrefix, HasMoments, IsWorldOf, RunsBy}
 use Rattle.machine_disk.specs.Store.{is_store, bytes_at, HasStore, HasFiles, Recovers}
 use Rattle.store_open.specs.Laws.{IsImageOfFolder}
-use Rattle.store_events.specs.Laws.{IsBare, IsBeginning, HasBegun}
+use Rattle.store_events.specs.Laws.{IsBare, IsBeginning, HasBegun, forgot}
 use Rattle.version_links.specs.declared.version.Version.{Version}
 use Rattle.command_outcome.specs.Ends.{Outcome, Ends}
 use Rattle.command_outcome.specs.declared.refusal.Refusal.TheVariants as refused
-use Rattle.command_words.specs.Orders.{Order, Spells, SpellsNone, init, serve, migrate}
+use Rattle.command_words.specs.Orders.{Order, Spells, SpellsNone, init, serve, migrate, restore, forget}
 use Rattle.core_commands.specs.Handing.{HasSpawnCause}
 use Rattle.settings_cmd.specs.Carried.{Carried, IsMisused, ServesNot}
 use Rattle.settings_cmd.specs.Does.{Faults, Devices, Does}
@@ -94,21 +97,33 @@ pub record IsRun (order : Order) (I : Image) (folder : Folder) (W : World) (befo
   pub goes_on : GoesOn order I folder W outcome events new
   pub elsewhere : StaysElsewhere order I events old new
 
--- The disk failed a move, and it happened or not: a crash recovers to the world before it, or to the one after it. Outside the folder `store`
+-- Whether an order changes the store at once: a move, or the forgetting of keys.
+abbrev pub is_at_once : Order → Bool
+is_at_once (migrate to) = true
+is_at_once (forget keys) = true
+is_at_once _ = false
+
+-- The events of such a change.
+abbrev pub ChangesBy : Order → Folder → World → List Event → Type 0
+ChangesBy (migrate to) folder W events = MovesBy folder W to events
+ChangesBy (forget keys) folder W events = events ≡ forgot keys
+ChangesBy _ folder W events = ⊥
+
+-- The disk failed such a change, and it happened or not: a crash recovers to the world before it, or to the one after it. Outside the folder `store`
 -- nothing is changed.
-pub record FailsToMove (order : Order) (I : Image) (folder : Folder) (W : World) (before now : Devices) (outcome : Outcome) (old new : History)
+pub record FailsToChange (order : Order) (I : Image) (folder : Folder) (W : World) (before now : Devices) (outcome : Outcome) (old new : History)
     : Type 0 where
-  pub to : Version
-  pub order_is : order ≡ migrate to
+  pub at_once : is_at_once order ≡ true
   pub outcome_is : outcome ≡ Err refused.Disk
-  pub any_moment : EachSince (λ image. LeavesFiles I W [] image ⊎ ((events : List Event) × MovesBy folder W to events × LeavesFiles I W events image)) old new
+  pub any_moment : EachSince (λ image. LeavesFiles I W [] image
+      ⊎ ((events : List Event) × ChangesBy order folder W events × LeavesFiles I W events image)) old new
   pub no_runs : now.runs ≡ before.runs
   pub elsewhere : StaysElsewhere order I [] old new
 
--- A run is a list of events; but where the disk failed a move, that happened or not.
+-- A run is a list of events; but where the disk failed a move or the forgetting of keys, that happened or not.
 abbrev pub RunsOver : Order → Image → Folder → World → Devices → Devices → Outcome → History → History → Type 0
 RunsOver order I folder W before now outcome old new =
-    IsRun order I folder W before now outcome old new ⊎ FailsToMove order I folder W before now outcome old new
+    IsRun order I folder W before now outcome old new ⊎ FailsToChange order I folder W before now outcome old new
 
 -- By each image that the folder makes, and each world that the disk begins at.
 abbrev pub RunsOverAll : Order → Devices → Devices → Outcome → History → History → Type 0
@@ -117,12 +132,25 @@ RunsOverAll order before now outcome old new = (I : Image) → IsGood I → (fol
 
 -- ---- a run where no store is there
 
--- A store of the version is begun, which is one event: a crash at any moment leaves none, or it, whole; and where the command ended well, it, and the
--- next run may begin there. Outside the folder `store` nothing is changed.
-pub record BeginsStore (version : Version) (outcome : Outcome) (old new : History) : Type 0 where
+-- A store is begun by the event: a crash at any moment leaves none, or it, whole; and where the command ended well, it, and the next run may begin
+-- there. Outside the folder `store` nothing is changed.
+pub record BeginsStore (event : Event) (outcome : Outcome) (old new : History) : Type 0 where
   pub each : (I : Image) → IsGood I → (W : World) → IsBare W old
-      → IsBeginning I (next I W (Began version)) old new × OnOk outcome (HasBegun I (bytes_at (tree_of old)) (next I W (Began version)) new)
+      → IsBeginning I (next I W event) old new × OnOk outcome (HasBegun I (bytes_at (tree_of old)) (next I W event) new)
   pub elsewhere : ChangesOnly (λ path. is_store path ≡ true) old new
+
+-- The file at the path spells a dump, in whatever JSON, and a store of its version that holds what it holds is begun.
+pub record RestoresDump (path : Names) (outcome : Outcome) (old new : History) : Type 0 where
+  pub text : List ℕ
+  pub version : Version
+  pub held : Held
+  pub there : file_in (node_at (tree_of old) path) ≡ Some text
+  pub spelled : SpellsDump text version held
+  pub begins : BeginsStore (Moved version held) outcome old new
+
+-- It does, or the command did not end well, and the disk is as before.
+abbrev pub RestoresStore : Names → Outcome → History → History → Type 0
+RestoresStore path outcome old new = RestoresDump path outcome old new ⊎ (OnOk outcome ⊥ × (new ≡ old))
 
 -- ---- the headline
 
@@ -146,4 +174,5 @@ pub record Headline (words : List (List ℕ)) (status : ℕ) (before now : Devic
   pub does : (order : Order) → Spells words order → Does order outcome before now
   pub runs : (order : Order) → Spells words order
       → Moves before.disk now.disk (RunsOverAll order before now outcome)
-  pub begins : (version : Version) → Spells words (init version) → Moves before.disk now.disk (BeginsStore version outcome)
+  pub begins : (version : Version) → Spells words (init version) → Moves before.disk now.disk (BeginsStore (Began version) outcome)
+  pub restores : (path : Names) → Spells words (restore path) → Moves before.disk now.disk (RestoresStore path outcome)

@@ -4,12 +4,14 @@ use Rattle.std.specs.Prelude.{◌≡◌, ◌⊎◌, ◌++◌, ℕ, ◌≤◌, Bo
 use Rattle.std.specs.FinMap.{get}
 use Rattle.std.specs.Str.{bytes_eq}
 use Rattle.outside.specs.Names.{Names}
-use Rattle.outside.specs.Tree.{Tree, node_at}
+use Rattle.outside.specs.Tree.{Tree, node_at, file_in}
 use Rattle.outside.specs.History.{synced, History, begun, next as then, tree_of, IsImage, IsSettled, IsSettledOn}
 use Rattle.outside.specs.Since.{EachSince, clock}
+use Rattle.settings_tree.specs.declared.held.Held.{Held}
+use Rattle.held_text.specs.Dump.{SpellsDump}
 use Rattle.settings_machine.specs.World.{Image, World, Files, Idle, owes_none, is_etc}
 use Rattle.settings_machine.specs.Covered.{IsCovered}
-use Rattle.settings_machine.specs.Events.{Event, Began, next, after, acknowledges_any, has_booted}
+use Rattle.settings_machine.specs.Events.{Event, Began, Moved, next, after, acknowledges_any, has_booted}
 use Rattle.settings_machine.specs.Paid.{IsDuePath, IsPaid, WasPaid, Paid, IsGood}
 use Rattle.machine_disk.specs.Kept.{Folder, DiskAt}
 use Rattle.machine_disk.specs.Store.{is_image, bytes_at}
@@ -17,11 +19,10 @@ use Rattle.store_open.specs.Laws.{IsImageOfFolder}
 use Rattle.version_links.specs.Chain.{Resolves, nowhere}
 use Rattle.version_links.specs.declared.version.Version.{Version}
 use Rattle.store_events.specs.Laws.{IsBare}
-use Rattle.command_words.specs.Orders.{Order, Spells, SpellsNone, init, set, apply}
+use Rattle.command_words.specs.Orders.{Order, Spells, SpellsNone, init, set, apply, restore}
 use Rattle.settings_cmd.specs.Does.{Devices}
 use Rattle.settings_run.specs.Laws.{Begins}
-use Rattle.settings_run.specs.Events.{MovesBy}
-use Rattle.settings_run.specs.Headline.{StandsPaid, acknowledges_all, IsRun, RunsOver, Headline}
+use Rattle.settings_run.specs.Headline.{StandsPaid, acknowledges_all, IsRun, RunsOver, ChangesBy, Headline}
 
 -- ---- what happens to a disk
 
@@ -140,14 +141,15 @@ pub record IsCut (order : Order) (I : Image) (folder : Folder) (W : World) (run 
       → take number r.events ≡ kept ++ lost → acknowledges_any I (after I W kept) lost ≡ false
   pub ended_well : HasEndedWell order run → clock run.new ≤ clock at → rest ≡ []
 
--- What is kept of a run: all its events, or those before the cut where it was killed or a crash came; and of a move that the disk failed, the move or nothing.
+-- What is kept of a run: all its events, or those before the cut where it was killed or a crash came; and of a change at once that the disk failed,
+-- the change or nothing.
 abbrev pub Keeps : (order : Order) (I : Image) (folder : Folder) (W : World) (run : Invocation)
     → RunsOver order I folder W run.before run.now run.promised.outcome run.old run.new → Ending → List Event → Type 0
 Keeps order I folder W run (inl r) Left kept = kept ≡ r.events
 Keeps order I folder W run (inl r) Synced kept = kept ≡ r.events
 Keeps order I folder W run (inl r) (Killed at) kept = IsCut order I folder W run r at kept
 Keeps order I folder W run (inl r) (Crashed at image) kept = IsCut order I folder W run r at kept
-Keeps order I folder W run (inr fails) ending kept = (kept ≡ []) ⊎ MovesBy folder W fails.to kept
+Keeps order I folder W run (inr fails) ending kept = (kept ≡ []) ⊎ ChangesBy order folder W kept
 
 -- The run is the machine's, as the headline has it; this part of it is kept. The configuration files are those of the world after its events,
 -- but for some that are due there. The next run may begin there. Each covered file that was paid, and after a boot each, is paid.
@@ -195,19 +197,40 @@ pub record IsEmpty (I : Image) (folder : Folder) (W : World) (h : History) : Typ
   pub bare : IsBare W h
   pub image : (path : Names) → is_image path ≡ true → bytes_at (tree_of h) path ≡ folder path
 
--- Where no store is, an `init` is run.
-abbrev pub BeginsByInit : List Passage → Type 0
-BeginsByInit [] = Unit {0}
-BeginsByInit (Ran run order ending ∷ rest) = (Resolves (tree_of run.old) nowhere → (version : Version) × (order ≡ init version)) × BeginsByInit rest
-BeginsByInit (Misused run ∷ rest) = BeginsByInit rest
-BeginsByInit (Laid J below new ∷ rest) = BeginsByInit rest
+-- The order is to begin a store.
+abbrev pub IsToBegin : Order → Type 0
+IsToBegin (init version) = Unit {0}
+IsToBegin (restore path) = Unit {0}
+IsToBegin _ = ⊥
+
+-- Where no store is, an `init` or a `restore` is run.
+abbrev pub BeginsStores : List Passage → Type 0
+BeginsStores [] = Unit {0}
+BeginsStores (Ran run order ending ∷ rest) = (Resolves (tree_of run.old) nowhere → IsToBegin order) × BeginsStores rest
+BeginsStores (Misused run ∷ rest) = BeginsStores rest
+BeginsStores (Laid J below new ∷ rest) = BeginsStores rest
+
+-- The file at the path spelled the dump of this event.
+pub record IsRestoring (path : Names) (run : Invocation) (event : Event) : Type 0 where
+  pub text : List ℕ
+  pub version : Version
+  pub held : Held
+  pub there : file_in (node_at (tree_of run.old) path) ≡ Some text
+  pub spelled : SpellsDump text version held
+  pub event_is : event ≡ Moved version held
+
+-- By this event the run begins a store: nothing is held, or what the dump holds; and all is owed.
+abbrev pub IsBeginningBy : Order → Invocation → Event → Type 0
+IsBeginningBy (init version) run event = event ≡ Began version
+IsBeginningBy (restore path) run event = IsRestoring path run event
+IsBeginningBy _ run event = ⊥
 
 -- The run has begun a store, which is one event: the next run may begin at the world after it, in which each covered file is paid.
 pub record HasBegunStore (I : Image) (folder : Folder) (W : World) (run : Invocation) (order : Order) (ending : Ending) : Type 0 where
-  pub version : Version
-  pub order_is : order ≡ init version
-  pub begins : Begins I folder (next I W (Began version)) (disk_after run.new ending)
-  pub paid : Paid I (next I W (Began version))
+  pub event : Event
+  pub is : IsBeginningBy order run event
+  pub begins : Begins I folder (next I W event) (disk_after run.new ending)
+  pub paid : Paid I (next I W event)
 
 -- It has begun none: it did not end well, or was killed before its end, or a crash came before.
 pub record HasNoStore (run : Invocation) (ending : Ending) : Type 0 where
@@ -218,14 +241,14 @@ pub record HasNoStore (run : Invocation) (ending : Ending) : Type 0 where
 abbrev pub LivesFromNone : Image → Folder → World → List Passage → List Part → Type 0
 LivesFromNone I folder W [] parts = parts ≡ []
 LivesFromNone I folder W (Ran run order ending ∷ rest) parts = (HasNoStore run ending × LivesFromNone I folder W rest parts)
-    ⊎ ((begun : HasBegunStore I folder W run order ending) × LivesBy I folder (next I W (Began begun.version)) rest parts)
+    ⊎ ((begun : HasBegunStore I folder W run order ending) × LivesBy I folder (next I W begun.event) rest parts)
 LivesFromNone I folder W (Misused run ∷ rest) parts = (run.new ≡ run.old) × LivesFromNone I folder W rest parts
 LivesFromNone I folder W (Laid J below new ∷ rest) parts = LivesFromNone J below W rest parts
 
 -- So is each life that begins without a store.
 abbrev pub NewLivesAreRuns : Type 0
 NewLivesAreRuns = (I : Image) (folder : Folder) (W : World) (h : History) (passages : List Passage) → IsEmpty I folder W h → IsLife I folder h passages
-    → BeginsByInit passages → (parts : List Part) × LivesFromNone I folder W passages parts
+    → BeginsStores passages → (parts : List Part) × LivesFromNone I folder W passages parts
 
 -- ---- files over a life
 

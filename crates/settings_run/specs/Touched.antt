@@ -11,7 +11,7 @@ use Rattle.machine_disk.specs.Touched.{IsFilePath, MayChange}
 use Rattle.version_links.specs.Chain.{Resolves, found}
 use Rattle.version_links.specs.declared.version.Version.{Version}
 use Rattle.migrate_chain.specs.Store.{IsInOther}
-use Rattle.command_words.specs.Orders.{Order, init, check, migrate, prune, load}
+use Rattle.command_words.specs.Orders.{Order, init, check, migrate, prune, load, restore}
 
 -- No other path is touched than these: each keeps its node, and a crash since the start leaves there what it might have left at the start.
 pub record ChangesOnly (P : Names → Type 0) (old new : History) : Type 0 where
@@ -19,11 +19,12 @@ pub record ChangesOnly (P : Names → Type 0) (old new : History) : Type 0 where
   pub tree : (path : Names) → (P path → ⊥) → node_at (tree_of new) path ≡ node_at (tree_of old) path
   pub images : (path : Names) → (P path → ⊥) → EachSince (λ image. MayLeave old path (node_at image path)) old new
 
--- Which paths a run of the order and the events may change, where a store is there: `init`, `check` and `load` none; `prune` those below other
+-- Which paths a run of the order and the events may change, where a store is there: `init`, `restore`, `check` and `load` none; `prune` those below other
 -- data directories; `migrate` those in the folder `store`; and the others those below the data directory and, where a turn of a job is
 -- among the events, those of files of the manifest.
 abbrev pub MayTouch : Order → Image → List Event → Names → Names → Type 0
 MayTouch (init version) I events directory path = ⊥
+MayTouch (restore from) I events directory path = ⊥
 MayTouch check I events directory path = ⊥
 MayTouch (load count) I events directory path = ⊥
 MayTouch prune I events directory path = IsInOther directory path

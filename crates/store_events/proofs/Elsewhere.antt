@@ -1,12 +1,13 @@
 -- What changes in the store leave elsewhere.
-use Rattle.std.proofs.Common.{◌≡◌, ◌≢◌, ◌⊎◌, inl, inr, ⊎_elim, ◌∙◌, ℕ, true, List, ◌∷◌, [], codes, refl, ap, sym}
+use Rattle.std.proofs.Common.{◌≡◌, ◌≢◌, ◌⊎◌, inl, inr, ⊎_elim, ◌∙◌, ℕ, true, List, ◌∷◌, [], codes, refl, ap, sym, subst}
 use Rattle.std.specs.FinMap.{get}
 use Rattle.outside.specs.Names.{Names, is_below}
 use Rattle.outside.specs.Tree.{Tree, node_at, file_in}
-use Rattle.outside.specs.History.{History, tree_of, EachImage, IsSettled}
+use Rattle.outside.specs.History.{synced, History, next as then, tree_of, EachImage, IsSettled}
 use Rattle.outside.specs.Since.{EachSince, IsAtOrSync, Touches}
-use Rattle.outside.proofs.Goes.{since_goes, may_leave_untouched, tree_untouched}
+use Rattle.outside.proofs.Goes.{goes_stay, goes_next, goes_joined, since_goes, may_leave_untouched, tree_untouched}
 use Rattle.commit_journal.specs.Files.{IsBelow}
+use Rattle.commit_journal.specs.Recovery.{FromSyncOn}
 use Rattle.settings_machine.specs.World.{Image, World, Files, is_etc}
 use Rattle.settings_machine.specs.Paid.{IsDuePath}
 use Rattle.machine_disk.specs.Store.{is_image, bytes_at, HasFiles, HasStore}
@@ -16,6 +17,12 @@ use Rattle.machine_disk.proofs.Apart.{first_name}
 -- The path is strictly below the folder of the store.
 abbrev pub IsInStore : Names → Type 0
 IsInStore = IsBelow (codes "store" ∷ [])
+
+-- What was touched after a sync was touched since the start.
+pub from_sync_touched : (P : Names → Type 0) (old new : History) → FromSyncOn (Touches P) old new → Touches P old new
+from_sync_touched P old new (inl same) = subst (Touches P old) (sym same) (goes_stay (IsAtOrSync P) old)
+from_sync_touched P old new (inr touches) = goes_joined (IsAtOrSync P) old (then synced old) new
+    (goes_next (IsAtOrSync P) old old synced (goes_stay (IsAtOrSync P) old) tt) touches
 
 -- A path in another folder is not.
 folder_apart : (folder : List ℕ) (path : Names) → is_below (folder ∷ []) path ≡ true → folder ≢ codes "store" → IsInStore path → ⊥

@@ -1,10 +1,10 @@
 -- What is no event of the machine: a crash at any moment recovers to the world that was there.
-use Rattle.std.proofs.Common.{◌≡◌, ◌⊎◌, inl, inr, ⊎_elim, ℕ, List, [], ◌∷◌, refl, sym, subst}
+use Rattle.std.proofs.Common.{◌≡◌, ◌⊎◌, inl, inr, ⊎_elim, ℕ, List, [], ◌∷◌, refl, subst}
 use Rattle.outside.specs.Tree.{Tree}
-use Rattle.outside.specs.History.{Change, replaced, scribbled, synced, History, next as then, tree_of, IsImage, EachImage}
+use Rattle.outside.specs.History.{History, tree_of, IsImage, EachImage}
 use Rattle.outside.specs.Since.{EachSince, IsAtOrSync, Touches}
 use Rattle.outside.proofs.Crash.{tree_is_image}
-use Rattle.outside.proofs.Goes.{goes_stay, goes_next, goes_joined, goes_map}
+use Rattle.outside.proofs.Goes.{goes_stay}
 use Rattle.outside.proofs.Since.{since_start, since_map, since_both, since_now}
 use Rattle.commit_journal.specs.Recovery.{FromSyncOn}
 use Rattle.settings_tree.specs.declared.held.Held.{Held}
@@ -19,11 +19,12 @@ use Rattle.machine_disk.specs.Kept.{Folder, DiskAt}
 use Rattle.machine_disk.specs.Ran.{Before, OnTheWay}
 use Rattle.machine_disk.proofs.Moments.{none_moments}
 use Rattle.machine_disk.proofs.Prefixes.{none_paid, whole}
+use Rattle.machine_disk.proofs.Touched.{touches_more}
 use Rattle.migrate_chain.specs.Store.{HasStore, IsInOther}
 use Rattle.migrate_chain.specs.Migrating.{SinceStart}
 use Rattle.migrate_chain.proofs.Migrated.{since_first}
 use Rattle.store_events.specs.Laws.{HasStayed, SameDisksStay, PruningsStay}
-use Rattle.store_events.proofs.Elsewhere.{IsInStore, HasLeft, due_left, stays_at}
+use Rattle.store_events.proofs.Elsewhere.{IsInStore, HasLeft, from_sync_touched, due_left, stays_at}
 
 -- ---- the store of a tree, as the machine says it and as a move does
 
@@ -85,16 +86,9 @@ same_disks_stay I good folder W h disk_at = stayed I good folder W h h disk_at (
 -- ---- prunings
 
 -- What lies below another data directory lies in the folder of the store.
-in_store : (directory : List (List ℕ)) (change : Change) → IsAtOrSync (IsInOther directory) change → IsAtOrSync IsInStore change
-in_store directory (replaced p now) is = (_, is.below.0 ∷ is.below.1, is.below.2)
-in_store directory (scribbled p now) is = (_, is.below.0 ∷ is.below.1, is.below.2)
-in_store directory synced is = tt
-
 others_touched : (directory : List (List ℕ)) (old new : History) → FromSyncOn (Touches (IsInOther directory)) old new → Touches IsInStore old new
-others_touched directory old new (inl same) = subst (λ (h : History). Touches IsInStore old h) (sym same) (goes_stay (IsAtOrSync IsInStore) old)
-others_touched directory old new (inr touches) = goes_joined (IsAtOrSync IsInStore) old (then synced old) new
-    (goes_next (IsAtOrSync IsInStore) old old synced (goes_stay (IsAtOrSync IsInStore) old) tt)
-    (goes_map (IsAtOrSync (IsInOther directory)) (IsAtOrSync IsInStore) (then synced old) new (in_store directory) touches)
+others_touched directory old new others = touches_more (IsInOther directory) IsInStore old new (λ path is. (_, is.below.0 ∷ is.below.1, is.below.2))
+    (from_sync_touched (IsInOther directory) old new others)
 
 pub prunings_stay : PruningsStay
 prunings_stay I good folder W result old new disk_at prunes =

@@ -1,21 +1,31 @@
--- Laws of beginnings and moves: what they make of the machine's run.
-use Rattle.std.specs.Prelude.{◌≡◌, ◌≢◌, ◌⊎◌, ℕ, List, [], ◌∷◌, Option, Some, Result, Ok, Err}
+-- Laws of beginnings, moves, readings and the forgetting of keys: what they make of the machine's run.
+use Rattle.std.specs.Prelude.{◌≡◌, ◌≢◌, ◌⊎◌, ℕ, false, List, [], ◌∷◌, Option, Some, None, Result, Ok, Err}
 use Rattle.outside.specs.History.{History, tree_of, EachImage, IsSettled}
 use Rattle.outside.specs.Since.{EachSince}
+use Rattle.settings_tree.specs.declared.entry.Owed.TheVariants as owed
 use Rattle.settings_tree.specs.declared.held.Held.{Held}
+use Rattle.pending_tx.specs.Transactions.{rising}
 use Rattle.version_links.specs.Chain.{Resolves, nowhere}
 use Rattle.version_links.specs.declared.version.Version.{Version}
 use Rattle.release_file.specs.Chain.{is_back, IsWay}
 use Rattle.release_file.specs.declared.transition.Transition.{Transition}
 use Rattle.release_file.specs.declared.work.Named.{Named}
-use Rattle.settings_machine.specs.World.{Image, World}
-use Rattle.settings_machine.specs.Events.{Event, Began, Moved, next, after}
+use Rattle.settings_machine.specs.World.{Key, Image, World, is_running}
+use Rattle.settings_machine.specs.Events.{Event, Moved, Forgot, next}
 use Rattle.settings_machine.specs.Paid.{Paid, IsGood}
 use Rattle.machine_disk.specs.Store.{bytes_at, HasFiles, Recovers}
 use Rattle.machine_disk.specs.Kept.{Folder, DiskAt}
+use Rattle.machine_disk.specs.Touched.{TouchesOwn}
 use Rattle.machine_disk.specs.Ran.{IsWorldOf, LeavesPaid, RunsTo}
 use Rattle.store_open.specs.Beginning.{Begins}
+use Rattle.store_open.specs.Reading.{Reads}
+use Rattle.store_open.specs.Forgetting.{Forgets, first_unheld}
 use Rattle.store_open.specs.declared.begin_error.InitError.{InitError}
+use Rattle.store_open.specs.declared.stored.Stored.{Stored}
+use Rattle.store_open.specs.declared.open_error.OpenError.{OpenError}
+use Rattle.store_open.specs.declared.open_error.OpenError.TheVariants as refused
+use Rattle.store_open.specs.declared.forget_error.ForgetError.{ForgetError}
+use Rattle.store_open.specs.declared.forget_error.ForgetError.TheVariants as forget
 use Rattle.migrate_chain.specs.Migrating.{Migrates}
 use Rattle.migrate_chain.specs.Moving.{IsCarried}
 use Rattle.migrate_chain.specs.Pruning.{Prunes}
@@ -44,16 +54,15 @@ pub record HasBegun (I : Image) (folder : Folder) (N : World) (h : History) : Ty
   pub paid : Paid I N
   pub at_exit : EachImage (Recovers I N) h
 
--- Whatever a beginning comes to, a crash leaves no store, or the machine's world after `Began`.
+-- Whatever a beginning comes to, a crash leaves no store, or the machine's world after `Moved`; that is the one after `Began` where nothing is held.
 abbrev pub BeginningsAreWhole : Type 0
-BeginningsAreWhole = (I : Image) → IsGood I → (W : World) (version : Version) (result : Result (Unit {0}) InitError) (old new : History) → IsBare W old
-    → Begins version result old new → IsBeginning I (next I W (Began version)) old new
+BeginningsAreWhole = (I : Image) → IsGood I → (W : World) (version : Version) (held : Held) (result : Result (Unit {0}) InitError) (old new : History)
+    → IsBare W old → Begins version (record held { owed = owed.All }) result old new → IsBeginning I (next I W (Moved version held)) old new
 
--- A beginning that is answered is the event `Began`; the files of the image are those that were there.
+-- A beginning that is answered is that event; the files of the image are those that were there.
 abbrev pub BeginningsBegin : Type 0
-BeginningsBegin = (I : Image) → IsGood I → (W : World) (version : Version) (done : Unit {0}) (old new : History) → IsBare W old
-    → Begins version (Ok done) old new
-    → HasBegun I (bytes_at (tree_of old)) (next I W (Began version)) new
+BeginningsBegin = (I : Image) → IsGood I → (W : World) (version : Version) (held : Held) (done : Unit {0}) (old new : History) → IsBare W old
+    → Begins version (record held { owed = owed.All }) (Ok done) old new → HasBegun I (bytes_at (tree_of old)) (next I W (Moved version held)) new
 
 -- ---- moves
 
@@ -120,3 +129,57 @@ SameDisksStay = (I : Image) → IsGood I → (folder : Folder) (W : World) (h : 
 abbrev pub PruningsStay : Type 0
 PruningsStay = (I : Image) → IsGood I → (folder : Folder) (W : World) (result : Result ℕ PruneError) (old new : History) → DiskAt I folder W W old
     → Prunes result old new → HasStayed I folder W old new
+
+-- A reading is none, whatever it comes to.
+abbrev pub ReadingsStay : Type 0
+ReadingsStay = (I : Image) → IsGood I → (folder : Folder) (W : World) (result : Result Stored OpenError) (old new : History) → DiskAt I folder W W old
+    → Reads result old new → HasStayed I folder W old new
+
+-- What was read is the world's, which is of format 2; or the disk or memory failed it, or the store is of format 1. No other refusal comes.
+abbrev pub TellsOf : World → Result Stored OpenError → Type 0
+TellsOf W (Ok stored) = (stored.place.version ≡ W.version) × (stored.held ≡ W.held) × (W.format ≡ 2)
+TellsOf W (Err refused.Failed) = Unit {0}
+TellsOf W (Err refused.Memory) = Unit {0}
+TellsOf W (Err (refused.OldFormat directory)) = W.format ≡ 1
+TellsOf W (Err _) = ⊥
+
+-- Where the disk is at a world, a reading tells of it.
+abbrev pub ReadingsTell : Type 0
+ReadingsTell = (I : Image) (folder : Folder) (W : World) (result : Result Stored OpenError) (old new : History) → DiskAt I folder W W old
+    → Reads result old new → TellsOf W result
+
+-- It touches only what is below the data directory, whatever is there.
+abbrev pub ReadingsTouchOwn : Type 0
+ReadingsTouchOwn = (I : Image) (result : Result Stored OpenError) (old new : History) → Reads result old new → TouchesOwn I [] old new
+
+-- ---- the forgetting of keys
+
+-- The event.
+abbrev pub forgot : List Key → List Event
+forgot keys = Forgot (rising keys) ∷ []
+
+-- A crash at any moment leaves what recovers to W, with each covered file paid that was; or so to the world after the event.
+abbrev pub IsForgetting : Image → World → List Key → History → History → Type 0
+IsForgetting I W keys old new = EachSince (λ c. LeavesPaid I W [] c ⊎ LeavesPaid I W (forgot keys) c) old new
+
+-- Answered, it is the event, and each key had a value. Where a key had none, the first such is told, and it is none. Where the store or the disk
+-- refused it, that tells of the store as a reading does, and it is none unless the disk failed.
+abbrev pub HasForgot : Image → Folder → World → List Key → Result (Unit {0}) ForgetError → History → History → Type 0
+HasForgot I folder W keys (Ok done) old new = (first_unheld W.held keys ≡ None) × RunsTo I folder W (forgot keys) old new
+HasForgot I folder W keys (Err (forget.NotHeld key)) old new = (first_unheld W.held keys ≡ Some key) × HasStayed I folder W old new
+HasForgot I folder W keys (Err (forget.Store e)) old new = TellsOf W (Err e) × (e ≢ refused.Failed → HasStayed I folder W old new)
+
+-- Whatever the forgetting of keys comes to where no job runs, a crash leaves the store as it was, or as it is after the event.
+abbrev pub ForgettingsAreWhole : Type 0
+ForgettingsAreWhole = (I : Image) → IsGood I → (folder : Folder) (W : World) (keys : List Key) (result : Result (Unit {0}) ForgetError) (old new : History)
+    → is_running W.job ≡ false → DiskAt I folder W W old → Forgets keys result old new → IsForgetting I W keys old new
+
+-- It is the event or none, as it is answered.
+abbrev pub ForgettingsForget : Type 0
+ForgettingsForget = (I : Image) → IsGood I → (folder : Folder) (W : World) (keys : List Key) (result : Result (Unit {0}) ForgetError) (old new : History)
+    → is_running W.job ≡ false → DiskAt I folder W W old → Forgets keys result old new → HasForgot I folder W keys result old new
+
+-- It touches no more than a reading.
+abbrev pub ForgettingsTouchOwn : Type 0
+ForgettingsTouchOwn = (I : Image) (keys : List Key) (result : Result (Unit {0}) ForgetError) (old new : History) → Forgets keys result old new
+    → TouchesOwn I (forgot keys) old new

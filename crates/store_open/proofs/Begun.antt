@@ -29,7 +29,7 @@ use Rattle.version_links.proofs.Chains.{resolves_one}
 use Rattle.version_links.proofs.Turns.{same_outcome}
 use Rattle.machine_disk.specs.Store.{HoldsIn}
 use Rattle.store_open.specs.World.{HasWorld, IsAtRest}
-use Rattle.settings_machine.specs.Events.{new_held}
+use Rattle.settings_tree.specs.declared.held.Held.{Held}
 use Rattle.store_open.specs.Beginning.{first_world, HasBegun, IsBegun, Begins, Places}
 use Rattle.store_open.specs.declared.begin_error.InitError.{InitError}
 use Rattle.store_open.specs.declared.begin_error.InitError.TheVariants as refused
@@ -83,12 +83,12 @@ link_apart target name rest is = by is where
 
 -- ---- the two phases
 
-module _ (target : Target) where
+module _ (target : Target) (held : Held) where
   abbrev dir : Names
   dir = directory target
 
   abbrev EitherWay : Tree → Type 0
-  EitherWay image = Resolves image nowhere ⊎ HasWorld (first_world target) image
+  EitherWay image = Resolves image nowhere ⊎ HasWorld (first_world target held) image
 
   -- while the directory is written the links lead nowhere
   since_saved : (old mid : History) → IsSettledOn is_in_store old → Touches (IsBelow dir) old mid → Resolves (tree_of old) nowhere → EachSince EitherWay old mid
@@ -107,12 +107,12 @@ module _ (target : Target) where
             (store_apart (directory_name target.version.major target.version.minor target.version.patch target.id) p inside);
       }) nowhere none
 
-  module _ (mid new : History) (settled : IsSettled mid) (means : Stands (files_below dir (tree_of mid)) new_held 2) {E : Type 0} (result : Result Unit E)
+  module _ (mid new : History) (settled : IsSettled mid) (means : Stands (files_below dir (tree_of mid)) held 2) {E : Type 0} (result : Result Unit E)
       (flips : Flips target result mid new) where
-    holds_since : EachSince (HoldsIn dir new_held 2) mid new
-    holds_since = since_goes (HoldsIn dir new_held 2) (IsAtOrSync (IsLinkTo target)) mid new each flips.others.touches where
-      each : (h : History) → GoesOn (IsAtOrSync (IsLinkTo target)) mid h → EachImage (HoldsIn dir new_held 2) h
-      each h goes image is = holds_plain dir new_held 2 image (stand_alike (files_below dir (tree_of mid)) (files_below dir image) new_held 2
+    holds_since : EachSince (HoldsIn dir held 2) mid new
+    holds_since = since_goes (HoldsIn dir held 2) (IsAtOrSync (IsLinkTo target)) mid new each flips.others.touches where
+      each : (h : History) → GoesOn (IsAtOrSync (IsLinkTo target)) mid h → EachImage (HoldsIn dir held 2) h
+      each h goes image is = holds_plain dir held 2 image (stand_alike (files_below dir (tree_of mid)) (files_below dir image) held 2
           (λ name rest. sym (settled (dir ++ name ∷ rest) (node_at image (dir ++ name ∷ rest))
           (may_leave_untouched (IsLinkTo target) mid h goes (dir ++ name ∷ rest) (link_apart target name rest) (node_at image (dir ++ name ∷ rest))
           (is (dir ++ name ∷ rest)))))
@@ -122,29 +122,29 @@ module _ (target : Target) where
     led image is = (target.id, is, refl)
 
     since_flipped : Resolves (tree_of mid) nowhere → EachSince EitherWay mid new
-    since_flipped none = since_map (λ image. ResolvesToEither nowhere target image × HoldsIn dir new_held 2 image) EitherWay mid new way
-        (since_both (ResolvesToEither nowhere target) (HoldsIn dir new_held 2) mid new (flips.any_moment nowhere (record { at = λ p inside. settled p }) none)
+    since_flipped none = since_map (λ image. ResolvesToEither nowhere target image × HoldsIn dir held 2 image) EitherWay mid new way
+        (since_both (ResolvesToEither nowhere target) (HoldsIn dir held 2) mid new (flips.any_moment nowhere (record { at = λ p inside. settled p }) none)
         holds_since)
       where
-        way : (image : Tree) → ResolvesToEither nowhere target image × HoldsIn dir new_held 2 image → EitherWay image
+        way : (image : Tree) → ResolvesToEither nowhere target image × HoldsIn dir held 2 image → EitherWay image
         way image (inl is, holds) = inl is
         way image (inr is, holds) = inr (record { links = led image is; holds = holds })
 
-    means_now : Stands (files_below dir (tree_of new)) new_held 2
-    means_now = stand_alike (files_below dir (tree_of mid)) (files_below dir (tree_of new)) new_held 2
+    means_now : Stands (files_below dir (tree_of new)) held 2
+    means_now = stand_alike (files_below dir (tree_of mid)) (files_below dir (tree_of new)) held 2
         (λ name rest. sym (flips.others.tree (dir ++ name ∷ rest) (link_apart target name rest))) means
 
-    rest_now : LeadsTo (tree_of new) target → IsSettled new → IsAtRest (first_world target) new
+    rest_now : LeadsTo (tree_of new) target → IsSettled new → IsAtRest (first_world target held) new
     rest_now leads still = record {
       links = led (tree_of new) leads;
       means = means_now;
-      ready = record { no_journal = stands_without_journal (files_below dir (tree_of new)) new_held 2 means_now; settled = λ path. still (dir ++ path) };
+      ready = record { no_journal = stands_without_journal (files_below dir (tree_of new)) held 2 means_now; settled = λ path. still (dir ++ path) };
       settled = still;
     }
 
   -- the directory was not saved
-  pub unsaved : (e : DiskErr) (f : InitError) (old new : History) → Saves dir new_held (Err e) old new → (f ≡ refused.Failed) ⊎ (f ≡ refused.Memory)
-      → Places target (Err f) old new
+  pub unsaved : (e : DiskErr) (f : InitError) (old new : History) → Saves dir held (Err e) old new → (f ≡ refused.Failed) ⊎ (f ≡ refused.Memory)
+      → Places target held (Err f) old new
   unsaved e f old new saves plain = record {
     any_moment = λ settled free none. since_saved old new settled saves.others.touches none;
     done = tt;
@@ -152,7 +152,7 @@ module _ (target : Target) where
     plain = plain;
   }
 
-  module _ (old mid new : History) (done : Unit) (saves : Saves {E = DiskErr} dir new_held (Ok done) old mid) where
+  module _ (old mid new : History) (done : Unit) (saves : Saves {E = DiskErr} dir held (Ok done) old mid) where
     both : {E : Type 0} (result : Result Unit E) → Flips target result mid new → Touches (IsBelow (codes "store" ∷ [])) old new
     both result flips = goes_joined (IsAtOrSync (IsBelow (codes "store" ∷ []))) old mid new
         (goes_map (IsAtOrSync (IsBelow dir)) (IsAtOrSync (IsBelow (codes "store" ∷ []))) old mid (below_store _) saves.others.touches)
@@ -165,11 +165,11 @@ module _ (target : Target) where
 
     -- the links were not pointed there
     pub unflipped : {E : Type 0} (e : E) (f : InitError) → Flips {E = E} target (Err e) mid new → (f ≡ refused.Failed) ⊎ (f ≡ refused.Memory)
-        → Places target (Err f) old new
+        → Places target held (Err f) old new
     unflipped {E = E} e f flips plain = record { any_moment = moments {E = E} (Err e) flips; done = tt; touches = both {E = E} (Err e) flips; plain = plain }
 
     -- the store is begun
-    pub placed : {E : Type 0} (also : Unit) → Flips {E = E} target (Ok also) mid new → Places target (Ok tt) old new
+    pub placed : {E : Type 0} (also : Unit) → Flips {E = E} target (Ok also) mid new → Places target held (Ok tt) old new
     placed {E = E} also flips = record {
       any_moment = moments {E = E} (Ok also) flips;
       done = λ free. rest_now mid new saves.settled (saves.done (free_empty (tree_of old) target free)) {E = E} (Ok also) flips flips.done.0 flips.done.1;
@@ -184,14 +184,15 @@ plain_disk device.Failed f hands = inl hands
 plain_disk device.Memory f hands = inr hands
 
 -- what was saved, under the names that it has here
-pub saved_as : (target : Target) (path : Names) (result : Result Unit DiskErr) (old new : History) → path ≡ directory target
-    → Saves path new_held result old new → Saves (directory target) new_held result old new
-saved_as target path result old new at saves = subst (λ (p : Names). Saves p new_held result old new) at saves
+pub saved_as : (target : Target) (held : Held) (path : Names) (result : Result Unit DiskErr) (old new : History) → path ≡ directory target
+    → Saves path held result old new → Saves (directory target) held result old new
+saved_as target held path result old new at saves = subst (λ (p : Names). Saves p held result old new) at saves
 
-pub nothing_begun : (version : Version) (f : InitError) (h : History) → ((path : Names) → f ≡ refused.BadLink path → Resolves (tree_of h) (bad path))
-    → ((other : Version) → f ≡ refused.AlreadyThere other → (path : Names) × Resolves (tree_of h) (found other path)) → Begins version (Err f) h h
-nothing_begun version f h bad_is there_is = record {
-  any_moment = λ settled none. since_start (λ image. Resolves image nowhere ⊎ HasBegun version image) h
+pub nothing_begun : (version : Version) (held : Held) (f : InitError) (h : History)
+    → ((path : Names) → f ≡ refused.BadLink path → Resolves (tree_of h) (bad path))
+    → ((other : Version) → f ≡ refused.AlreadyThere other → (path : Names) × Resolves (tree_of h) (found other path)) → Begins version held (Err f) h h
+nothing_begun version held f h bad_is there_is = record {
+  any_moment = λ settled none. since_start (λ image. Resolves image nowhere ⊎ HasBegun version held image) h
       (λ image is. inl (same_outcome image (tree_of h) (record { same = λ p inside. settled.at p inside (node_at image p) (is p) }) nowhere none));
   done = tt;
   others = only_below (codes "store" ∷ []) h h (goes_stay (IsAtOrSync (IsBelow (codes "store" ∷ []))) h);
@@ -203,12 +204,12 @@ nothing_begun version f h bad_is there_is = record {
     one_error : (e g : InitError) → ◌≡◌ {A = Result Unit InitError} (Err e) (Err g) → e ≡ g
     one_error e g same = cc same
 
-pub begun_of : (target : Target) (version : Version) → target.version ≡ version → (result : Result Unit InitError) (old new : History)
-    → Places target result old new
-    → IsFree (tree_of old) target → Resolves (tree_of old) nowhere → Begins version result old new
-begun_of target version is result old new places free none = record {
-  any_moment = λ settled nowhere_is. since_map (λ image. Resolves image nowhere ⊎ HasWorld (first_world target) image)
-      (λ image. Resolves image nowhere ⊎ HasBegun version image) old new way (places.any_moment settled free nowhere_is);
+pub begun_of : (target : Target) (version : Version) (held : Held) → target.version ≡ version → (result : Result Unit InitError) (old new : History)
+    → Places target held result old new
+    → IsFree (tree_of old) target → Resolves (tree_of old) nowhere → Begins version held result old new
+begun_of target version held is result old new places free none = record {
+  any_moment = λ settled nowhere_is. since_map (λ image. Resolves image nowhere ⊎ HasWorld (first_world target held) image)
+      (λ image. Resolves image nowhere ⊎ HasBegun version held image) old new way (places.any_moment settled free nowhere_is);
   done = by result places.done;
   others = only_below (codes "store" ∷ []) old new places.touches;
   still = λ other path led. absurd (found_no_nowhere other path (resolves_one (tree_of old) nowhere (found other path) none led));
@@ -216,15 +217,15 @@ begun_of target version is result old new places free none = record {
   bad_link = λ path same. absurd (no_bad result places.plain path same);
 }
   where
-    way : (image : Tree) → Resolves image nowhere ⊎ HasWorld (first_world target) image → Resolves image nowhere ⊎ HasBegun version image
+    way : (image : Tree) → Resolves image nowhere ⊎ HasWorld (first_world target held) image → Resolves image nowhere ⊎ HasBegun version held image
     way image (inl n) = inl n
     way image (inr w) = inr (record { target = target; version_is = is; world = w })
 
     found_no_nowhere : (other : Version) (path : Names) → nowhere ≡ found other path → ⊥
     found_no_nowhere other path is = cc is
 
-    by : (r : Result Unit InitError) → OnOk r (IsFree (tree_of old) target → IsAtRest (first_world target) new)
-        → OnOk r (Resolves (tree_of old) nowhere × IsBegun version new)
+    by : (r : Result Unit InitError) → OnOk r (IsFree (tree_of old) target → IsAtRest (first_world target held) new)
+        → OnOk r (Resolves (tree_of old) nowhere × IsBegun version held new)
     by (Ok x) done = (none, record { target = target; version_is = is; rest = done free })
     by (Err e) done = tt
 
@@ -240,51 +241,57 @@ begun_of target version is result old new places free none = record {
     no_bad (Err e) (inr memory) path same = cc (same, memory)
 
 -- errors of the links
-pub links_refused : (version : Version) (e : LinkError) (f : InitError) (h : History) → HandsLinkOn e f
-    → ((path : Names) → e ≡ link.BadLink path → Resolves (tree_of h) (bad path)) → Begins version (Err f) h h
-links_refused version link.Failed f h hands bad_is = nothing_begun version f h (λ path is. absurd (cc (hands, is))) (λ other is. absurd (cc (hands, is)))
-links_refused version (link.BadLink p) f h hands bad_is = nothing_begun version f h (λ path is. bad_is path (same p path (sym hands ∙ is)))
+pub links_refused : (version : Version) (held : Held) (e : LinkError) (f : InitError) (h : History) → HandsLinkOn e f
+    → ((path : Names) → e ≡ link.BadLink path → Resolves (tree_of h) (bad path)) → Begins version held (Err f) h h
+links_refused version held link.Failed f h hands bad_is = nothing_begun version held f h (λ path is. absurd (cc (hands, is)))
+    (λ other is. absurd (cc (hands, is)))
+links_refused version held (link.BadLink p) f h hands bad_is = nothing_begun version held f h (λ path is. bad_is path (same p path (sym hands ∙ is)))
     (λ other is. absurd (cc (hands, is))) where
       same : (p q : Names) → refused.BadLink p ≡ refused.BadLink q → link.BadLink p ≡ link.BadLink q
       same p q e = let one : p ≡ q = cc e in ap (λ (x : Names). link.BadLink x) one
-links_refused version link.Memory f h hands bad_is = nothing_begun version f h (λ path is. absurd (cc (hands, is))) (λ other is. absurd (cc (hands, is)))
+links_refused version held link.Memory f h hands bad_is = nothing_begun version held f h (λ path is. absurd (cc (hands, is)))
+    (λ other is. absurd (cc (hands, is)))
 
 -- ---- what a device tells of these exits
 
-pub exit_links : {T : Type 0} (version : Version) (a b : Option History) (e : LinkError) (f : InitError) → b ≡ a → HandsLinkOn e f
-    → ((path : Names) → IsErrOf {T = T} (Err e) (link.BadLink path) → WhereTold a (λ h. Resolves (tree_of h) (bad path))) → Moves a b (Begins version (Err f))
-exit_links version a b link.Failed f same hands bad_is = moves_same same (λ h. links_refused version link.Failed f h hands (λ path is. absurd (cc is)))
-exit_links version a b (link.BadLink p) f same hands bad_is =
-    moves_map (λ old new both. subst (λ (n : History). Begins version (Err f) old n) (sym both.1)
-    (links_refused version (link.BadLink p) f old hands (λ path is. subst (λ (q : Names). Resolves (tree_of old) (bad q)) (one p path is) both.0)))
+pub exit_links : {T : Type 0} (version : Version) (held : Held) (a b : Option History) (e : LinkError) (f : InitError) → b ≡ a → HandsLinkOn e f
+    → ((path : Names) → IsErrOf {T = T} (Err e) (link.BadLink path) → WhereTold a (λ h. Resolves (tree_of h) (bad path)))
+    → Moves a b (Begins version held (Err f))
+exit_links version held a b link.Failed f same hands bad_is =
+    moves_same same (λ h. links_refused version held link.Failed f h hands (λ path is. absurd (cc is)))
+exit_links version held a b (link.BadLink p) f same hands bad_is =
+    moves_map (λ old new both. subst (λ (n : History). Begins version held (Err f) old n) (sym both.1)
+    (links_refused version held (link.BadLink p) f old hands (λ path is. subst (λ (q : Names). Resolves (tree_of old) (bad q)) (one p path is) both.0)))
     (moves_where (bad_is p refl) (moves_same same (λ h. refl)))
   where
     one : (p q : Names) → link.BadLink p ≡ link.BadLink q → p ≡ q
     one p q is = cc is
-exit_links version a b link.Memory f same hands bad_is = moves_same same (λ h. links_refused version link.Memory f h hands (λ path is. absurd (cc is)))
+exit_links version held a b link.Memory f same hands bad_is =
+    moves_same same (λ h. links_refused version held link.Memory f h hands (λ path is. absurd (cc is)))
 
-pub exit_there : (version : Version) (a b : Option History) (other : Version) (path : Names) → b ≡ a
+pub exit_there : (version : Version) (held : Held) (a b : Option History) (other : Version) (path : Names) → b ≡ a
     → WhereTold a (λ h. Resolves (tree_of h) (found other path))
-    → Moves a b (Begins version (Err (refused.AlreadyThere other)))
-exit_there version a b other path same led =
-    moves_map (λ old new both. subst (λ (n : History). Begins version (Err (refused.AlreadyThere other)) old n) (sym both.1)
-    (nothing_begun version (refused.AlreadyThere other) old (λ p is. absurd (cc is))
+    → Moves a b (Begins version held (Err (refused.AlreadyThere other)))
+exit_there version held a b other path same led =
+    moves_map (λ old new both. subst (λ (n : History). Begins version held (Err (refused.AlreadyThere other)) old n) (sym both.1)
+    (nothing_begun version held (refused.AlreadyThere other) old (λ p is. absurd (cc is))
     (λ v is. (path, subst (λ (x : Version). Resolves (tree_of old) (found x path)) (one other v is) both.0))))
     (moves_where led (moves_same same (λ h. refl)))
   where
     one : (v w : Version) → refused.AlreadyThere v ≡ refused.AlreadyThere w → v ≡ w
     one v w is = cc is
 
-pub exit_plain : (version : Version) (a b : Option History) (f : InitError) → b ≡ a → (f ≡ refused.Failed) ⊎ (f ≡ refused.Memory)
-    → Moves a b (Begins version (Err f))
-exit_plain version a b f same (inl failed) = moves_same same (λ h. nothing_begun version f h (λ path is. absurd (cc (failed, is)))
+pub exit_plain : (version : Version) (held : Held) (a b : Option History) (f : InitError) → b ≡ a → (f ≡ refused.Failed) ⊎ (f ≡ refused.Memory)
+    → Moves a b (Begins version held (Err f))
+exit_plain version held a b f same (inl failed) = moves_same same (λ h. nothing_begun version held f h (λ path is. absurd (cc (failed, is)))
     (λ other is. absurd (cc (failed, is))))
-exit_plain version a b f same (inr memory) = moves_same same (λ h. nothing_begun version f h (λ path is. absurd (cc (memory, is)))
+exit_plain version held a b f same (inr memory) = moves_same same (λ h. nothing_begun version held f h (λ path is. absurd (cc (memory, is)))
     (λ other is. absurd (cc (memory, is))))
 
-pub exit_begun : (target : Target) (version : Version) → target.version ≡ version → (result : Result Unit InitError) (a b c : Option History) → b ≡ a
-    → WhereTold a (λ h. Resolves (tree_of h) nowhere) → WhereTold a (λ h. IsFree (tree_of h) target) → Moves b c (Places target result)
-    → Moves a c (Begins version result)
-exit_begun target version is result a b c same none free places =
-    moves_map (λ old new both. begun_of target version is result old new both.1 both.0.1 both.0.0)
+pub exit_begun : (target : Target) (version : Version) (held : Held) → target.version ≡ version → (result : Result Unit InitError) (a b c : Option History)
+    → b ≡ a
+    → WhereTold a (λ h. Resolves (tree_of h) nowhere) → WhereTold a (λ h. IsFree (tree_of h) target) → Moves b c (Places target held result)
+    → Moves a c (Begins version held result)
+exit_begun target version held is result a b c same none free places =
+    moves_map (λ old new both. begun_of target version held is result old new both.1 both.0.1 both.0.0)
     (moves_where (where_both none free) (moves_after same places))

@@ -25,7 +25,7 @@ use Rattle.store_open.specs.declared.open_error.OpenError.{OpenError}
 use Rattle.store_open.specs.declared.open_error.OpenError.TheVariants as refused
 use Rattle.store_open.proofs.Recovered.{one_place}
 use Rattle.store_open.proofs.Changed.{the_same, was_there, moments, failed, rests, read_now, changes}
-use Rattle.store_open.proofs.Exits.{in_store, exit_read}
+use Rattle.store_open.proofs.Exits.{opens_not, in_store, exit_read}
 
 module _ (boot : Bool) (name : List ℕ) (version : Version) (was : Bool) (old mid : History) (r : Recovers (store name) (Ok was) old mid)
     (links : Resolves (tree_of old) (found version (store name)))
@@ -102,7 +102,7 @@ module _ (boot : Bool) (name : List ℕ) (version : Version) (was : Bool) (old m
 -- what is read there is at fault
 pub ends_read : (boot : Bool) (place : Place) (e : OpenError) (mid new : History) → AtFault place.directory e mid → new ≡ mid → Ends boot place (Err e) mid new
 ends_read boot place e mid new fault same old links to = subst (λ (h : History). Opens boot (Err e) old h) (sym same)
-    (exit_read boot place.directory place.version to.journal e old mid fault to.recovers links)
+    (opens_not boot e old mid (exit_read place.directory place.version to.journal e old mid fault to.recovers links))
 
 module _ (boot : Bool) (place : Place) (held : Held) (image : Image) (mid new : History) (means : Stands (files_below place.directory (tree_of mid)) held 2)
     (read : IsImageIn (tree_of mid) image) (typed : IsTypedHeld image.model.types held) where

@@ -7,6 +7,7 @@ pub mod Walked
 pub mod Typings
 pub mod Steps
 pub mod LastExits
+pub mod Forgets
 pub mod EarlierMoments
 pub mod ReadStores
 pub mod OpenedFits

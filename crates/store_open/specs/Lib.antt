@@ -3,6 +3,8 @@ pub mod Step
 pub mod Typed
 pub mod Opening
 pub mod Beginning
+pub mod Reading
 pub mod Handing
 pub mod Phases
+pub mod Forgetting
 pub mod Laws

@@ -19,6 +19,7 @@ use Rattle.machine_disk.specs.Store.{HoldsIn}
 use Rattle.version_links.specs.Chain.{found, Resolves}
 use Rattle.version_links.specs.declared.chain.Place.{Place}
 use Rattle.store_open.specs.Opening.{Means, MeansIllTyped, Opens}
+use Rattle.store_open.specs.Reading.{Refuses}
 use Rattle.typed_settings.specs.declared.row.Row.{Row}
 use Rattle.store_open.specs.Typed.{IsIllTyped}
 use Rattle.store_open.specs.declared.opened.Opened.{Opened}
@@ -65,9 +66,9 @@ pub record HasRecovered (directory : Names) (old new : History) : Type 0 where
   pub journal : Bool
   pub recovers : Recovers directory (Ok journal) old new
 
--- Where the links led to the place, an opening was refused for this.
+-- Where the links led to the place, the store was not read for this reason.
 abbrev pub RefusesAt : Place → OpenError → History → History → Type 0
-RefusesAt place e old new = (boot : Bool) → Resolves (tree_of old) (found place.version place.directory) → Opens boot (Err e) old new
+RefusesAt place e old new = Resolves (tree_of old) (found place.version place.directory) → Refuses e old new
 
 -- Where the links led to the place and its journal was carried out, an opening ended with this result.
 abbrev pub Ends : Bool → Place → Result Opened OpenError → History → History → Type 0

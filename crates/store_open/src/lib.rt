@@ -4,18 +4,25 @@
 
 mod begin_error;
 mod beginning;
+mod forget_error;
+mod forgetting;
 mod law;
 mod open_error;
 mod opened;
 mod opening;
 mod reading;
 mod step;
+mod stored;
 mod typing;
 
 pub use begin_error::InitError;
-pub use beginning::init;
+pub use beginning::{begin, init};
+pub use forget_error::ForgetError;
+pub use forgetting::forget_keys;
 pub use law::laws;
 pub use open_error::OpenError;
 pub use opened::Opened;
 pub use opening::open_store;
+pub use reading::read_store;
 pub use store_image::{Image, ImageError, read_image};
+pub use stored::Stored;

@@ -35,8 +35,8 @@ fn laid(alloc: Global, dir: &Path, held: &mut Held, change: Change) -> Result<Ba
     Ok(batch)
 }
 
-// Makes the change, on the disk and in what is held. From the first writing call on it takes no memory.
-fn make<D: Disk>(
+/// Makes the change, on the disk and in what is held, as one change of the directory. From the first writing call on it takes no memory.
+pub(crate) fn make<D: Disk>(
     alloc: Global,
     disk: &mut D,
     dir: &Path,

@@ -37,13 +37,15 @@ returns-clause-handles g c =
     elim c.if-faulted.branch [
       | then-faulted+in_default w ↦
           let mid_log = log_state (g.L.Sink.told w.tell.new.log) (g.L.Sink.faults w.tell.new.log) in
-          let opened = opening_by w.version.result _ w.held.result.now _ before mid_log w.version.ensures w.held.ensures (w.tell.ensures _ w.opened_line.ensures)
+          let opened = opening_by w.version.result _ w.held.result.now _ before mid_log w.version.ensures w.held.ensures
+          (w.tell.ensures _ w.opened_line.ensures)
           in
           moves_then
           (λ old mid new again answers. opened_handles c.args.core.now q (sym w.if-faulted.ensures) w.reopen.new.self a.new.core a.result before mid_log now
           old mid new again (done.image ∙ ap (λ (x : Core). x.image) w.core-is) done.opened opened
           (subst (λ (x : Core). TellsOf x q a.result a.new.core mid_log now) w.core-is
-          (subst (λ (s : LogState). TellsOf c.if-faulted.core q a.result a.new.core s now) (ap (λ l. log_state (g.L.Sink.told l) (g.L.Sink.faults l)) w.log-is) done.tells))
+          (subst (λ (s : LogState). TellsOf c.if-faulted.core q a.result a.new.core s now) (ap (λ l. log_state (g.L.Sink.told l) (g.L.Sink.faults l)) w.log-is)
+          done.tells))
           (subst (λ (x : Core). Answers x q a.result a.new.core mid new) w.core-is answers))
           w.in_default.ensures.reopens (moves_after (ap g.D.Disk.told w.disk-is) done.answers)
       | else-faulted w ↦
@@ -51,7 +53,8 @@ returns-clause-handles g c =
           (λ old new answers. calm_handles c.args.core.now a.new.core q a.result before now old new (sym w.if-faulted.ensures)
           (done.image ∙ ap (λ (x : Core). x.image) w.core-is)
           (subst (λ (x : Core). TellsOf x q a.result a.new.core before now) w.core-is
-          (subst (λ (s : LogState). TellsOf c.if-faulted.core q a.result a.new.core s now) (ap (λ l. log_state (g.L.Sink.told l) (g.L.Sink.faults l)) w.log-is) done.tells))
+          (subst (λ (s : LogState). TellsOf c.if-faulted.core q a.result a.new.core s now) (ap (λ l. log_state (g.L.Sink.told l) (g.L.Sink.faults l)) w.log-is)
+          done.tells))
           (subst (λ (x : Core). Answers x q a.result a.new.core old new) w.core-is answers))
           (moves_after (ap g.D.Disk.told w.disk-is) done.answers)
     ]

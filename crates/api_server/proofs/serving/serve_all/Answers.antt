@@ -30,7 +30,8 @@ loop-number-preserved g c =
           old between new
           (moves_after idle.told c.in-Ok-true.ensures.opened) all next)
           (moves_then
-          (λ old between new all idles. rounds_idle c.args.pace c.args.core.now c.loop-number.core c.idle.new.core _ _ _ _ _ _ _ _ _ _ _ old between new all idles)
+          (λ old between new all idles.
+          rounds_idle c.args.pace c.args.core.now c.loop-number.core c.idle.new.core _ _ _ _ _ _ _ _ _ _ _ old between new all idles)
           was.serves idle.idles)
           one.serves;
       sound = one.sound;

@@ -19,7 +19,8 @@ returns-clause-turns g c =
     (log_state (g.L.Sink.told c.args.log.now) (g.L.Sink.faults c.args.log.now)) (log_state (g.L.Sink.told c.tell.new.log) (g.L.Sink.faults c.tell.new.log))
     old new c.requires.running t.disk_faults t.spawner_faults
     (λ I is. subst (λ (j : Job). Tells (turn_lines (due_in I job) j)
-    (log_state (g.L.Sink.told c.args.log.now) (g.L.Sink.faults c.args.log.now)) (log_state (g.L.Sink.told c.tell.new.log) (g.L.Sink.faults c.tell.new.log))) c.job-2.ensures
+    (log_state (g.L.Sink.told c.args.log.now) (g.L.Sink.faults c.args.log.now)) (log_state (g.L.Sink.told c.tell.new.log) (g.L.Sink.faults c.tell.new.log)))
+    c.job-2.ensures
     (c.tell.ensures _ (c.lines_after.ensures (due_in I job)
     (IfOk-weaker c.next_due-due.result _ (λ d. due_of d ≡ due_in I job)
     (λ d by. by I (is ∙ sym (ap (λ (i : Image). i.manifest) c.image.ensures)) ∙ ap (due_in I) c.job.ensures) c.next_due-due.ensures))))

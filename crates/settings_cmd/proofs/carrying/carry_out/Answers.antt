@@ -9,7 +9,8 @@ use Rattle.command_outcome.specs.declared.refusal.Refusal.TheVariants as refused
 use Rattle.core_commands.specs.Carried.{Carried as Commanded, set_requests}
 use Rattle.core_commands.specs.Lines.{IsSettingsLine}
 use Rattle.core_commands.proofs.Causes.{quiet_cause}
-use Rattle.settings_cmd.specs.Carried.{IsGot}
+use Rattle.settings_cmd.specs.Carried.{Carried, IsGot}
+use Rattle.settings_cmd.specs.Stores.{IsForgotten}
 use Rattle.settings_cmd.proofs.Loading.{load_in_range, memory_alone, memory_spawn}
 use Rattle.settings_cmd.proofs.Making.{spawn_none}
 use Rattle.settings_cmd.proofs.Ordered.{does_read, does_nothing}
@@ -77,6 +78,22 @@ returns-in-Ok-UserData-clause-does g c = λ order spelled.
     does_read c.provision.result _ _ c.in-Ok-UserData.field-0 _ order c.in-Ok-UserData.field-0-is (c.in-Ok-UserData.ensures.exact order spelled)
     c.provision.ensures.provided
 
+pub returns-in-Ok-Dump-clause-does : goal.returns-in-Ok-Dump-clause-does
+returns-in-Ok-Dump-clause-does g c = λ order spelled.
+    does_read c.dump.result _ _ c.in-Ok-Dump.field-0 _ order c.in-Ok-Dump.field-0-is (c.in-Ok-Dump.ensures.exact order spelled)
+    (inl c.dump.ensures.dumped)
+
+pub returns-in-Ok-Restore-clause-does : goal.returns-in-Ok-Restore-clause-does
+returns-in-Ok-Restore-clause-does g c = λ order spelled.
+    does_read c.restore.result _ _ c.in-Ok-Restore.field-0 _ order c.in-Ok-Restore.field-0-is (c.in-Ok-Restore.ensures.exact order spelled)
+    (inl c.restore.ensures.restored)
+
+pub returns-in-Ok-Forget-clause-does : goal.returns-in-Ok-Forget-clause-does
+returns-in-Ok-Forget-clause-does g c = λ order spelled.
+    does_read c.forget.result _ _ c.in-Ok-Forget.field-0 _ order c.in-Ok-Forget.field-0-is (c.in-Ok-Forget.ensures.exact order spelled)
+    (subst (λ (l : List (List (List ℕ))). Carried (IsForgotten l) c.forget.result (g.D.Disk.told c.args.disk.now) (g.D.Disk.told c.forget.new.disk))
+    c.deref-in-Ok-Forget.ensures.value c.forget.ensures.forgotten)
+
 pub returns-in-Ok-Load-clause-does : goal.returns-in-Ok-Load-clause-does
 returns-in-Ok-Load-clause-does g c = λ order spelled.
     does_read c.load.result _ _ c.in-Ok-Load.field-0 _ order c.in-Ok-Load.field-0-is (c.in-Ok-Load.ensures.exact order spelled)
@@ -128,6 +145,15 @@ returns-in-Ok-UserData-clause-spawn_fault g c = λ name is. absurd (c.provision.
 
 pub returns-in-Ok-UserData-clause-door_fault : goal.returns-in-Ok-UserData-clause-door_fault
 returns-in-Ok-UserData-clause-door_fault g c = λ is. absurd (c.provision.ensures.no_door is)
+
+pub returns-in-Ok-Restore-clause-spawn_cause : goal.returns-in-Ok-Restore-clause-spawn_cause
+returns-in-Ok-Restore-clause-spawn_cause g c = λ serves_not. spawn_none c.restore.result _ _ refl c.restore.ensures.unspawned c.restore.ensures.no_door
+
+pub returns-in-Ok-Restore-clause-spawn_fault : goal.returns-in-Ok-Restore-clause-spawn_fault
+returns-in-Ok-Restore-clause-spawn_fault g c = λ name is. absurd (c.restore.ensures.unspawned name is)
+
+pub returns-in-Ok-Restore-clause-door_fault : goal.returns-in-Ok-Restore-clause-door_fault
+returns-in-Ok-Restore-clause-door_fault g c = λ is. absurd (c.restore.ensures.no_door is)
 
 pub load-requires-clause-some : goal.load-requires-clause-some
 load-requires-clause-some g c = (load_in_range (texts c.args.words.now) c.in-Ok-Load.field-0 c.in-Ok-Load.count c.in-Ok-Load.field-0-is

@@ -10,6 +10,7 @@ use Rattle.settings_machine.proofs.AtOnce.{set_is_one_change}
 use Rattle.settings_machine.proofs.Guarding.{guards_hold}
 use Rattle.settings_machine.proofs.Planned.{plans_come_true}
 use Rattle.settings_machine.proofs.Verifying.{states_are_exact, paid_files_are_ours}
+use Rattle.settings_machine.proofs.Forgetting.{forgetting_forgets, forgetting_mends_types, forgetting_pays}
 use Rattle.settings_machine.proofs.law.laws.Goals as goal
 
 pub returns-clause-fit : goal.returns-clause-fit
@@ -80,6 +81,15 @@ returns-clause-plans c = plans_come_true
 
 pub returns-clause-states : goal.returns-clause-states
 returns-clause-states c = states_are_exact
+
+pub returns-clause-forgets : goal.returns-clause-forgets
+returns-clause-forgets c = forgetting_forgets
+
+pub returns-clause-mends : goal.returns-clause-mends
+returns-clause-mends c = forgetting_mends_types
+
+pub returns-clause-forgetting : goal.returns-clause-forgetting
+returns-clause-forgetting c = forgetting_pays
 
 pub returns-clause-ours : goal.returns-clause-ours
 returns-clause-ours c = paid_files_are_ours
