@@ -10,6 +10,7 @@ _settings() {
         init) COMPREPLY=($(compgen -W '--version' -- "$word")) ;;
         serve) COMPREPLY=($(compgen -W '--boot --slice --while-idle --connections --quiet' -- "$word")) ;;
         apply) COMPREPLY=($(compgen -W '--all' -- "$word")) ;;
+        check) COMPREPLY=($(compgen -W '--store' -- "$word")) ;;
         migrate) COMPREPLY=($(compgen -W '--to' -- "$word")) ;;
         user-data | restore) COMPREPLY=($(compgen -f -- "$word")) ;;
     esac

@@ -6,6 +6,7 @@ complete -c settings -n "not __fish_seen_subcommand_from $commands" -a "$command
 complete -c settings -n '__fish_seen_subcommand_from init' -a --version
 complete -c settings -n '__fish_seen_subcommand_from serve' -a '--boot --slice --while-idle --connections --quiet'
 complete -c settings -n '__fish_seen_subcommand_from apply' -a --all
+complete -c settings -n '__fish_seen_subcommand_from check' -a --store
 complete -c settings -n '__fish_seen_subcommand_from migrate' -a --to
 complete -c settings -n '__fish_seen_subcommand_from user-data restore' -F
 

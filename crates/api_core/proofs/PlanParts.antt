@@ -53,7 +53,8 @@ module _ (c : Core) where
   -- ---- plans
 
   module _ (tx : List ℕ) where
-    pub plan_after : (a : Answer) → (get c.held.pending tx ≡ None → ⊥) → PlansOver c (committed c.held tx).live (committed c.held tx).owed (changed_keys c.held tx)
+    pub plan_after : (a : Answer) → (get c.held.pending tx ≡ None → ⊥) → PlansOver c (committed c.held tx).live
+        (committed c.held tx).owed (changed_keys c.held tx)
         a → IsReading c (Plan (Some tx)) a
     plan_after a there plans = record {
       changes_nothing = λ I os manifest templates W version. ap (stays (with_core W c.held (job_of c.job)))

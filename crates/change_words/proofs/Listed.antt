@@ -25,7 +25,8 @@ module _ {X T : Type 0} (text : X → List ℕ) (spells : List ℕ → T → Typ
       (Each-more spells (take i (map text words)) before word value each one))
 
   -- where a word says nothing, the words say nothing
-  pub each_fails : (word : List ℕ) → word ≡ text (get_or words i d) → ((v : T) → spells word v → ⊥) → (values : List T) → Each spells (map text words) values → ⊥
+  pub each_fails : (word : List ℕ) → word ≡ text (get_or words i d) → ((v : T) → spells word v → ⊥)
+      → (values : List T) → Each spells (map text words) values → ⊥
   each_fails word is none values each =
       let split : map text words ≡ take i (map text words) ++ word ∷ drop (suc i) (map text words) =
       sym (take-append-drop i (map text words)) ∙ ap (λ (ts : List (List ℕ)). take i (map text words) ++ ts)

@@ -1,5 +1,6 @@
 -- Changes that make a tree, in the order of their keys.
-use Rattle.std.proofs.Common.{◌≡◌, ◌+◌, ◌<◌, ℕ, zero, suc, List, [], ◌∷◌, map, take, length, get_or, Bool, true, false, ◌&&◌, ◌||◌, refl, sym, ap, ◌∙◌, subst, arith}
+use Rattle.std.proofs.Common.{◌≡◌, ◌+◌, ◌<◌, ℕ, zero, suc, List, [], ◌∷◌, map, take, length}
+use Rattle.std.proofs.Common.{get_or, Bool, true, false, ◌&&◌, ◌||◌, refl, sym, ap, ◌∙◌, subst, arith}
 use Rattle.std.specs.Prelude.{codes, not, nat_lt}
 use Rattle.std.specs.Str.{bytes_eq}
 use Rattle.std.specs.List.{All, AllPairs, AllByRecursion, IsDistinct}
@@ -115,7 +116,8 @@ unlike (k ∷ keys) h =
 
 begins : (k : Path) → is_setting k ≡ true → take 1 k ≡ codes "settings" ∷ []
 begins [] is = absurd (false≢true is)
-begins (a ∷ k) is = ap (λ (b : List ℕ). b ∷ []) ((bytes_eq-Decides a (codes "settings")).0 (both (nat_lt 1 (length (a ∷ k))) (bytes_eq a (codes "settings")) is).1)
+begins (a ∷ k) is = ap (λ (b : List ℕ). b ∷ [])
+    ((bytes_eq-Decides a (codes "settings")).0 (both (nat_lt 1 (length (a ∷ k))) (bytes_eq a (codes "settings")) is).1)
 
 goes_on : (k : Path) → is_setting k ≡ true → 1 < length k
 goes_on [] is = absurd (false≢true is)

@@ -1,5 +1,6 @@
 -- Words say one tree of changes at most, and one body says it.
-use Rattle.std.proofs.Common.{◌≡◌, ◌≢◌, ◌==◌, ℕ, length, String, Global, List, [], ◌∷◌, Bool, true, false, take, refl, sym, ap, ◌∙◌, subst, Option, Some, None, Result, Ok, Err}
+use Rattle.std.proofs.Common.{◌≡◌, ◌≢◌, ◌==◌, ℕ, length, String, Global, List, [], ◌∷◌, Bool, true}
+use Rattle.std.proofs.Common.{false, take, refl, sym, ap, ◌∙◌, subst, Option, Some, None, Result, Ok, Err}
 use Rattle.std.specs.Prelude.{codes, IfOk, MatchOption}
 use Rattle.std.specs.List.Sorted.{IsPermutation}
 use Rattle.std.specs.List.{All}
@@ -48,7 +49,8 @@ is_body changes sorted lent (Ok text) same moved below nests back = record {
 }
 
 -- words that say changes say the body for them, or none
-pub says : {E : Type 0} (form : Form) (words : List (List ℕ)) (changes : List Change) (r : Result (Option (List ℕ)) E) → words ≢ [] → Each (spells form) words changes
+pub says : {E : Type 0} (form : Form) (words : List (List ℕ)) (changes : List Change) (r : Result (Option (List ℕ)) E)
+    → words ≢ [] → Each (spells form) words changes
     → IfOk r (λ o. MatchOption o (is_tree changes ≡ false) (λ body. (is_tree changes ≡ true) × IsBody changes body))
     → IfOk r (λ o. MatchOption o ((body : List ℕ) → Says form words body → ⊥) (Says form words))
 says form words changes (Err e) some each body = tt

@@ -8,8 +8,8 @@ use Rattle.machine_answers.specs.Bodies.{refusal_text}
 use Rattle.machine_answers.specs.RenderWords.{render_word, render_path}
 use Rattle.command_outcome.specs.declared.refusal.Refusal.{Refusal}
 use Rattle.command_outcome.specs.declared.refusal.Refusal.TheVariants.{Memory, Usage, Disk, Door, Spawn, NoStore}
-use Rattle.command_outcome.specs.declared.refusal.Refusal.TheVariants.{Damaged, BadLink, BadJournal, BadImage, IllTyped, NotCovered}
-use Rattle.command_outcome.specs.declared.refusal.Refusal.TheVariants.{Render, Status, Missing, Conflict, Refused, AlreadyThere}
+use Rattle.command_outcome.specs.declared.refusal.Refusal.TheVariants.{Damaged, BadLink, BadJournal, BadImage, IllTyped, HoldsIllTyped, NotCovered}
+use Rattle.command_outcome.specs.declared.refusal.Refusal.TheVariants.{Render, WouldNotRender, Status, Missing, Conflict, Refused, AlreadyThere}
 use Rattle.command_outcome.specs.declared.refusal.Refusal.TheVariants.{OldFormat, GeneratorStatus, GeneratorOutput, UserData, Dump}
 use Rattle.command_outcome.specs.declared.refusal.Refusal.TheVariants.{MigrationStatus, MigrationOutput, NotCurrent}
 
@@ -26,8 +26,10 @@ status_of (BadLink path) = 7
 status_of (BadJournal path) = 7
 status_of (BadImage file kind at) = 8
 status_of (IllTyped key) = 8
+status_of (HoldsIllTyped lines) = 8
 status_of (NotCovered lines) = 9
 status_of (Render file error) = 10
+status_of (WouldNotRender lines) = 10
 status_of (Status service number) = 10
 status_of (Missing at target) = 11
 status_of (Conflict key) = 11
@@ -59,8 +61,10 @@ told (BadLink path) = codes "bad link" ++ spaced (joined path)
 told (BadJournal path) = codes "bad journal" ++ spaced (joined path)
 told (BadImage file kind at) = codes "bad image" ++ spaced file ++ spaced kind ++ spaced at
 told (IllTyped key) = codes "ill typed" ++ spaced (printed key)
+told (HoldsIllTyped lines) = []
 told (NotCovered lines) = []
 told (Render file error) = codes "render" ++ spaced file ++ spaced (render_word error) ++ spaced (render_path error)
+told (WouldNotRender lines) = []
 told (Status service number) = codes "status" ++ spaced service ++ spaced (decimal number)
 told (Missing at target) = codes "missing" ++ spaced (version_text at) ++ spaced (version_text target)
 told (Conflict key) = codes "conflict" ++ spaced (printed key)
@@ -77,6 +81,8 @@ told (NotCurrent lines) = []
 
 -- What is printed of a refusal.
 abbrev pub line_of : Refusal → List ℕ
+line_of (HoldsIllTyped lines) = lines
 line_of (NotCovered lines) = lines
+line_of (WouldNotRender lines) = lines
 line_of (NotCurrent lines) = lines
 line_of refusal = codes "settings: " ++ told refusal ++ codes "\n"

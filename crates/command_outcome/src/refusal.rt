@@ -53,6 +53,11 @@ pub enum Refusal {
         /// Its key.
         key: Key,
     },
+    /// 8: the store holds values that the types of the image refuse.
+    HoldsIllTyped {
+        /// The lines that tell of the image and the store.
+        lines: Bytes,
+    },
     /// 9: not each configuration file of the image is covered.
     NotCovered {
         /// The lines that tell of each file.
@@ -64,6 +69,11 @@ pub enum Refusal {
         file: Text,
         /// Why its template refused.
         error: RenderError,
+    },
+    /// 10: configuration files could not be rendered from what the store holds.
+    WouldNotRender {
+        /// The lines that tell of the image and the store.
+        lines: Bytes,
     },
     /// 10: a restart command ended with another status than 0.
     Status {

@@ -181,7 +181,10 @@ fn push_told(alloc: Global, line: &mut Vec<u8>, refusal: &Refusal) -> Result<(),
         Refusal::BadJournal { path } => push_path(line, "bad journal", path),
         Refusal::BadImage { file, kind, at } => push_image(line, file, kind, at),
         Refusal::IllTyped { key } => push_key(line, "ill typed", key),
-        Refusal::NotCovered { .. } | Refusal::NotCurrent { .. } => Ok(()),
+        Refusal::HoldsIllTyped { .. }
+        | Refusal::NotCovered { .. }
+        | Refusal::WouldNotRender { .. }
+        | Refusal::NotCurrent { .. } => Ok(()),
         Refusal::Render { file, error } => push_render(line, file, error),
         Refusal::Status { service, number } => push_status(line, service, *number),
         Refusal::Missing { at, target } => push_missing(alloc, line, at, target),
@@ -225,9 +228,10 @@ impl Refusal {
             Refusal::Spawn { .. } => 5,
             Refusal::NoStore => 6,
             Refusal::Damaged { .. } | Refusal::BadLink { .. } | Refusal::BadJournal { .. } => 7,
-            Refusal::BadImage { .. } | Refusal::IllTyped { .. } => 8,
+            Refusal::BadImage { .. } | Refusal::IllTyped { .. } | Refusal::HoldsIllTyped { .. } =>
+                8,
             Refusal::NotCovered { .. } => 9,
-            Refusal::Render { .. } | Refusal::Status { .. } => 10,
+            Refusal::Render { .. } | Refusal::WouldNotRender { .. } | Refusal::Status { .. } => 10,
             Refusal::Missing { .. } | Refusal::Conflict { .. } => 11,
             Refusal::Refused(_) => 13,
             Refusal::AlreadyThere { .. } => 14,
@@ -240,14 +244,15 @@ impl Refusal {
     }
 
     /// What is printed of the refusal, with a line feed at its end: a line that begins with `settings: `, or the lines that tell of
-    /// each configuration file. The only error is out of memory.
+    /// each configuration file and of the store. The only error is out of memory.
     pub fn line(&self, alloc: Global) -> Result<Vec<u8>, AllocError>
         ensures { IfOk result (λ line. line.items ≡ line_of self.now) }
     {
         match self {
-            Refusal::NotCovered { lines } | Refusal::NotCurrent { lines } => {
-                lines.as_slice().to_vec(alloc)
-            }
+            Refusal::HoldsIllTyped { lines }
+            | Refusal::NotCovered { lines }
+            | Refusal::WouldNotRender { lines }
+            | Refusal::NotCurrent { lines } => lines.as_slice().to_vec(alloc),
             _ => named_line(alloc, self),
         }
     }

@@ -4,9 +4,9 @@ use Rattle.std.proofs.lemmas.Bool.{false≢true}
 use Rattle.std.specs.List.{list_all}
 use Rattle.outside.specs.Names.{Names}
 use Rattle.outside.specs.Tree.{file, node_at, set_node}
-use Rattle.outside.specs.History.{Change, replaced, scribbled, synced, History, next, tree_of, MayLeave, EachImage, IsSettled}
+use Rattle.outside.specs.History.{Change, replaced, scribbled, synced, History, next, tree_of, MayLeave, EachCrashState, IsSettled}
 use Rattle.outside.specs.Since.{EachSince, GoesOn, IsAt, IsAtOrSync, Touches}
-use Rattle.outside.proofs.Crash.{tree_is_image, settled_synced, EachImage-replaced}
+use Rattle.outside.proofs.Crash.{tree_is_crash_state, settled_synced, EachCrashState-replaced}
 use Rattle.outside.proofs.Since.{since_now, since_next, since_syncs}
 use Rattle.outside.proofs.Goes.{goes_joined, goes_map, since_goes, may_leave_at}
 use Rattle.commit_journal.specs.Entries.{Entry, is_batch, is_entry, is_entry_path, IsNamed, placed}
@@ -57,13 +57,13 @@ module _ (dir : Names) (entries : List Entry) (valid : is_batch entries ≡ true
 
   -- while the entries are put in their places, a crash leaves the journal and all other files
   during : IsSettledBelow dir old → HasJournal found entries → (h : History) → GoesOn (IsAt (IsNamed (placed dir entries))) old h
-      → EachImage (TreeStandsFor dir over) h
-  during settled has h goes image is = stands_with has (files_below dir image)
-      (λ p. one p (may_leave_at (IsNamed (placed dir entries)) old h goes (dir ++ p) (node_at image (dir ++ p)) (is (dir ++ p))))
+      → EachCrashState (TreeStandsFor dir over) h
+  during settled has h goes crashed is = stands_with has (files_below dir crashed)
+      (λ p. one p (may_leave_at (IsNamed (placed dir entries)) old h goes (dir ++ p) (node_at crashed (dir ++ p)) (is (dir ++ p))))
     where
-      one : (p : Names) → MayLeave old (dir ++ p) (node_at image (dir ++ p)) ⊎ IsNamed (placed dir entries) (dir ++ p)
-          → IsNamed entries p ⊎ (files_below dir image p ≡ files_below dir (tree_of old) p)
-      one p (inl may) = inr (settled p (node_at image (dir ++ p)) may)
+      one : (p : Names) → MayLeave old (dir ++ p) (node_at crashed (dir ++ p)) ⊎ IsNamed (placed dir entries) (dir ++ p)
+          → IsNamed entries p ⊎ (files_below dir crashed p ≡ files_below dir (tree_of old) p)
+      one p (inl may) = inr (settled p (node_at crashed (dir ++ p)) may)
       one p (inr named) = inl (named_below dir entries p named)
 
   -- so it does until they are kept
@@ -90,11 +90,11 @@ module _ (dir : Names) (entries : List Entry) (valid : is_batch entries ≡ true
   )
 
   -- while the journal is taken away, a crash leaves it or takes it away
-  image_ends : (h : History) → IsSettled h → files_below dir (tree_of h) ≡ laid entries found → EachSince (TreeStandsFor dir over) old h
-      → EachImage (TreeStandsFor dir over) (next (replaced (dir ++ journal) None) h)
-  image_ends h settled is so_far image im = elim (EachImage-replaced h (dir ++ journal) None settled image im) [
-    | inl was ↦ subst (TreeStandsFor dir over) (sym was) (since_now (TreeStandsFor dir over) old h so_far (tree_of h) (tree_is_image h))
-    | inr now ↦ stands_ended (files_below dir image) (ap (λ t. files_below dir t) now ∙ ended h is)
+  state_ends : (h : History) → IsSettled h → files_below dir (tree_of h) ≡ laid entries found → EachSince (TreeStandsFor dir over) old h
+      → EachCrashState (TreeStandsFor dir over) (next (replaced (dir ++ journal) None) h)
+  state_ends h settled is so_far crashed im = elim (EachCrashState-replaced h (dir ++ journal) None settled crashed im) [
+    | inl was ↦ subst (TreeStandsFor dir over) (sym was) (since_now (TreeStandsFor dir over) old h so_far (tree_of h) (tree_is_crash_state h))
+    | inr now ↦ stands_ended (files_below dir crashed) (ap (λ t. files_below dir t) now ∙ ended h is)
   ]
 
   -- so it does until it is kept away
@@ -102,11 +102,11 @@ module _ (dir : Names) (entries : List Entry) (valid : is_batch entries ≡ true
       → EachSince (TreeStandsFor dir over) old h → PutsKept (dir ++ journal) None result h new → EachSince (TreeStandsFor dir over) old new
   since_ends (Ok done) h new settled is so_far kept =
       since_syncs (TreeStandsFor dir over) old (next (replaced (dir ++ journal) None) h) new {E = Unit} (Ok tt)
-      (since_next (TreeStandsFor dir over) old h (replaced (dir ++ journal) None) so_far (image_ends h settled is so_far)) kept
+      (since_next (TreeStandsFor dir over) old h (replaced (dir ++ journal) None) so_far (state_ends h settled is so_far)) kept
   since_ends (Err e) h new settled is so_far (inl same) = subst (λ k. EachSince (TreeStandsFor dir over) old k) (sym same) so_far
   since_ends (Err e) h new settled is so_far (inr put) =
       subst (λ k. EachSince (TreeStandsFor dir over) old k) (sym put) (since_next (TreeStandsFor dir over) old h (replaced (dir ++ journal) None) so_far
-      (image_ends h settled is so_far))
+      (state_ends h settled is so_far))
 
   -- entries that are kept are laid over the files
   done_installs : (E : Type 0) (done : Unit) (h : History) → InstallsKept {E = E} (placed dir entries) (Ok done) old h

@@ -15,7 +15,7 @@ pub only_below : (dir : Names) (old new : History) → Touches (IsBelow dir) old
 only_below dir old new touches = record {
   touches = touches;
   tree = λ path apart. tree_untouched (IsBelow dir) old new touches path apart;
-  images = λ path apart. since_untouched_at (IsBelow dir) path apart old new touches;
+  crash_states = λ path apart. since_untouched_at (IsBelow dir) path apart old new touches;
 }
 
 -- a sync touches no path

@@ -11,7 +11,7 @@ use Rattle.outside.specs.Told.{Moves, WhereTold}
 use Rattle.outside.specs.Faults.{HandsOn}
 use Rattle.outside.specs.declared.disk_error.DiskErr.{DiskErr}
 use Rattle.outside.specs.declared.disk_error.DiskErr.TheVariants as device
-use Rattle.outside.proofs.Crash.{tree_is_image, settled_synced, settled_image}
+use Rattle.outside.proofs.Crash.{tree_is_crash_state, settled_synced, settled_state}
 use Rattle.outside.proofs.Goes.{goes_stay, goes_joined}
 use Rattle.outside.proofs.Since.{since_start, since_now}
 use Rattle.outside.proofs.Told.{moves_stay, moves_map, moves_then, moves_same, moves_where}
@@ -91,13 +91,13 @@ module _ (dir : Names) where
   still_stands : (files : Files) (old new : History) → TreeStandsFor dir files (tree_of old) → FromSyncOn (EachSince (TreeStandsFor dir files)) old new
       → TreeStandsFor dir files (tree_of new)
   still_stands files old new stands (inl is) = subst (λ h. TreeStandsFor dir files (tree_of h)) (sym is) stands
-  still_stands files old new stands (inr since) = since_now (TreeStandsFor dir files) (next synced old) new since (tree_of new) (tree_is_image new)
+  still_stands files old new stands (inr since) = since_now (TreeStandsFor dir files) (next synced old) new since (tree_of new) (tree_is_crash_state new)
 
   -- once what is there is on the disk, a crash leaves it
   since_synced : (files : Files) (old : History) → TreeStandsFor dir files (tree_of old) → EachSince (TreeStandsFor dir files) (next synced old)
       (next synced old)
   since_synced files old stands = (since_start (TreeStandsFor dir files) (next synced old)
-      (λ image im. subst (TreeStandsFor dir files) (sym (settled_image (next synced old) (settled_synced old) image im)) stands))
+      (λ crashed im. subst (TreeStandsFor dir files) (sym (settled_state (next synced old) (settled_synced old) crashed im)) stands))
 
   keeps_synced : (files : Files) (old : History) → TreeStandsFor dir files (tree_of old) → FromSyncOn (EachSince (TreeStandsFor dir files)) old
       (next synced old)

@@ -57,7 +57,7 @@ pub record IsMade (batch : Changes) (old new : History) : Type 0 where
 -- No trace of the change is left: the tree represents the files before it, and so does all that a crash since the start might have left.
 pub record IsNotBegun (batch : Changes) (old new : History) : Type 0 where
   pub tree : TreeStandsFor batch.dir (files_before batch old) (tree_of new)
-  pub images : EachSince (TreeStandsFor batch.dir (files_before batch old)) old new
+  pub crash_states : EachSince (TreeStandsFor batch.dir (files_before batch old)) old new
 
 -- The files of the batch are changed, all or none.
 pub record Commits {E : Type 0} (batch : Changes) (result : Result Unit E) (old new : History) : Type 0 where

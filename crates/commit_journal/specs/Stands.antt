@@ -43,4 +43,4 @@ pub record IsReady (dir : Names) (history : History) : Type 0 where
 pub record ChangesOnlyBelow (dir : Names) (old new : History) : Type 0 where
   pub touches : Touches (IsBelow dir) old new
   pub tree : (path : Names) → (IsBelow dir path → ⊥) → node_at (tree_of new) path ≡ node_at (tree_of old) path
-  pub images : (path : Names) → (IsBelow dir path → ⊥) → EachSince (λ image. MayLeave old path (node_at image path)) old new
+  pub crash_states : (path : Names) → (IsBelow dir path → ⊥) → EachSince (λ crashed. MayLeave old path (node_at crashed path)) old new

@@ -48,6 +48,8 @@ comes_err I W qs P Q (refused.Dump kind at) asked turned comes = comes
 comes_err I W qs P Q (refused.MigrationStatus name number) asked turned comes = comes
 comes_err I W qs P Q (refused.MigrationOutput name) asked turned comes = comes
 comes_err I W qs P Q (refused.NotCurrent lines) asked turned comes = comes
+comes_err I W qs P Q (refused.HoldsIllTyped lines) asked turned comes = comes
+comes_err I W qs P Q (refused.WouldNotRender lines) asked turned comes = comes
 
 module _ {A B : Type 0} (qs : List Request) (P : World → A → Type 0) (Q : World → B → Type 0) (r : Result A Refusal) (s : Result B Refusal)
     (ran_before ran_after : Option (List Run))

@@ -7,5 +7,5 @@ pub mod Calls
 pub mod Doors
 pub mod Spawners
 pub mod Picks
-pub mod Images
+pub mod CrashStates
 pub mod PieceLemmas

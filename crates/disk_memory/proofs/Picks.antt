@@ -160,7 +160,7 @@ entry_at es k path is = found (slice_get es k) (sym (slice_get-map (λ e. e.0) e
     found None none = absurd (some≢none path (sym none))
     found (Some e) here = let same : e.0 ≡ path = cc in (e.1, λ i. Some (same i, e.1))
 
--- the picks name the image
+-- the picks name the crash state
 pub picks_laid : (picks : List Pick) (touches : BTreeMap Names Touch) (nodes later : BTreeMap Names Node) → IsOrdered path_cmp touches
     → ((q : Names) → option_map node_of (get path_cmp later q) ≡ after_picks touches.entries picks (λ p. option_map node_of (get path_cmp nodes p)) q)
     → LaysPicks picks touches nodes later

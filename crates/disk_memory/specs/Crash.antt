@@ -1,4 +1,4 @@
--- Which image of a disk the picks of a crash name.
+-- Which crash state of a disk the picks of a crash name.
 use Rattle.std.specs.Prelude.{◌≡◌, ◌⊎◌, ℕ, List, Bool, true, false, Option, Some, None, unwrap_or, slice_get, if◌then◌else◌}
 use Rattle.std.specs.FinMap.{FinMap, empty, get, insert, keys}
 use Rattle.outside.specs.Names.{Names, path_cmp}
@@ -37,10 +37,10 @@ left_of Gone before torn now = if torn then None else before
 left_of (Torn bytes) before torn now = if torn then Some (file bytes) else before
 
 -- Each unsettled path has what its pick leaves, in the order of paths, New where picks are missing; each other path is as it was.
-pub record IsPicked (history : History) (picks : List Pick) (image : Tree) : Type 0 where
-  pub unsettled : (k : ℕ) (path : Names) → slice_get (unsettled history) k ≡ Some path → node_at image path ≡ left_of (unwrap_or (slice_get picks k) New)
+pub record IsPicked (history : History) (picks : List Pick) (crashed : Tree) : Type 0 where
+  pub unsettled : (k : ℕ) (path : Names) → slice_get (unsettled history) k ≡ Some path → node_at crashed path ≡ left_of (unwrap_or (slice_get picks k) New)
       (node_at (synced_tree history) path) (is_torn history path) (node_at (tree_of history) path)
-  pub settled : (path : Names) → get (touched history) path ≡ None → node_at image path ≡ node_at (tree_of history) path
+  pub settled : (path : Names) → get (touched history) path ≡ None → node_at crashed path ≡ node_at (tree_of history) path
 
 -- The tree stays, and from now on a crash may tear the path; or nothing has changed.
 pub record MayTear (path : Names) (old new : History) : Type 0 where

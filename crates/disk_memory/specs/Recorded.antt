@@ -60,6 +60,6 @@ pub record LaysPick (path : Names) (touch : Touch) (pick : Pick) (nodes later : 
   pub at : (q : Names) → option_map node_of (get path_cmp later q) ≡ (if eq_by_cmp path_cmp path q then left_of pick (option_map node_of touch.before)
       touch.in_place (option_map node_of (get path_cmp nodes path)) else option_map node_of (get path_cmp nodes q))
 
--- Nodes that were those of the tree are those of the image that the picks name.
+-- Nodes that were those of the tree are those of the crash state that the picks name.
 pub record LaysPicks (picks : List Pick) (touches : BTreeMap Names Touch) (nodes later : BTreeMap Names Node) : Type 0 where
   pub picked : (history : History) → IsKept history nodes touches → IsPicked history picks (tree_in later)

@@ -3,7 +3,7 @@ ghost use Rattle.std.specs.Prelude.{◌≡◌, Some, IfOk};
 ghost use Rattle.std.specs.Option.{option_map};
 ghost use Rattle.std.specs.FinMap.{empty};
 ghost use Rattle.outside.specs.Tree.{node_at};
-ghost use Rattle.outside.specs.History.{begun, tree_of, IsImage};
+ghost use Rattle.outside.specs.History.{begun, tree_of, IsCrashState};
 ghost use Rattle.disk_memory.specs.Nodes.{node_of, tree_in, tree_of_last};
 ghost use Rattle.disk_memory.specs.Crash.{IsPicked};
 
@@ -94,14 +94,14 @@ impl MemoryDisk {
     /// sync, in the order of paths. Where picks are missing the present node is left. No call of it fails.
     ///
     /// Its only error is out of memory. It goes through all changes since the disk began, each in logarithmic time.
-    #[tactic(auto, using(crate::proofs::Images::picked_image))]
+    #[tactic(auto, using(crate::proofs::CrashStates::picked_state))]
     pub fn crash(&self, picks: &[Pick]) -> Result<MemoryDisk, AllocError>
         ensures settled { IfOk result (λ disk. history_of disk ≡ begun (tree_of (history_of disk))) }
         ensures picked { IfOk result (λ disk. IsPicked (history_of self.now) picks.now (tree_of (history_of disk))) }
-        ensures image { IfOk result (λ disk. IsImage (history_of self.now) (tree_of (history_of disk))) }
+        ensures crash_state { IfOk result (λ disk. IsCrashState (history_of self.now) (tree_of (history_of disk))) }
         ensures plan { IfOk result (λ disk. IsFresh (plan_of disk)) }
     {
-        let image = self.record.image(picks)?;
-        MemoryDisk::over(self.record.allocator(), image)
+        let crashed = self.record.crash_state(picks)?;
+        MemoryDisk::over(self.record.allocator(), crashed)
     }
 }

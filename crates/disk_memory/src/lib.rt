@@ -1,4 +1,4 @@
-//! Devices in memory, for tests: they keep what they went through, fail at the calls that are set to fail, and crash.
+//! Devices in memory, for a copy of a store that is read, and for tests: they keep what they went through, fail at the calls set to fail, and crash.
 #![tactic(auto)]
 
 mod change;

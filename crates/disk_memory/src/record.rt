@@ -135,8 +135,8 @@ impl Record {
     }
 
     /// What a crash leaves, by the picks for the paths that were touched since the last sync, in the order of paths.
-    pub fn image(&self, picks: &[Pick]) -> Result<BTreeMap<Path, Node>, AllocError>
-        ensures { IfOk result (λ image. IsPicked (told_by self.now) picks.now (tree_in image)) }
+    pub fn crash_state(&self, picks: &[Pick]) -> Result<BTreeMap<Path, Node>, AllocError>
+        ensures { IfOk result (λ nodes. IsPicked (told_by self.now) picks.now (tree_in nodes)) }
     {
         let alloc = self.allocator();
         let mut nodes = copy_of_nodes(alloc, &self.began)?;

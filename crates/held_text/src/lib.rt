@@ -13,5 +13,5 @@ mod writing;
 pub use dump::{Dump, dump_text, read_dump};
 pub use dump_error::DumpError;
 pub use held_error::HeldError;
-pub use text::{HeldText, write_held};
+pub use text::HeldText;
 pub use writing::{write_keys, write_owed};

@@ -59,7 +59,7 @@ fn write_last(writer: &mut Writer, held: &Held) -> Result<(), AllocError>
 
 /// Writes the held text. The only error is out of memory, after which a part of it may have been written. It takes a logarithmic
 /// step for each entry.
-pub fn write_held(writer: &mut Writer, alloc: Global, held: &Held) -> Result<(), AllocError>
+pub(crate) fn write_held(writer: &mut Writer, alloc: Global, held: &Held) -> Result<(), AllocError>
     ensures wrote { OnOk result (Wrote (held_data held.now) writer.old writer.new) }
     ensures valid { OnOk result (IsUtf8 (held_text held.now) → IsHeld held.now) }
 {

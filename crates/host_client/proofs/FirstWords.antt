@@ -86,7 +86,8 @@ set_none rest none other said = false≢true (first_is (codes "set") rest other 
 
 pub unset_none : (rest : List (List ℕ)) → ((body : List ℕ) → Says Removals rest body → ⊥) → SpellsNone (codes "unset" ∷ rest)
 unset_none rest none (order.set body) (changes more e says) = false≢true (head_is (codes "unset") (codes "set") rest more e)
-unset_none rest none (order.set body) (removals keys e says) = none body (subst (λ (ws : List (List ℕ)). Says Removals ws body) (sym (rest_is _ _ rest keys e)) says)
+unset_none rest none (order.set body) (removals keys e says) = none body
+    (subst (λ (ws : List (List ℕ)). Says Removals ws body) (sym (rest_is _ _ rest keys e)) says)
 unset_none rest none other said = false≢true (first_is (codes "unset") rest other said)
 
 pub edit_none : (tx : List ℕ) (rest : List (List ℕ)) → ((body : List ℕ) → SaysChanges rest body → ⊥) → SpellsNone (codes "edit" ∷ tx ∷ rest)
@@ -110,19 +111,23 @@ module _ {E : Type 0} (r : Result (Option (List ℕ)) E) where
   -- after `--text` the pairs say texts
   pub texts_said : (word : List ℕ) (pairs words : List (List ℕ)) → words ≡ word ∷ pairs → word ≡ codes "--text"
       → IfOk r (λ o. MatchOption o ((body : List ℕ) → Says Texts pairs body → ⊥) (Says Texts pairs))
-      → IfOk r (λ o. MatchOption o ((others : List (List ℕ)) (body : List ℕ) → words ≡ codes "--text" ∷ others → Says Texts others body → ⊥) (SaysChanges words))
+      → IfOk r (λ o. MatchOption o ((others : List (List ℕ)) (body : List ℕ) → words ≡ codes "--text" ∷ others → Says Texts others body → ⊥)
+      (SaysChanges words))
   texts_said word pairs words is first said = by r said
     where
       by : (r : Result (Option (List ℕ)) E) → IfOk r (λ o. MatchOption o ((body : List ℕ) → Says Texts pairs body → ⊥) (Says Texts pairs))
-          → IfOk r (λ o. MatchOption o ((others : List (List ℕ)) (body : List ℕ) → words ≡ codes "--text" ∷ others → Says Texts others body → ⊥) (SaysChanges words))
+          → IfOk r (λ o. MatchOption o ((others : List (List ℕ)) (body : List ℕ) → words ≡ codes "--text" ∷ others → Says Texts others body → ⊥)
+          (SaysChanges words))
       by (Err e) said = tt
-      by (Ok None) said = λ others body same says. said body (subst (λ (ws : List (List ℕ)). Says Texts ws body) (rest_is _ _ others pairs (sym same ∙ is)) says)
+      by (Ok None) said = λ others body same says. said body
+          (subst (λ (ws : List (List ℕ)). Says Texts ws body) (rest_is _ _ others pairs (sym same ∙ is)) says)
       by (Ok (Some body)) said = as_text pairs (is ∙ ap (λ (w : List ℕ). w ∷ pairs) first) said
 
 module _ {E : Type 0} (r : Result (Option (List ℕ)) E) where
   -- words that say no values say changes as texts, or none
   pub changes_said : (words : List (List ℕ)) → ((body : List ℕ) → Says Values words body → ⊥)
-      → IfOk r (λ o. MatchOption o ((others : List (List ℕ)) (body : List ℕ) → words ≡ codes "--text" ∷ others → Says Texts others body → ⊥) (SaysChanges words))
+      → IfOk r (λ o. MatchOption o ((others : List (List ℕ)) (body : List ℕ) → words ≡ codes "--text" ∷ others → Says Texts others body → ⊥)
+      (SaysChanges words))
       → IfOk r (λ o. MatchOption o ((body : List ℕ) → SaysChanges words body → ⊥) (SaysChanges words))
   changes_said words none said = by r said
     where
@@ -132,7 +137,8 @@ module _ {E : Type 0} (r : Result (Option (List ℕ)) E) where
       neither body texts (as_text pairs is says) = texts pairs body is says
 
       by : (r : Result (Option (List ℕ)) E)
-          → IfOk r (λ o. MatchOption o ((others : List (List ℕ)) (body : List ℕ) → words ≡ codes "--text" ∷ others → Says Texts others body → ⊥) (SaysChanges words))
+          → IfOk r (λ o. MatchOption o ((others : List (List ℕ)) (body : List ℕ) → words ≡ codes "--text" ∷ others → Says Texts others body → ⊥)
+          (SaysChanges words))
           → IfOk r (λ o. MatchOption o ((body : List ℕ) → SaysChanges words body → ⊥) (SaysChanges words))
       by (Err e) said = tt
       by (Ok None) said = λ body says. neither body said says

@@ -12,7 +12,8 @@ is_zero b = b == 0
 one_part : (text : List ℕ) → length text ≤ position_or_len is_zero text → parts text ≡ text ∷ []
 one_part [] h = refl
 one_part (x ∷ xs) h =
-    elim (x == 0) as (λ b. length (x ∷ xs) ≤ cond (not b) (1 + position_or_len is_zero xs) 0 → cond b ([] ∷ parts xs) (onto_first x (parts xs)) ≡ (x ∷ xs) ∷ []) [
+    elim (x == 0) as (λ b. length (x ∷ xs) ≤ cond (not b) (1 + position_or_len is_zero xs) 0
+    → cond b ([] ∷ parts xs) (onto_first x (parts xs)) ≡ (x ∷ xs) ∷ []) [
       | true ↦ λ k. absurd (omega arith)
       | false ↦ λ k. ap (onto_first x) (one_part xs (omega arith))
     ] h

@@ -6,7 +6,7 @@ use Rattle.outside.specs.Names.{Names}
 use Rattle.outside.specs.Tree.{Node, Tree, node_at, file_in}
 use Rattle.outside.specs.History.{History, tree_of, MayLeave, IsSettled}
 use Rattle.outside.specs.Since.{EachSince, IsAtOrSync, Touches}
-use Rattle.outside.proofs.Crash.{settled_image, may_leave_now}
+use Rattle.outside.proofs.Crash.{settled_state, may_leave_now}
 use Rattle.outside.proofs.Goes.{may_leave_untouched, since_goes}
 use Rattle.outside.proofs.Since.{since_both, since_map, since_now}
 use Rattle.commit_journal.specs.Entries.{Changes}
@@ -49,7 +49,7 @@ pub record ChangeMade (I : Image) (folder : Folder) (W V : World) (e : Event) (p
   pub moments : EachSince (OnTheWay I W V (e ∷ [])) old new
   pub touches : TouchesOwn I (e ∷ []) old new
 
--- The change failed: the disk is at the world after the event, and an image may have the store from before.
+-- The change failed: the disk is at the world after the event, and a crash state may have the store from before.
 pub record ChangeFailed (I : Image) (folder : Folder) (W V : World) (e : Event) (old new : History) : Type 0 where
   pub disk : DiskAt I folder (next I W e) W new
   pub moments : EachSince (OnTheWay I W V (e ∷ [])) old new
@@ -66,7 +66,7 @@ module _ (I : Image) (folder : Folder) (W V : World) (old new : History) (disk :
   apart : IsApart batch.dir
   apart = subst IsApart (sym dir_is) (dir_apart (tree_of old) place.version place.directory ready.resolves)
 
-  -- Elsewhere an image has what one at the start may have.
+  -- Elsewhere a crash state has what one at the start may have.
   abbrev IsOldElsewhere : Tree → Type 0
   IsOldElsewhere c = (path : Names) → (IsBelow batch.dir path → ⊥) → MayLeave old path (node_at c path)
 
@@ -102,7 +102,7 @@ module _ (I : Image) (folder : Folder) (W V : World) (old new : History) (disk :
           (subst (Stands (files_after batch old) held) (sym (step.format ∙ core.format)) after_stands);
     })
 
-    -- The configuration files of such an image are those of W, but for some that are due in N.
+    -- The configuration files of such a crash state are those of W, but for some that are due in N.
     old_etc : (c : Tree) → IsOldElsewhere c → (path : Names) → is_etc path ≡ true → (bytes_at c path ≡ get W.etc path)
         ⊎ (IsDuePath I W.held path × IsDuePath I V.held path)
     old_etc c elsewhere path e = disk.unsettled path (node_at c path) e (elsewhere path (apart.etc path e))
@@ -121,7 +121,7 @@ module _ (I : Image) (folder : Folder) (W V : World) (old new : History) (disk :
           (step.clear path (node_at c path) e (elsewhere path (apart.etc path e)));
     }
 
-    -- Each image is that of the world before the event or after it.
+    -- Each crash state is that of the world before the event or after it.
     on_the_way : (e : Event) → next I W e ≡ N → (c : Tree) → StandsForEither batch old c × IsOldElsewhere c → OnTheWay I W V (e ∷ []) c
     on_the_way e is c (inl stands, elsewhere) = inr (record { first = []; rest = e ∷ []; whole = refl; recovers = recovers_before c elsewhere stands })
     on_the_way e is c (inr stands, elsewhere) = inr (record {
@@ -169,7 +169,7 @@ module _ (I : Image) (folder : Folder) (W V : World) (old new : History) (disk :
       store = store_now;
       etc = record { each = λ path is. now_etc others path is ∙ sym (ap (λ (m : Files). get m path) step.etc) };
       image = now_image others;
-      images = λ c left. inl (subst (HasStore (next I W e)) (sym (settled_image new is_made.settled c left)) store_now);
+      crash_states = λ c left. inl (subst (HasStore (next I W e)) (sym (settled_state new is_made.settled c left)) store_now);
       same_etc = refl;
       unsettled = λ path node is left. inl (ap file_in (is_made.settled path node left) ∙ now_etc others path is
           ∙ sym (ap (λ (m : Files). get m path) step.etc));
@@ -188,7 +188,7 @@ module _ (I : Image) (folder : Folder) (W V : World) (old new : History) (disk :
     store_now : HasStore (next I W e) (tree_of new)
     store_now = held_after (next I W e) step (tree_of new) (now_elsewhere others) (inl (is_made.ready.no_journal, sym is_made.files))
 
-  -- A call of the disk failed after the change was there: an image has it or has it not.
+  -- A call of the disk failed after the change was there: a crash state has it or has it not.
   pub taken : (e : Event) → IsStoreStep I W (next I W e) held old → TreeStandsFor batch.dir (files_after batch old) (tree_of new)
       → EachSince (StandsForEither batch old) old new
       → ChangesOnlyBelow batch.dir old new → ChangeFailed I folder W V e old new
@@ -197,7 +197,7 @@ module _ (I : Image) (folder : Folder) (W V : World) (old new : History) (disk :
       store = held_after (next I W e) step (tree_of new) (now_elsewhere others) there;
       etc = record { each = λ path is. now_etc others path is ∙ sym (ap (λ (m : Files). get m path) step.etc) };
       image = now_image others;
-      images = λ c left. images c (since_now (λ c. StandsForEither batch old c × IsOldElsewhere c) old new (since_either either others) c left);
+      crash_states = λ c left. crash_states c (since_now (λ c. StandsForEither batch old c × IsOldElsewhere c) old new (since_either either others) c left);
       same_etc = sym step.etc;
       unsettled = λ path node is left. ⊎_elim
           (λ same. inl (same ∙ sym (ap (λ (m : Files). get m path) step.etc)))
@@ -208,9 +208,9 @@ module _ (I : Image) (folder : Folder) (W V : World) (old new : History) (disk :
         (since_either either others);
     touches = own e others;
   } where
-    images : (c : Tree) → StandsForEither batch old c × IsOldElsewhere c → HasStore (next I W e) c ⊎ HasStore W c
-    images c (inl stands, elsewhere) = inr (held_before c elsewhere stands)
-    images c (inr stands, elsewhere) = inl (held_after (next I W e) step c elsewhere stands)
+    crash_states : (c : Tree) → StandsForEither batch old c × IsOldElsewhere c → HasStore (next I W e) c ⊎ HasStore W c
+    crash_states c (inl stands, elsewhere) = inr (held_before c elsewhere stands)
+    crash_states c (inr stands, elsewhere) = inl (held_after (next I W e) step c elsewhere stands)
 
   as_before : (N : World) (c : Tree) → N.version ≡ W.version → N.format ≡ W.format → N.held ≡ W.held → HasStore W c → HasStore N c
   as_before N c version format held' has = record {
@@ -223,7 +223,7 @@ module _ (I : Image) (folder : Folder) (W V : World) (old new : History) (disk :
     };
   }
 
-  -- A call of the disk failed before the change was begun: the store is as before, in each image.
+  -- A call of the disk failed before the change was begun: the store is as before, in each crash state.
   pub not_taken : (e : Event) → IsStoreStep I W (next I W e) W.held old → IsNotBegun batch old new → ChangesOnlyBelow batch.dir old new
       → ChangeFailed I folder W V e old new
   not_taken e step not_begun others = record {
@@ -231,7 +231,7 @@ module _ (I : Image) (folder : Folder) (W V : World) (old new : History) (disk :
       store = as_before (next I W e) (tree_of new) step.version step.format step.held_is (held_before (tree_of new) (now_elsewhere others) not_begun.tree);
       etc = record { each = λ path is. now_etc others path is ∙ sym (ap (λ (m : Files). get m path) step.etc) };
       image = now_image others;
-      images = λ c left. let both = since_now (λ c. TreeStandsFor batch.dir (files_before batch old) c × IsOldElsewhere c) old new all c left in inr
+      crash_states = λ c left. let both = since_now (λ c. TreeStandsFor batch.dir (files_before batch old) c × IsOldElsewhere c) old new all c left in inr
           (held_before c both.1 both.0);
       same_etc = sym step.etc;
       unsettled = λ path node is left. ⊎_elim
@@ -244,7 +244,7 @@ module _ (I : Image) (folder : Folder) (W V : World) (old new : History) (disk :
     touches = own e others;
   } where
     all : EachSince (λ c. TreeStandsFor batch.dir (files_before batch old) c × IsOldElsewhere c) old new
-    all = since_both (TreeStandsFor batch.dir (files_before batch old)) IsOldElsewhere old new not_begun.images (since_elsewhere others)
+    all = since_both (TreeStandsFor batch.dir (files_before batch old)) IsOldElsewhere old new not_begun.crash_states (since_elsewhere others)
 
     before_recovers : (c : Tree) → IsOldElsewhere c → TreeStandsFor batch.dir (files_before batch old) c → Recovers I W c
     before_recovers c elsewhere stands = record {

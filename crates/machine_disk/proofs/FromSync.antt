@@ -4,7 +4,7 @@ use Rattle.outside.specs.Names.{Names}
 use Rattle.outside.specs.Tree.{Tree, node_at}
 use Rattle.outside.specs.History.{synced, History, next as then, tree_of}
 use Rattle.outside.specs.Since.{EachSince, IsAtOrSync, Touches}
-use Rattle.outside.proofs.Crash.{settled_image, settled_synced}
+use Rattle.outside.proofs.Crash.{settled_state, settled_synced}
 use Rattle.outside.proofs.Goes.{may_leave_untouched, since_goes}
 use Rattle.outside.proofs.Since.{since_start, since_joined, since_map, since_both}
 use Rattle.commit_journal.specs.Files.{IsBelow}
@@ -28,7 +28,7 @@ module _ (I : Image) (folder : Folder) (W V : World) (events : List Event) (old 
   first_sync : EachSince (OnTheWay I W V events) old (then synced old)
   first_sync = (
     inr at_first,
-    λ c left. subst (OnTheWay I W V events) (sym (settled_image (then synced old) (settled_synced old) c left))
+    λ c left. subst (OnTheWay I W V events) (sym (settled_state (then synced old) (settled_synced old) c left))
         (inr (at_start I W events (tree_of old) (record { store = disk.store; etc = λ path e. inl (disk.etc.each path e) }))),
   )
 
@@ -38,7 +38,7 @@ module _ (I : Image) (folder : Folder) (W V : World) (events : List Event) (old 
       (since_goes (IsThereElsewhere directory old) (IsAtOrSync (IsBelow directory)) (then synced old) new
       (λ h goes c left path not_below. may_leave_untouched (IsBelow directory) (then synced old) h goes path not_below (node_at c path) (left path)) touches))
 
-  -- Each image is on the way: before the sync it was at the start, and from it on it has P.
+  -- Each crash state is on the way: before the sync it was at the start, and from it on it has P.
   pub from_sync : FromSyncOn (Touches (IsBelow directory)) old new → FromSyncOn (EachSince P) old new → EachSince (OnTheWay I W V events) old new
   from_sync (inl same) since = subst (EachSince (OnTheWay I W V events) old) (sym same) at_first
   from_sync (inr touches) (inl same) = subst (EachSince (OnTheWay I W V events) old) (sym same) at_first

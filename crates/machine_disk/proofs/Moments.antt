@@ -3,7 +3,7 @@ use Rattle.std.proofs.Common.{◌≡◌, ◌⊎◌, inl, inr, ⊎_elim, Bool, tr
 use Rattle.std.proofs.Common.{append_assoc}
 use Rattle.std.proofs.lemmas.List.{append-nil, append_cancel_left}
 use Rattle.outside.specs.Tree.{Tree}
-use Rattle.outside.specs.History.{History, tree_of, EachImage}
+use Rattle.outside.specs.History.{History, tree_of, EachCrashState}
 use Rattle.outside.specs.Since.{EachSince}
 use Rattle.outside.proofs.Since.{since_start, since_joined, since_map}
 use Rattle.settings_machine.specs.World.{Image, World}
@@ -56,7 +56,7 @@ module _ (I : Image) where
         → Moment I W V [] events old new
     at_first store etc events since = record {
       then_is = old;
-      reached = since_start (λ image. Unit {0}) old (λ image left. tt);
+      reached = since_start (λ crashed. Unit {0}) old (λ crashed left. tt);
       store = store;
       etc = etc;
       keeps = since_map (OnTheWay I W V events) (KeepsFirst I W V [] events) old new (λ c way. ⊎_elim
@@ -67,11 +67,11 @@ module _ (I : Image) where
 
     -- At the end all are.
     at_last : (events : List Event) (other : World) → HasStore (after I W events) (tree_of new) → HasFiles (after I W events).etc (tree_of new)
-        → EachImage (λ c. Recovers I (after I W events) c ⊎ Recovers I other c) new → IsLate I W V events other
+        → EachCrashState (λ c. Recovers I (after I W events) c ⊎ Recovers I other c) new → IsLate I W V events other
         → EachSince (OnTheWay I W V events) old new → Moment I W V events events old new
     at_last events other store etc now late since = record {
       then_is = new;
-      reached = since_map (OnTheWay I W V events) (λ image. Unit {0}) old new (λ c way. tt) since;
+      reached = since_map (OnTheWay I W V events) (λ crashed. Unit {0}) old new (λ c way. tt) since;
       store = store;
       etc = etc;
       keeps = since_start (KeepsFirst I W V events events) new (λ c left. ⊎_elim (λ r. inr (whole c r)) (λ r. by late c r) (now c left));
@@ -99,7 +99,7 @@ module _ (I : Image) where
   -- and so has one.
   pub one_moments : (W V : World) (old new : History) (e : Event) (other : World) → HasStore W (tree_of old) → HasFiles W.etc (tree_of old)
       → HasStore (after I W (e ∷ [])) (tree_of new) → HasFiles (after I W (e ∷ [])).etc (tree_of new)
-      → EachImage (λ c. Recovers I (after I W (e ∷ [])) c ⊎ Recovers I other c) new → IsLate I W V (e ∷ []) other
+      → EachCrashState (λ c. Recovers I (after I W (e ∷ [])) c ⊎ Recovers I other c) new → IsLate I W V (e ∷ []) other
       → EachSince (OnTheWay I W V (e ∷ [])) old new → HasMoments I W V (e ∷ []) old new
   one_moments W V old new e other store etc store_after etc_after now late since [] rest is = at_first W V old new store etc (e ∷ []) since
   one_moments W V old new e other store etc store_after etc_after now late since (g ∷ []) rest is =
@@ -212,7 +212,7 @@ module _ (I : Image) where
           let led : after I X later ≡ after I W (es ++ later) = sym (after-append I W es later) in
           subst (λ (l : List Event). Moment I W V l (es ++ fs) old new) (sym here) (record {
             then_is = m.then_is;
-            reached = since_joined (λ image. Unit {0}) old mid m.then_is (since_map (OnTheWay I W V es) (λ image. Unit {0}) old mid (λ c w. tt) since)
+            reached = since_joined (λ crashed. Unit {0}) old mid m.then_is (since_map (OnTheWay I W V es) (λ crashed. Unit {0}) old mid (λ c w. tt) since)
                 m.reached;
             store = subst (λ (Z : World). HasStore Z (tree_of m.then_is)) led m.store;
             etc = subst (λ (Z : World). HasFiles Z.etc (tree_of m.then_is)) led m.etc;

@@ -5,7 +5,7 @@ use Rattle.outside.specs.Names.{Names}
 use Rattle.outside.specs.Tree.{Node, Tree, node_at, file_in}
 use Rattle.outside.specs.History.{synced, History, next as then, tree_of, MayLeave, IsSettled}
 use Rattle.outside.specs.Since.{EachSince, Touches}
-use Rattle.outside.proofs.Crash.{settled_image}
+use Rattle.outside.proofs.Crash.{settled_state}
 use Rattle.outside.proofs.Goes.{may_leave_untouched}
 use Rattle.outside.proofs.Since.{since_start, since_now}
 use Rattle.commit_journal.specs.Files.{files_below, IsBelow}
@@ -113,23 +113,23 @@ module _ (I : Image) (good : IsGood I) (folder : Folder) (W V : World) (boot : B
       (subst (EachSince (OnTheWay I W V (Opened boot (Failing false) ∷ [])) old) (sym same)
       (since_start (OnTheWay I W V (Opened boot (Failing false) ∷ [])) old (way_now I folder W V (Opened boot (Failing false) ∷ []) old disk)))
 
-  -- The tree has the store of W, and so has each image from the first sync on.
+  -- The tree has the store of W, and so has each crash state from the first sync on.
   pub opens_not_taken : HasStore W (tree_of new) → FromSyncOn (EachSince (HasStore W)) old new → OpensNot I folder W V boot old new
-  opens_not_taken store images = by others images where
+  opens_not_taken store crash_states = by others crash_states where
     by : FromSyncOn (ChangesOnlyBelow place.directory) old new → FromSyncOn (EachSince (HasStore W)) old new → OpensNot I folder W V boot old new
-    by (inl same) images = not_begun same
+    by (inl same) crash_states = not_begun same
     by (inr changes) (inl same) = not_begun same
     by (inr changes) (inr since) = opens_not false W (Within [] (Opened boot (Failing false) ∷ []) refl refl refl)
         (record {
           store = store;
           etc = record { each = etc_now };
           image = image_now;
-          images = λ c left. inl (since_now (HasStore W) (then synced old) new since c left);
+          crash_states = λ c left. inl (since_now (HasStore W) (then synced old) new since c left);
           same_etc = refl;
           unsettled = λ path node e left. inl (left_of changes path node e left);
         })
         (from_sync I folder W V (Opened boot (Failing false) ∷ []) old new disk place.directory (HasStore W)
-        (before_way (Opened boot (Failing false) ∷ [])) (touches others) images)
+        (before_way (Opened boot (Failing false) ∷ [])) (touches others) crash_states)
 
   -- ---- one that was taken, of a typed world
 
@@ -168,7 +168,7 @@ module _ (I : Image) (good : IsGood I) (folder : Folder) (W V : World) (boot : B
         store = store;
         etc = record { each = etc_now };
         image = image_now;
-        images = λ c left. inl (subst (HasStore (opened I W boot)) (sym (settled_image new settled c left)) store);
+        crash_states = λ c left. inl (subst (HasStore (opened I W boot)) (sym (settled_state new settled c left)) store);
         same_etc = refl;
         unsettled = λ path node e left. inl (ap file_in (settled path node left) ∙ etc_now path e);
       }
@@ -177,7 +177,7 @@ module _ (I : Image) (good : IsGood I) (folder : Folder) (W V : World) (boot : B
       moments = from_sync I folder W V (Opened boot Succeeded ∷ []) old new disk place.directory (HasEither I W boot) (either_way (Opened boot Succeeded) refl)
           (touches others) either
 
-    -- The tree has the store of the opened world, and each image from the first sync on that of W or of the opened world.
+    -- The tree has the store of the opened world, and each crash state from the first sync on that of W or of the opened world.
     pub opens_taken : HasStore (opened I W boot) (tree_of new) → FromSyncOn (EachSince (HasEither I W boot)) old new → OpensNot I folder W V boot old new
     unfolding opened
     opens_taken store either = by others either where
@@ -193,7 +193,7 @@ module _ (I : Image) (good : IsGood I) (folder : Folder) (W V : World) (boot : B
             store = store;
             etc = record { each = etc_now };
             image = image_now;
-            images = λ c left. swapped c (since_now (HasEither I W boot) (then synced old) new since c left);
+            crash_states = λ c left. swapped c (since_now (HasEither I W boot) (then synced old) new since c left);
             same_etc = refl;
             unsettled = λ path node e left. inl (left_of changes path node e left);
           })

@@ -46,7 +46,7 @@ pub runs_touch : RunsTouchOwn
 runs_touch I folder W boot es old mid new place held core now opens ran = own_more I (Opened boot Succeeded ∷ []) es old mid new opens.touches ran.touches
 
 module _ (I : Image) (good : IsGood I) where
-  -- In the worlds of an image the files are paid that are in the world to which it recovers.
+  -- In the worlds of a crash state the files are paid that are in the world to which it recovers.
   pub leaves_paid : (W : World) (events : List Event) (c : Tree) → Recovers I (after I W events) c → StayPaid I W events → LeavesPaid I W events c
   leaves_paid W events c r paid = record {
     recovers = r;
@@ -60,7 +60,7 @@ module _ (I : Image) (good : IsGood I) where
     way c (inl r) = at_start I W events c r
     way c (inr at) = at
 
-    -- The disk is at the last world, or an image has that of an earlier one after which nothing is acknowledged.
+    -- The disk is at the last world, or a crash state has that of an earlier one after which nothing is acknowledged.
     pub whole : (other : World) → DiskAt I folder (after I W events) other new → IsLate I W W events other → EachPaid I W events
         → EachSince (OnTheWay I W W events) old new → HasMoments I W W events old new
         → (faulted_after false events ≡ false → DiskAt I folder (after I W events) (after I W events) new) → RunsTo I folder W events old new
@@ -74,7 +74,7 @@ module _ (I : Image) (good : IsGood I) where
           (λ r. record { prefix = record { first = events; rest = []; whole = sym (append-nil events); recovers = r }; unacknowledged = refl })
           (λ r. late_at I W other events c late r)
           (recovers_now I folder (after I W events) other new disk c left);
-      image_paid = since_map (OnTheWay I W W events) (AtPaidPrefix I W events) old new
+      crash_paid = since_map (OnTheWay I W W events) (AtPaidPrefix I W events) old new
           (λ c on. let at : AtPrefix I W events c = way c on in
           record { first = at.first; rest = at.rest; whole = at.whole; leaves = leaves_paid W at.first c at.recovers (paid at.first at.rest at.whole) }) since;
       settles = settles;

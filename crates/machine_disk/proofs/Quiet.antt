@@ -3,7 +3,7 @@ use Rattle.std.proofs.Common.{◌≡◌, inl, inr, ⊎_elim, true, false, [], �
 use Rattle.std.specs.FinMap.{get}
 use Rattle.outside.specs.Names.{Names}
 use Rattle.outside.specs.Tree.{Tree, node_at}
-use Rattle.outside.specs.History.{History, tree_of, EachImage}
+use Rattle.outside.specs.History.{History, tree_of, EachCrashState}
 use Rattle.outside.proofs.Since.{since_start}
 use Rattle.fs_datastore.specs.Stands.{Stands}
 use Rattle.version_links.specs.Chain.{Resolves, found}
@@ -64,7 +64,7 @@ module _ (I : Image) (folder : Folder) (W V : World) (h : History) (before : Cor
         store = alike_store W (next I W e) (tree_of h) alike kept.disk.store;
         etc = same_files;
         image = kept.disk.image;
-        images = λ c left. inl (alike_store W (next I W e) c alike
+        crash_states = λ c left. inl (alike_store W (next I W e) c alike
             (settled_store W h (let r : IsReadyAt before.place before.held h = kept.core.ready calm in r.settled) kept.disk.store c left));
         same_etc = refl;
         unsettled = λ path node is left. ⊎_elim
@@ -97,7 +97,7 @@ module _ (I : Image) (folder : Folder) (W V : World) (h : History) (before : Cor
         store = alike_store W (next I W e) (tree_of h) alike kept.disk.store;
         etc = same_files;
         image = kept.disk.image;
-        images = λ c left. ⊎_elim (λ w. inl (alike_store W (next I W e) c alike w)) (λ v. inr v) (kept.disk.images c left);
+        crash_states = λ c left. ⊎_elim (λ w. inl (alike_store W (next I W e) c alike w)) (λ v. inr v) (kept.disk.crash_states c left);
         same_etc = kept.disk.same_etc ∙ sym alike.etc;
         unsettled = λ path node is left. ⊎_elim
             (λ same. inl (same ∙ sym (ap (λ (m : Files). get m path) alike.etc)))
@@ -112,9 +112,9 @@ module _ (I : Image) (folder : Folder) (W V : World) (h : History) (before : Cor
     touches = own_none I (e ∷ []) h;
   })
 
--- Where no call of the disk has failed since an opening each image recovers to the world.
+-- Where no call of the disk has failed since an opening each crash state recovers to the world.
 pub calm_images : (I : Image) (folder : Folder) (W V : World) (h : History) (core : CoreState) → core.faulted ≡ false → Kept I folder W V h core
-    → EachImage (Recovers I W) h
+    → EachCrashState (Recovers I W) h
 calm_images I folder W V h core calm kept c left = record {
   store = settled_store W h (kept.core.ready calm).settled kept.disk.store c left;
   etc = λ path is. ⊎_elim (λ same. inl same) (λ due. inr due.0) (kept.disk.unsettled path (node_at c path) is (left path));

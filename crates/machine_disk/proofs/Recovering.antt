@@ -5,7 +5,7 @@ use Rattle.outside.specs.Names.{Names}
 use Rattle.outside.specs.Tree.{Tree, file_in}
 use Rattle.outside.specs.History.{History, tree_of, IsSettled}
 use Rattle.outside.specs.Since.{EachSince}
-use Rattle.outside.proofs.Crash.{settled_image}
+use Rattle.outside.proofs.Crash.{settled_state}
 use Rattle.commit_journal.specs.Files.{Files as JournalFiles}
 use Rattle.commit_journal.specs.Stands.{TreeStandsFor}
 use Rattle.commit_journal.specs.Recovery.{IsRecovered, Recovers}
@@ -92,7 +92,7 @@ module _ (I : Image) (folder : Folder) (W V : World) (old new : History) (disk :
       store = new_store;
       etc = record { each = new_etc };
       image = λ path e. ap file_in (recovers.others.tree path (apart.image path e)) ∙ disk.image path e;
-      images = λ c left. inl (subst (HasStore W) (sym (settled_image new recovers.settled c left)) new_store);
+      crash_states = λ c left. inl (subst (HasStore W) (sym (settled_state new recovers.settled c left)) new_store);
       same_etc = refl;
       unsettled = λ path node e left. inl (ap file_in (recovers.settled path node left) ∙ new_etc path e);
     };

@@ -3,7 +3,7 @@ use Rattle.std.proofs.Common.{◌≡◌, ◌⊎◌, inl, inr, ⊎_elim, ℕ, ◌
 use Rattle.std.proofs.Common.{append_assoc}
 use Rattle.std.specs.FinMap.{get}
 use Rattle.outside.specs.Tree.{Tree, node_at}
-use Rattle.outside.specs.History.{History, EachImage}
+use Rattle.outside.specs.History.{History, EachCrashState}
 use Rattle.outside.specs.Since.{EachSince}
 use Rattle.outside.proofs.Since.{since_start, since_joined, since_map}
 use Rattle.settings_tree.specs.declared.held.Held.{Held}
@@ -94,10 +94,10 @@ module _ (I : Image) where
   way_after W V X es fs c late (inl r) = way_of_more W V es fs c (late_recovers W V es X c late r)
   way_after W V X es fs c late (inr at) = inr (prefix_after W es fs c at)
 
-  -- ---- images now
+  -- ---- crash states now
 
-  -- Each image recovers to W or to V,
-  pub recovers_now : (folder : Folder) (W V : World) (h : History) → DiskAt I folder W V h → EachImage (λ c. Recovers I W c ⊎ Recovers I V c) h
+  -- Each crash state recovers to W or to V,
+  pub recovers_now : (folder : Folder) (W V : World) (h : History) → DiskAt I folder W V h → EachCrashState (λ c. Recovers I W c ⊎ Recovers I V c) h
   recovers_now folder W V h disk c left = ⊎_elim
       (λ is. inl (record {
         store = is;
@@ -108,10 +108,10 @@ module _ (I : Image) where
         etc = λ path below. ⊎_elim (λ same. inl (same ∙ sym (ap (λ (m : Files). get m path) disk.same_etc))) (λ due. inr due.1)
             (disk.unsettled path (node_at c path) below (left path));
       }))
-      (disk.images c left)
+      (disk.crash_states c left)
 
   -- and so is on the way.
-  pub way_now : (folder : Folder) (W V : World) (es : List Event) (h : History) → DiskAt I folder W V h → EachImage (OnTheWay I W V es) h
+  pub way_now : (folder : Folder) (W V : World) (es : List Event) (h : History) → DiskAt I folder W V h → EachCrashState (OnTheWay I W V es) h
   way_now folder W V es h disk c left = ⊎_elim (λ r. inr (at_start W es c r)) (λ r. inl r) (recovers_now folder W V h disk c left)
 
   -- Where no call of the disk has failed since the last opening that succeeded, the disk is at the world alone.
@@ -120,7 +120,7 @@ module _ (I : Image) where
     store = kept.disk.store;
     etc = kept.disk.etc;
     image = kept.disk.image;
-    images = λ c left. inl (settled_store W h (let r : IsReadyAt core.place core.held h = kept.core.ready calm in r.settled) kept.disk.store c left);
+    crash_states = λ c left. inl (settled_store W h (let r : IsReadyAt core.place core.held h = kept.core.ready calm in r.settled) kept.disk.store c left);
     same_etc = refl;
     unsettled = λ path node is left. ⊎_elim (λ same. inl same) (λ due. inr (due.0, due.0)) (kept.disk.unsettled path node is left);
   }

@@ -1,10 +1,10 @@
--- A store whose paths a crash leaves as they are is the same store in each image.
+-- A store whose paths a crash leaves as they are is the same store in each crash state.
 use Rattle.std.proofs.Common.{arith, ◌≡◌, ℕ, true, List, [], ◌∷◌, ◌++◌, refl, sym, ◌∙◌, ap, subst}
 use Rattle.std.proofs.lemmas.Bool.{and_from, lt-ltb}
 use Rattle.outside.specs.Names.{Names}
 use Rattle.outside.specs.Tree.{Tree, node_at, link_in, AgreeOn}
-use Rattle.outside.specs.History.{History, tree_of, EachImage, IsSettledOn}
-use Rattle.outside.proofs.Parts.{image_on}
+use Rattle.outside.specs.History.{History, tree_of, EachCrashState, IsSettledOn}
+use Rattle.outside.proofs.Parts.{state_on}
 use Rattle.commit_journal.specs.Files.{Files, files_below}
 use Rattle.commit_journal.specs.Stands.{StandsFor, journal}
 use Rattle.fs_datastore.specs.Stands.{Stands}
@@ -66,9 +66,9 @@ store_same W c tree agree has = record {
   files : files_below has.directory c ≡ files_below has.directory tree
   files = λ i path. at path i
 
--- Where the store's paths are settled, each image has the store of the tree.
-pub settled_store : (W : World) (h : History) → IsSettledOn is_store h → HasStore W (tree_of h) → EachImage (HasStore W) h
-settled_store W h settled has c left = store_same W c (tree_of h) (image_on is_store h settled c left) has
+-- Where the store's paths are settled, each crash state has the store of the tree.
+pub settled_store : (W : World) (h : History) → IsSettledOn is_store h → HasStore W (tree_of h) → EachCrashState (HasStore W) h
+settled_store W h settled has c left = store_same W c (tree_of h) (state_on is_store h settled c left) has
 
 -- A change elsewhere leaves the store ready.
 pub ready_elsewhere : (place : Place) (held : Held) (old new : History) → AgreeOn is_store (tree_of new) (tree_of old) → IsSettledOn is_store new

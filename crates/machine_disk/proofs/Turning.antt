@@ -8,7 +8,7 @@ use Rattle.outside.specs.Names.{Names, path_cmp, is_below}
 use Rattle.outside.specs.Tree.{Node, node_at, set_node, file_in, AgreeOn}
 use Rattle.outside.specs.Since.{EachSince}
 use Rattle.outside.specs.History.{scribbled, synced, History, next as then, tree_of, MayLeave, IsSettledOn}
-use Rattle.outside.proofs.Crash.{settled_image, settled_synced}
+use Rattle.outside.proofs.Crash.{settled_state, settled_synced}
 use Rattle.outside.proofs.Since.{since_start, since_next}
 use Rattle.outside.proofs.Trees.{node_at-set_same, node_at-set_other, path_cases, path_itself}
 use Rattle.outside.proofs.Parts.{settled_on_synced, scribbled_elsewhere, same_elsewhere}
@@ -48,7 +48,7 @@ ran_synced I folder W V h core kept = record {
       store = kept.disk.store;
       etc = kept.disk.etc;
       image = kept.disk.image;
-      images = λ c left. inl (subst (HasStore W) (sym (settled_image (then synced h) (settled_synced h) c left)) kept.disk.store);
+      crash_states = λ c left. inl (subst (HasStore W) (sym (settled_state (then synced h) (settled_synced h) c left)) kept.disk.store);
       same_etc = kept.disk.same_etc;
       unsettled = λ path node is left. inl (ap file_in left ∙ kept.disk.etc.each path is);
     };
@@ -71,7 +71,7 @@ ran_synced I folder W V h core kept = record {
   way : EachSince (OnTheWay I W V []) h (then synced h)
   way = since_next (OnTheWay I W V []) h h synced
       (since_start (OnTheWay I W V []) h (λ c left. ⊎_elim (λ r. inr (at_start I W [] c r)) (λ r. inl r) (recovers_now I folder W V h kept.disk c left)))
-      (λ c left. inr (at_start I W [] c (subst (Recovers I W) (sym (settled_image (then synced h) (settled_synced h) c left))
+      (λ c left. inr (at_start I W [] c (subst (Recovers I W) (sym (settled_state (then synced h) (settled_synced h) c left))
       (record { store = kept.disk.store; etc = λ path is. inl (kept.disk.etc.each path is) }))))
 
 -- ---- a call that failed and changed nothing, as a sync
@@ -90,7 +90,7 @@ ran_failed I folder W V h before kept e now alike fit job faulted fault unsaid s
       store = alike_store W (next I W e) (tree_of h) alike kept.disk.store;
       etc = record { each = λ path is. kept.disk.etc.each path is ∙ sym (ap (λ (m : Files). get m path) alike.etc) };
       image = kept.disk.image;
-      images = λ c left. ⊎_elim (λ w. inl (alike_store W (next I W e) c alike w)) (λ v. inr v) (kept.disk.images c left);
+      crash_states = λ c left. ⊎_elim (λ w. inl (alike_store W (next I W e) c alike w)) (λ v. inr v) (kept.disk.crash_states c left);
       same_etc = kept.disk.same_etc ∙ sym alike.etc;
       unsettled = λ path node is left. ⊎_elim
           (λ same. inl (same ∙ sym (ap (λ (m : Files). get m path) alike.etc)))
@@ -203,7 +203,7 @@ module _ (I : Image) (folder : Folder) (W V : World) (old : History) (before : C
         etc = record { each = λ q is. ⊎_elim (λ same. here q same) (λ other. there q other is) (path_cases q path) };
         image = λ q is. ap file_in (node_at-set_other (tree_of old) path node q (apart (codes "image") (codes "etc") path q is below (λ same. cc)))
             ∙ kept.disk.image q is;
-        images = λ c left. inl (settled_store (next I W e) wrote settled new_store c left);
+        crash_states = λ c left. inl (settled_store (next I W e) wrote settled new_store c left);
         same_etc = refl;
         unsettled = next_due;
       };

@@ -3,7 +3,7 @@ use Rattle.std.specs.Prelude.{◌≡◌, ◌⊎◌, ℕ, List, Bool, true, false
 use Rattle.std.specs.FinMap.{get}
 use Rattle.outside.specs.Names.{Names}
 use Rattle.outside.specs.Tree.{Node, file_in}
-use Rattle.outside.specs.History.{History, tree_of, MayLeave, EachImage}
+use Rattle.outside.specs.History.{History, tree_of, MayLeave, EachCrashState}
 use Rattle.settings_tree.specs.declared.held.Held.{Held}
 use Rattle.settings_machine.specs.World.{Image, World, Job, is_running, is_etc}
 use Rattle.settings_machine.specs.Paid.{IsDuePath, IsFit}
@@ -14,13 +14,13 @@ use Rattle.machine_disk.specs.Store.{is_image, bytes_at, HasFiles, HasStore, IsR
 abbrev pub Folder : Type 0
 Folder = Names → Option (List ℕ)
 
--- The disk is at W: its store and its configuration files are W's. An image has W's store or V's, and what a crash leaves at a
+-- The disk is at W: its store and its configuration files are W's. A crash state has W's store or V's, and what a crash leaves at a
 -- path of a configuration file is W's, or the path is that of one that is due in both. Where V is W the disk is at W alone.
 pub record DiskAt (I : Image) (folder : Folder) (W V : World) (h : History) : Type 0 where
   pub store : HasStore W (tree_of h)
   pub etc : HasFiles W.etc (tree_of h)
   pub image : (path : Names) → is_image path ≡ true → bytes_at (tree_of h) path ≡ folder path
-  pub images : EachImage (λ c. HasStore W c ⊎ HasStore V c) h
+  pub crash_states : EachCrashState (λ c. HasStore W c ⊎ HasStore V c) h
   pub same_etc : V.etc ≡ W.etc
   pub unsettled : (path : Names) (node : Option Node) → is_etc path ≡ true → MayLeave h path node
       → (file_in node ≡ get W.etc path) ⊎ (IsDuePath I W.held path × IsDuePath I V.held path)
@@ -39,7 +39,7 @@ pub record CoreAt (W : World) (h : History) (state : CoreState) : Type 0 where
   pub ready : state.faulted ≡ false → IsReadyAt state.place state.held h
   pub still : state.faulted ≡ true → is_running state.job ≡ false
 
--- The disk and the core are at W, which is fit and of format 2. So an image may have V's store only while a failed call of
+-- The disk and the core are at W, which is fit and of format 2. So a crash state may have V's store only while a failed call of
 -- the disk has had no opening after it.
 pub record Kept (I : Image) (folder : Folder) (W V : World) (h : History) (state : CoreState) : Type 0 where
   pub fit : IsFit I W

@@ -1,7 +1,7 @@
 -- The laws of a run on a disk.
 use Rattle.std.specs.Prelude.{◌≡◌, Bool, true, false, List, ◌∷◌, ◌++◌}
 use Rattle.outside.specs.Tree.{Tree}
-use Rattle.outside.specs.History.{History, EachImage}
+use Rattle.outside.specs.History.{History, EachCrashState}
 use Rattle.version_links.specs.declared.chain.Place.{Place}
 use Rattle.settings_tree.specs.declared.held.Held.{Held}
 use Rattle.settings_machine.specs.World.{Image, World, is_running}
@@ -20,7 +20,7 @@ CallsFollow = (I : Image) (folder : Folder) (W V : World) (first rest : List Eve
     → Ran I folder W V (first ++ rest) old new before now
 
 -- An opening that meets no running job, and what calls made of it afterwards, is a run: the tree has the last world; on the way each
--- covered file stays paid that was paid, and after a boot each is; a crash at any moment leaves an image that recovers to a world on
+-- covered file stays paid that was paid, and after a boot each is; a crash at any moment leaves a tree that recovers to a world on
 -- the way; a crash at the end leaves one after which nothing is acknowledged; and where no call of the disk has failed, the disk is at
 -- the last world alone.
 abbrev pub RunsAreWhole : Type 0
@@ -42,7 +42,7 @@ CalmDisksSettle = (I : Image) (folder : Folder) (W V : World) (h : History) (sta
 -- Where no call of the disk has failed since the last opening that succeeded, a crash leaves what recovers to the world.
 abbrev pub CrashesRecover : Type 0
 CrashesRecover = (I : Image) (folder : Folder) (W V : World) (h : History) (state : CoreState) → state.faulted ≡ false → Kept I folder W V h state
-    → EachImage (Recovers I W) h
+    → EachCrashState (Recovers I W) h
 
 -- Where none has, the core holds what the world holds.
 abbrev pub CoresHold : Type 0

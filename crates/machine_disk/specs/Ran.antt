@@ -1,7 +1,7 @@
 -- A call that makes these events of the machine, crash included.
 use Rattle.std.specs.Prelude.{◌≡◌, ◌⊎◌, ℕ, ◌-◌, ◌≤◌, Bool, true, false, List, [], ◌∷◌, ◌++◌, Option}
 use Rattle.outside.specs.Tree.{Tree}
-use Rattle.outside.specs.History.{History, tree_of, EachImage}
+use Rattle.outside.specs.History.{History, tree_of, EachCrashState}
 use Rattle.outside.specs.Since.{EachSince}
 use Rattle.outside.specs.Spawner.{Run}
 use Rattle.outside.specs.Told.{Moves}
@@ -17,16 +17,16 @@ use Rattle.settings_tree.specs.declared.held.Held.{Held}
 use Rattle.machine_disk.specs.Kept.{Folder, DiskAt, CoreState, Kept}
 use Rattle.machine_disk.specs.Touched.{TouchesOwn}
 
--- A crash that leaves this image recovers to the world after the first of the events.
-pub record AtPrefix (I : Image) (W : World) (events : List Event) (image : Tree) : Type 0 where
+-- A crash that leaves this tree recovers to the world after the first of the events.
+pub record AtPrefix (I : Image) (W : World) (events : List Event) (crashed : Tree) : Type 0 where
   pub first : List Event
   pub rest : List Event
   pub whole : events ≡ first ++ rest
-  pub recovers : Recovers I (after I W first) image
+  pub recovers : Recovers I (after I W first) crashed
 
 -- The same, and none of the events after it is acknowledged.
-pub record AtLatePrefix (I : Image) (W : World) (events : List Event) (image : Tree) : Type 0 where
-  pub prefix : AtPrefix I W events image
+pub record AtLatePrefix (I : Image) (W : World) (events : List Event) (crashed : Tree) : Type 0 where
+  pub prefix : AtPrefix I W events crashed
   pub unacknowledged : acknowledges_any I (after I W prefix.first) prefix.rest ≡ false
 
 -- X is V, or the world after the first of the events, and none of the events after it is acknowledged.
@@ -36,22 +36,22 @@ pub data IsLate (I : Image) (W V : World) (events : List Event) (X : World) : Ty
 
 -- A crash at a moment since the start recovers to V, or to a world on the way.
 abbrev pub OnTheWay : Image → World → World → List Event → Tree → Type 0
-OnTheWay I W V events image = Recovers I V image ⊎ AtPrefix I W events image
+OnTheWay I W V events crashed = Recovers I V crashed ⊎ AtPrefix I W events crashed
 
--- A crash that leaves this image recovers to the world after a prefix of the events, and none of the first ones that it leaves out is acknowledged.
-pub record AtPrefixPast (I : Image) (W : World) (first events : List Event) (image : Tree) : Type 0 where
-  pub prefix : AtPrefix I W events image
+-- A crash that leaves this tree recovers to the world after a prefix of the events, and none of the first ones that it leaves out is acknowledged.
+pub record AtPrefixPast (I : Image) (W : World) (first events : List Event) (crashed : Tree) : Type 0 where
+  pub prefix : AtPrefix I W events crashed
   pub none_lost : (rest : List Event) → first ≡ prefix.first ++ rest → acknowledges_any I (after I W prefix.first) rest ≡ false
 
 -- A crash recovers to such a world; or to V, and then none of the first events is acknowledged.
 abbrev pub KeepsFirst : Image → World → World → List Event → List Event → Tree → Type 0
-KeepsFirst I W V first events image = (Recovers I V image × (acknowledges_any I W first ≡ false)) ⊎ AtPrefixPast I W first events image
+KeepsFirst I W V first events crashed = (Recovers I V crashed × (acknowledges_any I W first ≡ false)) ⊎ AtPrefixPast I W first events crashed
 
 -- The moment of a run at which the first of its events were made: the tree represents the world after them, and a crash at any moment since keeps
 -- what is acknowledged of them.
 pub record Moment (I : Image) (W V : World) (first events : List Event) (old new : History) : Type 0 where
   pub then_is : History
-  pub reached : EachSince (λ image. Unit {0}) old then_is
+  pub reached : EachSince (λ crashed. Unit {0}) old then_is
   pub store : HasStore (after I W first) (tree_of then_is)
   pub etc : HasFiles (after I W first).etc (tree_of then_is)
   pub keeps : EachSince (KeepsFirst I W V first events) then_is new
@@ -128,9 +128,9 @@ pub record OpensNot (I : Image) (folder : Folder) (W V : World) (boot : Bool) (o
 -- ---- a run
 
 -- The tree's world: its store's parts, its configuration files, and an idle job.
-pub record IsWorldOf (image : Tree) (X : World) : Type 0 where
-  pub store : HasStore X image
-  pub etc : HasFiles X.etc image
+pub record IsWorldOf (crashed : Tree) (X : World) : Type 0 where
+  pub store : HasStore X crashed
+  pub etc : HasFiles X.etc crashed
   pub job : is_running X.job ≡ false
 
 -- After the events each covered file is paid that was paid in W, and after a boot each is.
@@ -141,17 +141,17 @@ StayPaid I W events = (f : List ℕ) → IsCovered I f → WasPaid I W events f 
 abbrev pub EachPaid : Image → World → List Event → Type 0
 EachPaid I W events = (first rest : List Event) → events ≡ first ++ rest → StayPaid I W first
 
--- A crash that leaves this image recovers to the world after the events; and in each world of the image the same files are paid.
-pub record LeavesPaid (I : Image) (W : World) (events : List Event) (image : Tree) : Type 0 where
-  pub recovers : Recovers I (after I W events) image
-  pub paid : (f : List ℕ) → IsCovered I f → WasPaid I W events f → (X : World) → IsWorldOf image X → IsPaid I X f
+-- A crash that leaves this tree recovers to the world after the events; and in each world of the tree the same files are paid.
+pub record LeavesPaid (I : Image) (W : World) (events : List Event) (crashed : Tree) : Type 0 where
+  pub recovers : Recovers I (after I W events) crashed
+  pub paid : (f : List ℕ) → IsCovered I f → WasPaid I W events f → (X : World) → IsWorldOf crashed X → IsPaid I X f
 
 -- So it is of the first of the events.
-pub record AtPaidPrefix (I : Image) (W : World) (events : List Event) (image : Tree) : Type 0 where
+pub record AtPaidPrefix (I : Image) (W : World) (events : List Event) (crashed : Tree) : Type 0 where
   pub first : List Event
   pub rest : List Event
   pub whole : events ≡ first ++ rest
-  pub leaves : LeavesPaid I W first image
+  pub leaves : LeavesPaid I W first crashed
 
 -- A run of these events, what a crash at any moment leaves of it, and which files are paid. Where no call of the disk has failed in it,
 -- or none since an opening that succeeded, the disk is at the last world alone.
@@ -161,8 +161,8 @@ pub record RunsTo (I : Image) (folder : Folder) (W : World) (events : List Event
   pub paid : EachPaid I W events
   pub any_moment : EachSince (AtPrefix I W events) old new
   pub keeps : HasMoments I W W events old new
-  pub at_exit : EachImage (AtLatePrefix I W events) new
-  pub image_paid : EachSince (AtPaidPrefix I W events) old new
+  pub at_exit : EachCrashState (AtLatePrefix I W events) new
+  pub crash_paid : EachSince (AtPaidPrefix I W events) old new
   pub settles : faulted_after false events ≡ false → DiskAt I folder (after I W events) (after I W events) new
 
 -- The programs that were run grew by those of the events, where they were those of the world.

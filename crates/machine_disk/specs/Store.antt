@@ -43,11 +43,11 @@ pub record HasStore (W : World) (tree : Tree) : Type 0 where
   pub resolves : Resolves tree (found W.version directory)
   pub holds : HoldsIn directory W.held W.format tree
 
--- A crash that leaves this image recovers to the world: the store has the world's parts, and the configuration files are
+-- A crash that leaves this tree recovers to the world: the store has the world's parts, and the configuration files are
 -- the world's but for some that are due.
-pub record Recovers (I : Image) (W : World) (image : Tree) : Type 0 where
-  pub store : HasStore W image
-  pub etc : (path : Names) → is_etc path ≡ true → (bytes_at image path ≡ get W.etc path) ⊎ IsDuePath I W.held path
+pub record Recovers (I : Image) (W : World) (crashed : Tree) : Type 0 where
+  pub store : HasStore W crashed
+  pub etc : (path : Names) → is_etc path ≡ true → (bytes_at crashed path ≡ get W.etc path) ⊎ IsDuePath I W.held path
 
 -- The store is ready at its place: a crash leaves its paths as they are, its links lead to the place, no journal is there,
 -- and the directory represents what is held in format 2.

@@ -74,7 +74,7 @@ module _ (start : Start) (tasks : List Task) (to : Version) (before after : Opti
   -- The links are not touched.
   pub along_unmoved : (e : MoveError) (a b : Option History) → Moves a b TouchesOthers → Moves a b (MovesAlong start tasks to before after (Err e))
   along_unmoved e a b m = moves_map (λ old new others. record {
-    any_moment = λ hand. since_map (HasStore start.place start.held start.format) (HasOldOrNew start tasks to before after) old new (λ image store. inl store)
+    any_moment = λ hand. since_map (HasStore start.place start.held start.format) (HasOldOrNew start tasks to before after) old new (λ crashed store. inl store)
         (others_kept old new others hand);
     done = tt;
     answer = tt;
@@ -83,17 +83,17 @@ module _ (start : Start) (tasks : List Task) (to : Version) (before after : Opti
   }) m
 
   module _ (made : Held) (carried : IsCarried tasks start.held before after made) (target : Target) where
-    moved : (version : target.version ≡ to) (image : Tree) → HasEither start.place start.held start.format target (owing_all made) image
-        → HasOldOrNew start tasks to before after image
-    moved version image (inl store) = inl store
-    moved version image (inr store) = inr (record { made = made; carried = carried; target = target; version_is = version; store = store })
+    moved : (version : target.version ≡ to) (crashed : Tree) → HasEither start.place start.held start.format target (owing_all made) crashed
+        → HasOldOrNew start tasks to before after crashed
+    moved version crashed (inl store) = inl store
+    moved version crashed (inr store) = inr (record { made = made; carried = carried; target = target; version_is = version; store = store })
 
     moments : {E : Type 0} (result : Result Unit E) (old mid new : History) → TouchesOthers old mid → IsSaved to (owing_all made) target old mid
         → Flips target result mid new → IsAtHand start old → EachSince (HasOldOrNew start tasks to before after) old new
     moments result old mid new others saved flips hand =
         let touches = others.touches start.place hand.led in
         since_joined (HasOldOrNew start tasks to before after) old mid new
-        (since_map (HasStore start.place start.held start.format) (HasOldOrNew start tasks to before after) old mid (λ image store. inl store)
+        (since_map (HasStore start.place start.held start.format) (HasOldOrNew start tasks to before after) old mid (λ crashed store. inl store)
         (others_kept old mid others hand))
         (since_map (HasEither start.place start.held start.format target (owing_all made)) (HasOldOrNew start tasks to before after) mid new
         (moved saved.version_is)

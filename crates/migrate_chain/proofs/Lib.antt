@@ -5,6 +5,7 @@ pub mod Carried
 pub mod Causes
 pub mod Started
 pub mod Along
+pub mod Ways
 pub mod Migrated
 pub mod Ended
 pub mod NoFloats

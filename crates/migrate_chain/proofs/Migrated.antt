@@ -1,18 +1,15 @@
 -- A store is moved to a version, as a whole.
-use Rattle.std.proofs.Common.{◌≡◌, inl, inr, ◌⊎◌, ℕ, Bool, true, false, ◌&&◌, List, [], ◌∷◌}
+use Rattle.std.proofs.Common.{◌≡◌, inl, inr, ◌⊎◌, ℕ, Bool, true, false, List, [], ◌∷◌}
 use Rattle.std.proofs.Common.{map, length, Option, Result, Ok, Err, refl, sym, ◌∙◌, ap, subst, codes, arith}
-use Rattle.std.specs.Prelude.{IsTrue, Contains, OnOk, IfErr, IsErrOf, reverse}
-use Rattle.std.specs.List.{list_all}
+use Rattle.std.specs.Prelude.{OnOk, IfErr, IsErrOf}
 use Rattle.std.proofs.lemmas.Result.{IfErr-weaker}
 use Rattle.std.proofs.lemmas.Bool.{false≢true}
-use Rattle.std.proofs.lemmas.List.{length-map, length-reverse, reverse-append}
-use Rattle.std.proofs.lemmas.List.Folds.{list_all_at, list_all-append}
 use Rattle.outside.specs.Names.{Names}
 use Rattle.outside.specs.Tree.{Tree}
-use Rattle.outside.specs.History.{History, next, synced, tree_of, IsImage}
+use Rattle.outside.specs.History.{History, next, synced, tree_of, IsCrashState}
 use Rattle.outside.specs.Since.{EachSince, IsAtOrSync, Touches}
 use Rattle.outside.specs.Told.{Moves}
-use Rattle.outside.proofs.Crash.{settled_image, settled_synced}
+use Rattle.outside.proofs.Crash.{settled_state, settled_synced}
 use Rattle.outside.proofs.Since.{since_start, since_next, since_map, since_joined}
 use Rattle.outside.proofs.Goes.{goes_stay, goes_next, goes_joined, goes_map}
 use Rattle.outside.proofs.Told.{moves_map, moves_then}
@@ -38,9 +35,7 @@ use Rattle.migrate_chain.specs.declared.move_error.MoveError.TheVariants.{NoStor
 use Rattle.migrate_chain.specs.declared.move_error.MoveError.TheVariants.{Conflict, Status, BadAnswer, Spawn, Failed, Memory}
 use Rattle.migrate_chain.specs.Errors.{of_disk, of_task, of_plan}
 use Rattle.release_file.specs.Order.{is_before}
-use Rattle.release_file.specs.Release.{leads_on}
-use Rattle.release_file.specs.Chain.{Leads, is_back, lower, upper, in_order, step_of, IsWay, HasNoPlan}
-use Rattle.release_file.proofs.Plans.{plans_once}
+use Rattle.release_file.specs.Chain.{is_back, IsWay, HasNoPlan}
 use Rattle.migrate_chain.specs.Tasks.{Task, Mapped, Refused, tasks_of}
 use Rattle.migrate_chain.specs.Store.{at_place, HasStore}
 use Rattle.migrate_chain.specs.Starting.{Starts, IsReady, IsFound}
@@ -50,98 +45,22 @@ use Rattle.migrate_chain.proofs.Stays.{standing}
 use Rattle.migrate_chain.proofs.Along.{in_store}
 use Rattle.std.proofs.lemmas.Result.{IfOk-weaker}
 
--- ---- the way
-
-pub contained : (p : Transition → Bool) (all : List Transition) (t : Transition) → IsTrue (list_all p all) → Contains all t → IsTrue (p t)
-contained p all t holds there = elim (p t) as (λ b. p t ≡ b → b ≡ true) [
-  | true ↦ λ e. refl
-  | false ↦ λ e. absurd (false≢true (sym (list_all_at p all there.0 t there.1 (ap p there.2 ∙ e)) ∙ holds))
-] refl
-
-both_true : (a b : Bool) → a ≡ true → b ≡ true → (a && b) ≡ true
-both_true true true one two = refl
-both_true true false one two = two
-both_true false b one two = one
-
-chain_known : (p : Transition → Bool) (all : List Transition) (target at : Version) (chain : List Transition) (end : Version) → IsTrue (list_all p all)
-    → Leads all target at chain end → IsTrue (list_all p chain)
-chain_known p all target at [] end holds led = refl
-chain_known p all target at (t ∷ chain) end holds led = both_true (p t) (list_all p chain) (contained p all t holds led.0.listed)
-    (chain_known p all target t.to chain end holds led.1)
-
-reversed_known : (p : Transition → Bool) (ts : List Transition) → IsTrue (list_all p ts) → IsTrue (list_all p (reverse ts))
-reversed_known p [] holds = refl
-reversed_known p (t ∷ ts) holds =
-    let parts = both_parts (p t) (list_all p ts) holds in
-    ap (list_all p) (reverse-append (t ∷ []) ts) ∙ list_all-append p (reverse ts) (t ∷ [])
-    ∙ both_true (list_all p (reverse ts)) (list_all p (t ∷ [])) (reversed_known p ts parts.1) (both_true (p t) true parts.0 refl)
-  where
-    both_parts : (a b : Bool) → (a && b) ≡ true → (a ≡ true) × (b ≡ true)
-    both_parts true b e = (refl, e)
-    both_parts false b e = absurd (false≢true e)
-
--- What is known of all steps is known of those of a way.
-pub way_known : (p : Transition → Bool) (known all : List Transition) (from to : Version) (way : List Transition) → known ≡ all → IsTrue (list_all p all)
-    → IsWay known from to way → IsTrue (list_all p way)
-way_known p known all from to way same holds is =
-    subst (λ l. IsTrue (list_all p l)) (sym is.way_is) (turned (is_back from to))
-  where
-    chained : IsTrue (list_all p is.chain)
-    chained = chain_known p known (upper (is_back from to) from to) (lower (is_back from to) from to) is.chain (upper (is_back from to) from to)
-        (ap (list_all p) same ∙ holds) is.is_chain.led
-
-    turned : (b : Bool) → IsTrue (list_all p (in_order b is.chain))
-    turned true = reversed_known p is.chain chained
-    turned false = chained
-
--- Where no step is to be made, the versions are one.
-pub no_steps : (all : List Transition) (from to : Version) (way : List Transition) → way ≡ [] → IsWay all from to way → from ≡ to
-no_steps all from to way none is = by (is_back from to) is.chain is.is_chain.led (sym is.way_is ∙ none) where
-  ends : (b : Bool) (chain : List Transition) → length chain ≡ 0 → Leads all (upper b from to) (lower b from to) chain (upper b from to) → from ≡ to
-  ends true [] empty led = sym led
-  ends false [] empty led = led
-  ends b (t ∷ chain) empty led = absurd (omega arith)
-
-  size : (b : Bool) (chain : List Transition) → in_order b chain ≡ [] → length chain ≡ 0
-  size false chain e = ap length e
-  size true chain e = sym (length-reverse chain) ∙ ap length e
-
-  by : (b : Bool) (chain : List Transition) → Leads all (upper b from to) (lower b from to) chain (upper b from to) → in_order b chain ≡ [] → from ≡ to
-  by b chain led e = ends b chain (size b chain e) led
-
--- Where the versions are one, no step is to be made.
-pub no_way_on : (all : List Transition) (from to : Version) (way : List Transition) → IsTrue (list_all leads_on all) → from ≡ to → IsWay all from to way
-    → length way ≡ 0
-no_way_on all from to way lead same is =
-    let back = is_back from to in
-    let steps = map (step_of back) way in
-    let none : IsWay all from to [] = record { chain = []; is_chain = record { led = meets back }; way_is = in_any back } in
-    let empty : [] ≡ steps = plans_once all from to [] steps lead (record { way = []; is_way = none; steps_are = refl })
-    (record { way = way; is_way = is; steps_are = refl }) in
-    sym (length-map way (step_of back)) ∙ sym (ap length empty)
-  where
-    meets : (b : Bool) → lower b from to ≡ upper b from to
-    meets true = sym same
-    meets false = same
-
-    in_any : (b : Bool) → [] ≡ in_order b []
-    in_any true = refl
-    in_any false = refl
-
 -- ---- from the start on
 
 pub since_first : (P : Tree → Type 0) (old new : History) → P (tree_of old) → FromSyncOn (EachSince P) old new → SinceStart P old new
-since_first P old new here (inl is) = subst (λ h. SinceStart P old h) (sym is) (since_start (λ image. IsImage old image ⊎ P image) old (λ image im. inl im))
+since_first P old new here (inl is) = subst (λ h. SinceStart P old h) (sym is) (since_start (λ crashed. IsCrashState old crashed ⊎ P crashed) old
+    (λ crashed im. inl im))
 since_first P old new here (inr since) =
-    since_joined (λ image. IsImage old image ⊎ P image) old (next synced old) new
-    (since_next (λ image. IsImage old image ⊎ P image) old old synced (since_start (λ image. IsImage old image ⊎ P image) old (λ image im. inl im))
-    (λ image im. inr (subst P (sym (settled_image (next synced old) (settled_synced old) image im)) here)))
-    (since_map P (λ image. IsImage old image ⊎ P image) (next synced old) new (λ image there. inr there) since)
+    since_joined (λ crashed. IsCrashState old crashed ⊎ P crashed) old (next synced old) new
+    (since_next (λ crashed. IsCrashState old crashed ⊎ P crashed) old old synced (since_start (λ crashed. IsCrashState old crashed ⊎ P crashed) old
+    (λ crashed im. inl im))
+    (λ crashed im. inr (subst P (sym (settled_state (next synced old) (settled_synced old) crashed im)) here)))
+    (since_map P (λ crashed. IsCrashState old crashed ⊎ P crashed) (next synced old) new (λ crashed there. inr there) since)
 
 -- Where each tree that has P has Q.
-since_wider : (P Q : Tree → Type 0) (old new : History) → ((image : Tree) → P image → Q image) → SinceStart P old new → SinceStart Q old new
-since_wider P Q old new wider since = since_map (λ image. IsImage old image ⊎ P image) (λ image. IsImage old image ⊎ Q image) old new
-    (λ image either. elim either [ inl im ↦ inl im | inr there ↦ inr (wider image there) ]) since
+since_wider : (P Q : Tree → Type 0) (old new : History) → ((crashed : Tree) → P crashed → Q crashed) → SinceStart P old new → SinceStart Q old new
+since_wider P Q old new wider since = since_map (λ crashed. IsCrashState old crashed ⊎ P crashed) (λ crashed. IsCrashState old crashed ⊎ Q crashed) old new
+    (λ crashed either. elim either [ inl im ↦ inl im | inr there ↦ inr (wider crashed there) ]) since
 
 pub touched_since : (Q : Names → Type 0) (old new : History) → FromSyncOn (Touches Q) old new → Touches Q old new
 touched_since Q old new (inl is) = subst (λ h. Touches Q old h) (sym is) (goes_stay (IsAtOrSync Q) old)
@@ -251,13 +170,13 @@ if_err_any (Err e) holds = holds e
 
 module _ (to : Version) (transitions : List Transition) (migrations : List Named) (before after : Option (List Mapped)) (p q : Option (List Refused)) where
   abbrev Moment : Place → Held → ℕ → Tree → Type 0
-  Moment place held format image = HasStore place held format image ⊎ HasMigrated place held to transitions migrations before after image
+  Moment place held format crashed = HasStore place held format crashed ⊎ HasMigrated place held to transitions migrations before after crashed
 
   -- The store is not found.
   pub not_found : (e : MoveError) (a b : Option History) → after ≡ before → q ≡ p → (IsRefusal e → ⊥) → Moves a b (Starts (Err e))
       → Moves a b (Migrates to transitions migrations before after p q (Err e))
   not_found e a b mapped noted quiet m = moves_map (λ old new starts. record {
-    any_moment = λ place held format store. since_wider (HasStore place held format) (Moment place held format) old new (λ image s. inl s)
+    any_moment = λ place held format store. since_wider (HasStore place held format) (Moment place held format) old new (λ crashed s. inl s)
         (since_first (HasStore place held format) old new store (starts.keeps place held format store));
     done = tt;
     answer = tt;
@@ -289,7 +208,7 @@ module _ (to : Version) (transitions : List Transition) (migrations : List Named
       → Moves a b (Migrates to transitions migrations before after p q (Err (of_plan e)))
   unfolding is_other
   no_way start e a b mapped noted m missing = moves_map (λ old new starts. record {
-    any_moment = λ place held format store. since_wider (HasStore place held format) (Moment place held format) old new (λ image s. inl s)
+    any_moment = λ place held format store. since_wider (HasStore place held format) (Moment place held format) old new (λ crashed s. inl s)
         (keeps_since (Ok start) old new starts place held format store);
     done = tt;
     answer = tt;
@@ -313,7 +232,7 @@ module _ (to : Version) (transitions : List Transition) (migrations : List Named
       → moved.directory ≡ start.place.directory → q ≡ p → Moves a b (Starts (Ok start)) → start.format ≡ 2 → start.place.version ≡ to
       → Moves a b (Migrates to transitions migrations before after p q (Ok moved))
   is_there start moved a b from_is to_is at noted m two same = moves_map (λ old new starts. record {
-    any_moment = λ place held format store. since_wider (HasStore place held format) (Moment place held format) old new (λ image s. inl s)
+    any_moment = λ place held format store. since_wider (HasStore place held format) (Moment place held format) old new (λ crashed s. inl s)
         (keeps_since (Ok start) old new starts place held format store);
     done = λ place held format store. (
       starts.ready.settled,
@@ -353,13 +272,13 @@ module _ (to : Version) (transitions : List Transition) (migrations : List Named
       (turned : back ≡ is_before to start.place.version) (result : Result Moved MoveError)
       (ends : IfErr result (Ends (tasks_of migrations back way) start.held before after p q)) (noted : OnOk result (q ≡ p))
       (needed : start.place.version ≡ to → start.format ≡ 2 → ⊥) where
-    migrated_image : (image : Tree) → HasMoved (tasks_of migrations back way) to start.held before after image
-        → HasMigrated start.place start.held to transitions migrations before after image
-    migrated_image image moved = record {
+    migrated_image : (crashed : Tree) → HasMoved (tasks_of migrations back way) to start.held before after crashed
+        → HasMigrated start.place start.held to transitions migrations before after crashed
+    migrated_image crashed moved = record {
       way = way;
       is_way = is_way;
       moved =
-          subst (λ b. HasMoved (tasks_of migrations b way) to start.held before after image) turned moved;
+          subst (λ b. HasMoved (tasks_of migrations b way) to start.held before after crashed) turned moved;
     }
 
     hand : (old mid : History) → IsReady start old mid → IsAtHand start mid
@@ -375,13 +294,13 @@ module _ (to : Version) (transitions : List Transition) (migrations : List Named
       any_moment = λ place held format store.
           let found = starts.found place held format store in
           for_found (λ q h f. SinceStart (Moment q h f) old new) start place held format found
-          (since_joined (λ image. IsImage old image ⊎ Moment start.place start.held start.format image) old mid new
-          (since_wider (HasStore start.place start.held start.format) (Moment start.place start.held start.format) old mid (λ image s. inl s)
+          (since_joined (λ crashed. IsCrashState old crashed ⊎ Moment start.place start.held start.format crashed) old mid new
+          (since_wider (HasStore start.place start.held start.format) (Moment start.place start.held start.format) old mid (λ crashed s. inl s)
           (keeps_since (Ok start) old mid starts start.place start.held start.format
           (back_found (λ q h f. HasStore q h f (tree_of old)) start place held format found store)))
           (since_map (HasOldOrNew start (tasks_of migrations back way) to before after)
-          (λ image. IsImage old image ⊎ Moment start.place start.held start.format image) mid new
-          (λ image either. elim either [ inl s ↦ inr (inl s) | inr m ↦ inr (inr (migrated_image image m)) ])
+          (λ crashed. IsCrashState old crashed ⊎ Moment start.place start.held start.format crashed) mid new
+          (λ crashed either. elim either [ inl s ↦ inr (inl s) | inr m ↦ inr (inr (migrated_image crashed m)) ])
           (along.any_moment (hand old mid starts.ready))));
       done = IfOk-weaker result _ _ (λ moved done place held format store.
           let both = done (hand old mid starts.ready) in (
@@ -403,11 +322,12 @@ module _ (to : Version) (transitions : List Transition) (migrations : List Named
       kept = IfErr-weaker result _ _ (λ e kept other place held format store.
           let found = starts.found place held format store in
           for_found (λ q h f. SinceStart (HasStore q h f) old new) start place held format found
-          (since_joined (λ image. IsImage old image ⊎ HasStore start.place start.held start.format image) old mid new
+          (since_joined (λ crashed. IsCrashState old crashed ⊎ HasStore start.place start.held start.format crashed) old mid new
           (keeps_since (Ok start) old mid starts start.place start.held start.format
           (back_found (λ q h f. HasStore q h f (tree_of old)) start place held format found store))
-          (since_map (HasStore start.place start.held start.format) (λ image. IsImage old image ⊎ HasStore start.place start.held start.format image) mid new
-          (λ image s. inr s)
+          (since_map (HasStore start.place start.held start.format)
+          (λ crashed. IsCrashState old crashed ⊎ HasStore start.place start.held start.format crashed) mid new
+          (λ crashed s. inr s)
           (kept other (hand old mid starts.ready))))) along.kept;
       ended = IfErr-weaker result _ _ (λ e end place held format store. record {
         ended = inr (

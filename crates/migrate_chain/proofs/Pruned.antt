@@ -168,8 +168,8 @@ module _ (place : Place) (held : Held) (format : ℕ) where
   pub store_untouched : (old new : History) → IsSettled old → HasStore place held format (tree_of old) → Touches (IsInOther place.directory) old new
       → EachSince (HasStore place held format) old new
   store_untouched old new settled store touches =
-      since_map (λ image. (p : Names) → Matters place.directory p → node_at image p ≡ node_at (tree_of old) p) (HasStore place held format) old new
-      (λ image same. kept image same)
+      since_map (λ crashed. (p : Names) → Matters place.directory p → node_at crashed p ≡ node_at (tree_of old) p) (HasStore place held format) old new
+      (λ crashed same. kept crashed same)
       (paths_kept (IsInOther place.directory) (Matters place.directory)
       (λ p matters other. other_apart there p (subst (λ d. Matters d p) store.led.2 matters) (subst (λ d. IsInOther d p) store.led.2 other)) old new touches
       (λ p matters. settled p))
@@ -180,18 +180,18 @@ module _ (place : Place) (held : Held) (format : ℕ) where
       itself : (d : Names) → d ≡ directory there → is_in_store (d ++ []) ≡ true
       itself d at = ap (λ (e : Names). is_in_store (e ++ [])) at
 
-      below : (image : Tree) → ((p : Names) → Matters place.directory p → node_at image p ≡ node_at (tree_of old) p) → (rest : Names)
-          → node_at image (place.directory ++ rest) ≡ node_at (tree_of old) (place.directory ++ rest)
-      below image same [] = same (place.directory ++ []) (inl (itself place.directory store.led.2))
-      below image same (name ∷ rest) = same (place.directory ++ name ∷ rest) (inr (name, rest, refl))
+      below : (crashed : Tree) → ((p : Names) → Matters place.directory p → node_at crashed p ≡ node_at (tree_of old) p) → (rest : Names)
+          → node_at crashed (place.directory ++ rest) ≡ node_at (tree_of old) (place.directory ++ rest)
+      below crashed same [] = same (place.directory ++ []) (inl (itself place.directory store.led.2))
+      below crashed same (name ∷ rest) = same (place.directory ++ name ∷ rest) (inr (name, rest, refl))
 
-      kept : (image : Tree) → ((p : Names) → Matters place.directory p → node_at image p ≡ node_at (tree_of old) p) → HasStore place held format image
-      kept image same = record {
-        led = same_outcome image (tree_of old) (record { same = λ p pass. same p (inl pass) }) (at_place place) store.led;
+      kept : (crashed : Tree) → ((p : Names) → Matters place.directory p → node_at crashed p ≡ node_at (tree_of old) p) → HasStore place held format crashed
+      kept crashed same = record {
+        led = same_outcome crashed (tree_of old) (record { same = λ p pass. same p (inl pass) }) (at_place place) store.led;
         stands = record {
           files = store.stands.files;
           found = subst (λ (found : Files). StandsFor found store.stands.files)
-              (λ i rest. sym (below image same rest) i) store.stands.found;
+              (λ i rest. sym (below crashed same rest) i) store.stands.found;
           stands = store.stands.stands;
         };
       }

@@ -99,13 +99,13 @@ module _ (place : Place) where
           → FromSyncOn (EachSince (HasStore place held format)) old new
       both (inl is) any = inl is
       both (inr touches) (inl is) = inl is
-      both (inr touches) (inr since) = inr (since_map (λ image. ((p : Names) → is_in_store p ≡ true → node_at image p ≡ node_at (tree_of mid) p)
-          × TreeStandsFor place.directory store.stands.files image) (HasStore place held format) mid new
-          (λ image facts. record {
-            led = same_outcome image (tree_of old) (record { same = facts.0 }) (at_place place) led;
+      both (inr touches) (inr since) = inr (since_map (λ crashed. ((p : Names) → is_in_store p ≡ true → node_at crashed p ≡ node_at (tree_of mid) p)
+          × TreeStandsFor place.directory store.stands.files crashed) (HasStore place held format) mid new
+          (λ crashed facts. record {
+            led = same_outcome crashed (tree_of old) (record { same = facts.0 }) (at_place place) led;
             stands = record { files = store.stands.files; found = facts.1; stands = store.stands.stands };
           })
-          (since_both (λ image. (p : Names) → is_in_store p ≡ true → node_at image p ≡ node_at (tree_of mid) p)
+          (since_both (λ crashed. (p : Names) → is_in_store p ≡ true → node_at crashed p ≡ node_at (tree_of mid) p)
           (TreeStandsFor place.directory store.stands.files) mid new
           (paths_kept (IsBelow place.directory) (λ p. is_in_store p ≡ true) (λ p in_links below. link_apart (tree_of old) led p in_links below) mid new touches
           (λ p in_links. settled_synced old p)) since))

@@ -20,12 +20,12 @@ use Rattle.migrate_chain.specs.Store.{StandsIn, at_place, HasStore, IsInOther, H
 
 -- ---- paths that are not touched
 
--- At paths that are not touched each image has what the tree had.
+-- At paths that are not touched each crash state has what the tree had.
 pub paths_kept : (Q R : Names → Type 0) → ((p : Names) → R p → Q p → ⊥) → (old new : History) → Touches Q old new → ((p : Names) → R p → IsSettledAt old p)
-    → EachSince (λ image. (p : Names) → R p → node_at image p ≡ node_at (tree_of old) p) old new
+    → EachSince (λ crashed. (p : Names) → R p → node_at crashed p ≡ node_at (tree_of old) p) old new
 paths_kept Q R apart old new touches settled =
-    since_goes (λ image. (p : Names) → R p → node_at image p ≡ node_at (tree_of old) p) (IsAtOrSync Q) old new
-    (λ h goes image is. λ p at. settled p at (node_at image p) (may_leave_untouched Q old h goes p (apart p at) (node_at image p) (is p))) touches
+    since_goes (λ crashed. (p : Names) → R p → node_at crashed p ≡ node_at (tree_of old) p) (IsAtOrSync Q) old new
+    (λ h goes crashed is. λ p at. settled p at (node_at crashed p) (may_leave_untouched Q old h goes p (apart p at) (node_at crashed p) (is p))) touches
 
 -- The first name of a path, and the second.
 first : Names → List ℕ
@@ -100,8 +100,8 @@ module _ (place : Place) (held : Held) (format : ℕ) where
       → EachSince (HasStore place held format) old new
   store_kept old new settled (id, led, at) stands touches =
       let there : Target = record { version = place.version; id = id } in
-      since_map (λ image. (p : Names) → Matters place.directory p → node_at image p ≡ node_at (tree_of old) p) (HasStore place held format) old new
-      (λ image same. store_alike image (tree_of old) same (id, led, at) stands)
+      since_map (λ crashed. (p : Names) → Matters place.directory p → node_at crashed p ≡ node_at (tree_of old) p) (HasStore place held format) old new
+      (λ crashed same. store_alike crashed (tree_of old) same (id, led, at) stands)
       (paths_kept (IsInOther place.directory) (Matters place.directory)
       (λ p matters other. other_apart there p (subst (λ d. Matters d p) at matters) (subst (λ d. IsInOther d p) at other)) old new touches
       (λ p matters. settled p))
@@ -112,18 +112,18 @@ module _ (place : Place) (held : Held) (format : ℕ) (target : Target) (made : 
   abbrev Below : Names → Type 0
   Below p = IsBelow place.directory p ⊎ IsBelow (directory target) p
 
-  either : (image tree : Tree) → ResolvesToEither (at_place place) target image → ((p : Names) → Below p → node_at image p ≡ node_at tree p)
+  either : (crashed tree : Tree) → ResolvesToEither (at_place place) target crashed → ((p : Names) → Below p → node_at crashed p ≡ node_at tree p)
       → Stands (files_below place.directory tree) held format → Stands (files_below (directory target) tree) made 2
-      → HasEither place held format target made image
-  either image tree (inl led) same old new = inl (record {
+      → HasEither place held format target made crashed
+  either crashed tree (inl led) same old new = inl (record {
     led = led;
     stands =
-        standing place.directory held format image tree (λ p below. same p (inl below)) old;
+        standing place.directory held format crashed tree (λ p below. same p (inl below)) old;
   })
-  either image tree (inr led) same old new = inr (record {
+  either crashed tree (inr led) same old new = inr (record {
     led = (target.id, led, refl);
     stands =
-        standing (directory target) made 2 image tree (λ p below. same p (inr below)) new;
+        standing (directory target) made 2 crashed tree (λ p below. same p (inr below)) new;
   })
 
   -- At every moment the store is at its old place or at the new one, complete.
@@ -132,10 +132,10 @@ module _ (place : Place) (held : Held) (format : ℕ) (target : Target) (made : 
       → Flips target result old new → EachSince (HasEither place held format target made) old new
   flipped result old new settled (id, led, at) before after flips =
       let there : Target = record { version = place.version; id = id } in
-      since_map (λ image. ResolvesToEither (at_place place) target image × ((p : Names) → Below p → node_at image p ≡ node_at (tree_of old) p))
+      since_map (λ crashed. ResolvesToEither (at_place place) target crashed × ((p : Names) → Below p → node_at crashed p ≡ node_at (tree_of old) p))
       (HasEither place held format target made) old new
-      (λ image both. either image (tree_of old) both.0 both.1 before after)
-      (since_both (ResolvesToEither (at_place place) target) (λ image. (p : Names) → Below p → node_at image p ≡ node_at (tree_of old) p) old new
+      (λ crashed both. either crashed (tree_of old) both.0 both.1 before after)
+      (since_both (ResolvesToEither (at_place place) target) (λ crashed. (p : Names) → Below p → node_at crashed p ≡ node_at (tree_of old) p) old new
       (flips.any_moment (at_place place) (record { at = λ p pass. settled p }) (id, led, at))
       (paths_kept (IsLinkTo target) Below (λ p below link. elim below [
         | inl here ↦ link_apart target there p (subst (λ d. IsBelow d p) at here) link

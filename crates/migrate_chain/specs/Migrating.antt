@@ -2,7 +2,7 @@
 use Rattle.std.specs.Prelude.{◌≡◌, ◌≢◌, ◌⊎◌, ◌∷◌, [], codes, ℕ, List, Option, Result, IfOk, OnOk, IfErr, IsErrOf}
 use Rattle.outside.specs.Names.{Names}
 use Rattle.outside.specs.Tree.{Tree}
-use Rattle.outside.specs.History.{History, tree_of, IsImage, IsSettled}
+use Rattle.outside.specs.History.{History, tree_of, IsCrashState, IsSettled}
 use Rattle.outside.specs.Since.{EachSince, Touches}
 use Rattle.commit_journal.specs.Files.{IsBelow}
 use Rattle.commit_journal.specs.Recovery.{FromSyncOn}
@@ -51,14 +51,14 @@ pub record HasSome (tree : Tree) : Type 0 where
 
 -- At every moment a crash leaves what it might have left at the start, or a tree that has P.
 abbrev pub SinceStart : (Tree → Type 0) → History → History → Type 0
-SinceStart P old new = EachSince (λ image. IsImage old image ⊎ P image) old new
+SinceStart P old new = EachSince (λ crashed. IsCrashState old crashed ⊎ P crashed) old new
 
 -- A store is moved to a version. What is said of a store is said of one that was there at the start.
 pub record Migrates (to : Version) (transitions : List Transition) (migrations : List Named) (before after : Option (List Mapped))
     (refused_before refused_after : Option (List Refused)) (result : Result Moved MoveError) (old new : History) : Type 0 where
   -- At every moment the store is as it was, or it has moved: all tasks of the way were carried out, once and in order.
   pub any_moment : (place : Place) (held : Held) (format : ℕ) → HasStore place held format (tree_of old)
-      → SinceStart (λ image. HasStore place held format image ⊎ HasMigrated place held to transitions migrations before after image) old new
+      → SinceStart (λ crashed. HasStore place held format crashed ⊎ HasMigrated place held to transitions migrations before after crashed) old new
   -- After Ok it has moved, or it was there in format 2, and this is on the disk.
   pub done : IfOk result (λ moved. (place : Place) (held : Held) (format : ℕ) → HasStore place held format (tree_of old)
       → IsSettled new × (IsThere place held format to (tree_of new) ⊎ HasMigrated place held to transitions migrations before after (tree_of new)))

@@ -25,7 +25,7 @@ paths_in_store history = paths_below (codes "store" ∷ []) (tree_of history)
 pub record Prunes (result : Result ℕ PruneError) (old new : History) : Type 0 where
   -- Before the first sync nothing is written, and after it only below other data directories.
   pub sync_first : (place : Place) → Resolves (tree_of old) (at_place place) → FromSyncOn (Touches (IsInOther place.directory)) old new
-  -- From that sync on each image has the store where it was and as it was, with the journal that may be in it.
+  -- From that sync on each crash state has the store where it was and as it was, with the journal that may be in it.
   pub keeps : (place : Place) (held : Held) (format : ℕ) → HasStore place held format (tree_of old)
       → FromSyncOn (EachSince (HasStore place held format)) old new
   -- On a settled disk this is so from the start.

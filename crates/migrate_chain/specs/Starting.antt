@@ -45,7 +45,7 @@ pub record HasBadJournal (path : Names) (old : History) : Type 0 where
 
 -- The store is found and its journal carried out.
 pub record Starts (result : Result Start MoveError) (old new : History) : Type 0 where
-  -- From the first sync on each image has the store that was there.
+  -- From the first sync on each crash state has the store that was there.
   pub keeps : (place : Place) (held : Held) (format : ℕ) → HasStore place held format (tree_of old)
       → FromSyncOn (EachSince (HasStore place held format)) old new
   -- Before that sync nothing is written, and after it only below the directory to which the links lead.

@@ -12,7 +12,7 @@ ghost use Rattle.model_file.specs.Rows.{RowTexts};
 ghost use Rattle.model_file.specs.Refused.{Passes, Refuses};
 
 use crate::ModelKind;
-use crate::refusal::{Refusal, refused};
+use crate::located_fault::{LocatedFault, refused};
 use std::alloc::Global;
 use toml::Table;
 
@@ -27,7 +27,7 @@ fn is_section(name: &str) -> bool
 }
 
 /// Checks that each top-level name is that of a section.
-pub fn check_names(alloc: Global, document: &Table) -> Result<(), Refusal>
+pub fn check_names(alloc: Global, document: &Table) -> Result<(), LocatedFault>
     ensures passes { (rows : RowTexts) → OnOk result (Passes rows (name_checks (table_view document.now))) }
     ensures refused { (rows : RowTexts)
         → IfErr result (Refuses rows (name_checks (table_view document.now))) }
@@ -45,7 +45,7 @@ pub fn section<'a>(
     alloc: Global,
     document: &'a Table,
     name: &str,
-) -> Result<Option<&'a Table>, Refusal>
+) -> Result<Option<&'a Table>, LocatedFault>
     ensures passes { (rows : RowTexts)
         → OnOk result (Passes rows (table_check name.now (table_view document.now) ∷ [])) }
     ensures members { IfOk result

@@ -12,9 +12,9 @@ ghost use Rattle.model_file.specs.declared.model_error.ModelKind.TheVariants.{Me
 ghost use Rattle.typed_settings.specs.Row.{IsTableOf, IsPrefixFree};
 
 use crate::document::check_names;
+use crate::located_fault::LocatedFault;
 use crate::metadata_section::put_metadata;
 use crate::os_section::os_of;
-use crate::refusal::Refusal;
 use crate::types_section::types_of;
 use crate::value_sections::put_section;
 use crate::{ModelError, ModelKind};
@@ -64,8 +64,8 @@ impl Model {
     {
         match model_of(alloc, text) {
             Ok(model) => Ok(model),
-            Err(Refusal::Fault(kind, at)) => Err(ModelError { kind, at }),
-            Err(Refusal::Memory) => Err(ModelError {
+            Err(LocatedFault::Fault(kind, at)) => Err(ModelError { kind, at }),
+            Err(LocatedFault::Memory) => Err(ModelError {
                 kind: ModelKind::Memory,
                 at: Text::of(String::new(alloc)),
             }),
@@ -73,7 +73,7 @@ impl Model {
     }
 }
 
-fn model_of(alloc: Global, text: &[u8]) -> Result<Model, Refusal>
+fn model_of(alloc: Global, text: &[u8]) -> Result<Model, LocatedFault>
     ensures ok { IfOk result (Spells text.now) }
     ensures fault { IfErr result (RefusesText text.now) }
     ensures free { IfOk result (λ model. IsPrefixFree model.types) }
@@ -81,12 +81,12 @@ fn model_of(alloc: Global, text: &[u8]) -> Result<Model, Refusal>
 {
     let Some(document) = table_of(alloc, text)? else {
         let at = Text::from_str(alloc, "-")?;
-        return Err(Refusal::Fault(ModelKind::NotToml, at));
+        return Err(LocatedFault::Fault(ModelKind::NotToml, at));
     };
     sections_of(alloc, &document)
 }
 
-fn sections_of(alloc: Global, document: &Table) -> Result<Model, Refusal>
+fn sections_of(alloc: Global, document: &Table) -> Result<Model, LocatedFault>
     ensures passes { OnOk result (Passes (row_texts (table_view document.now)) (checks (table_view document.now))) }
     ensures model { IfOk result (IsModelOf (table_view document.now)) }
     ensures free { IfOk result (λ model. IsPrefixFree model.types) }
@@ -100,7 +100,7 @@ fn sections_of(alloc: Global, document: &Table) -> Result<Model, Refusal>
     Ok(Model { types, os, content })
 }
 
-fn content_of(alloc: Global, document: &Table, types: &Types) -> Result<Content, Refusal>
+fn content_of(alloc: Global, document: &Table, types: &Types) -> Result<Content, LocatedFault>
     requires { IsTableOf (row_texts (table_view document.now)) types.now }
     ensures passes { OnOk result (Passes (row_texts (table_view document.now)) (content_checks (table_view document.now))) }
     ensures content { IfOk result (λ content. content ≡ contents_of (table_view document.now)) }

@@ -14,14 +14,14 @@ ghost use Rattle.model_file.specs.declared.model_error.ModelKind.TheVariants.{Ba
 
 use crate::ModelKind;
 use crate::document::section;
-use crate::refusal::{Refusal, refused};
+use crate::located_fault::{LocatedFault, refused};
 use key_names::{Text, are_bare};
 use settings_tree::{Os, OsName};
 use std::alloc::{AllocError, Global};
 use toml::{Table, Value};
 
 /// The names of the operating system, with their texts.
-pub fn os_of(alloc: Global, document: &Table) -> Result<Os, Refusal>
+pub fn os_of(alloc: Global, document: &Table) -> Result<Os, LocatedFault>
     ensures passes { (rows : RowTexts) → OnOk result (Passes rows (os_checks (table_view document.now))) }
     ensures names { IfOk result
         (λ os. map (λ n. (n.name, n.text)) os ≡ os_names (table_view document.now)) }
@@ -41,7 +41,7 @@ fn is_os_name(name: &str) -> bool
 }
 
 // The entries of the section. They rise by name, as a table's entries do.
-fn names_of(alloc: Global, table: &Table) -> Result<Os, Refusal>
+fn names_of(alloc: Global, table: &Table) -> Result<Os, LocatedFault>
     ensures passes { (rows : RowTexts)
         → OnOk result (Passes rows (map os_check (named (table_view table.now)))) }
     ensures names { IfOk result
@@ -56,7 +56,7 @@ fn names_of(alloc: Global, table: &Table) -> Result<Os, Refusal>
     Ok(Os::of(names))
 }
 
-fn name_of(alloc: Global, name: &str, value: &Value) -> Result<OsName, Refusal>
+fn name_of(alloc: Global, name: &str, value: &Value) -> Result<OsName, LocatedFault>
     ensures passes { (rows : RowTexts)
         → OnOk result (Passes rows (os_check (name.now, view value.now) ∷ [])) }
     ensures name { IfOk result (λ os. (os.name ≡ name.now) × (Some os.text ≡ text_of (view value.now))) }
@@ -83,11 +83,11 @@ fn os_text<'a>(name: &str, value: &'a Value) -> Option<&'a str>
     }
 }
 
-fn bad_os(alloc: Global, name: &str) -> Refusal
+fn bad_os(alloc: Global, name: &str) -> LocatedFault
     ensures { IsAt BadOs (codes "os" ∷ name.now ∷ []) result }
 {
     match String::from_str(alloc, name) {
         Ok(name) => refused(alloc, ModelKind::BadOs, "os", &[Text::of(name)]),
-        Err(AllocError) => Refusal::Memory,
+        Err(AllocError) => LocatedFault::Memory,
     }
 }

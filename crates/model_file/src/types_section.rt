@@ -10,7 +10,7 @@ ghost use Rattle.model_file.specs.Refused.{Passes, Refuses, IsAt};
 
 use crate::ModelKind;
 use crate::document::section;
-use crate::refusal::{Refusal, refused};
+use crate::located_fault::{LocatedFault, refused};
 use key_names::Text;
 use std::alloc::{AllocError, Global};
 use toml::{Table, Value};
@@ -18,7 +18,7 @@ use toml_values::text_of;
 use typed_settings::{RowsError, Types};
 
 /// The table of the rows.
-pub fn types_of(alloc: Global, document: &Table) -> Result<Types, Refusal>
+pub fn types_of(alloc: Global, document: &Table) -> Result<Types, LocatedFault>
     ensures passes { (rows : RowTexts) → OnOk result (Passes rows (types_checks (table_view document.now))) }
     ensures table { IfOk result (IsTableOf (row_texts (table_view document.now))) }
     ensures refused { (rows : RowTexts)
@@ -34,23 +34,23 @@ pub fn types_of(alloc: Global, document: &Table) -> Result<Types, Refusal>
             &texts,
             second,
         )),
-        Err(RowsError::Memory) => Err(Refusal::Memory),
+        Err(RowsError::Memory) => Err(LocatedFault::Memory),
     }
 }
 
 // The refusal of the row at this index.
-fn at_row(alloc: Global, kind: ModelKind, texts: &[(Text, Text)], index: usize) -> Refusal
+fn at_row(alloc: Global, kind: ModelKind, texts: &[(Text, Text)], index: usize) -> LocatedFault
     requires { index < length texts.now }
     ensures { IsAt kind (row_path (slice_index_or texts.now index ([], []))) result }
 {
     match texts[index].0.copy() {
         Ok(name) => refused(alloc, kind, "types", &[name]),
-        Err(AllocError) => Refusal::Memory,
+        Err(AllocError) => LocatedFault::Memory,
     }
 }
 
 // The texts of the rows.
-fn texts_of(alloc: Global, document: &Table) -> Result<Vec<(Text, Text)>, Refusal>
+fn texts_of(alloc: Global, document: &Table) -> Result<Vec<(Text, Text)>, LocatedFault>
     ensures passes { (rows : RowTexts)
         → OnOk result (Passes rows (table_check (codes "types") (table_view document.now) ∷ [])) }
     ensures texts { IfOk result (λ texts. texts.items ≡ row_texts (table_view document.now)) }

@@ -9,14 +9,14 @@ ghost use Rattle.model_file.specs.Rows.{RowTexts};
 ghost use Rattle.model_file.specs.Model.{AreTyped};
 ghost use Rattle.model_file.specs.Refused.{Passes, Refuses, IsAt};
 ghost use Rattle.model_file.specs.declared.model_error.ModelKind.TheVariants.{IllTyped};
-ghost use Rattle.model_file.specs.declared.refusal.Refusal.TheVariants.{Memory};
+ghost use Rattle.model_file.specs.declared.located_fault.LocatedFault.TheVariants.{Memory};
 
 use crate::ModelKind;
 use crate::document::section;
 use crate::entry::Entry;
 use crate::found::Found;
 use crate::key_path::key_of;
-use crate::refusal::{Refusal, refused};
+use crate::located_fault::{LocatedFault, refused};
 use crate::walk::entries_of;
 use json_trees::Scalar;
 use key_names::{Key, Text};
@@ -32,7 +32,7 @@ pub fn put_section(
     name: &str,
     types: &Types,
     content: &mut Content,
-) -> Result<(), Refusal>
+) -> Result<(), LocatedFault>
     requires free { IsPrefixFree types.now }
     requires typed { AreTyped types.now content.old.values }
     requires strong { content.old.weak ≡ [] }
@@ -56,7 +56,7 @@ fn put_table(
     table: &Table,
     types: &Types,
     content: &mut Content,
-) -> Result<(), Refusal>
+) -> Result<(), LocatedFault>
     requires free { IsPrefixFree types.now }
     requires typed { AreTyped types.now content.old.values }
     requires strong { content.old.weak ≡ [] }
@@ -78,7 +78,7 @@ fn put_entries(
     entries: &[Entry],
     types: &Types,
     content: &mut Content,
-) -> Result<(), Refusal>
+) -> Result<(), LocatedFault>
     requires free { IsPrefixFree types.now }
     requires typed { AreTyped types.now content.old.values }
     requires strong { content.old.weak ≡ [] }
@@ -103,7 +103,7 @@ fn put_entry(
     entry: &Entry,
     types: &Types,
     content: &mut Content,
-) -> Result<(), Refusal>
+) -> Result<(), LocatedFault>
     requires free { IsPrefixFree types.now }
     requires typed { AreTyped types.now content.old.values }
     requires strong { content.old.weak ≡ [] }
@@ -137,14 +137,14 @@ fn check(
     key: &Key,
     value: &Scalar,
     types: &Types,
-) -> Result<(), Refusal>
+) -> Result<(), LocatedFault>
     ensures taken { OnOk result (IsTyped types.now key.now value.now) }
     ensures refused { IfErr result (λ e. IsAt IllTyped (name.now ∷ path.now) e) }
     ensures cause { IfErr result (λ e. e ≢ Memory → IsTyped types.now key.now value.now → ⊥) }
 {
     match types.check(key, value) {
         Ok(()) => Ok(()),
-        Err(TypeError::Memory) => Err(Refusal::Memory),
+        Err(TypeError::Memory) => Err(LocatedFault::Memory),
         Err(_) => Err(refused(alloc, ModelKind::IllTyped, name, path)),
     }
 }

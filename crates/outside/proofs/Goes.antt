@@ -3,7 +3,7 @@ use Rattle.std.proofs.Common.{◌≡◌, inl, inr, ◌⊎◌, false, Option, ref
 use Rattle.std.specs.Ordering.{eq_by_cmp}
 use Rattle.outside.specs.Names.{Names, path_cmp}
 use Rattle.outside.specs.Tree.{Node, Tree, node_at}
-use Rattle.outside.specs.History.{Change, replaced, scribbled, synced, History, begun, next, tree_of, MayLeave, EachImage}
+use Rattle.outside.specs.History.{Change, replaced, scribbled, synced, History, begun, next, tree_of, MayLeave, EachCrashState}
 use Rattle.outside.specs.Since.{EachSince, GoesOn, IsAt, IsAtOrSync, Touches}
 use Rattle.outside.proofs.Trees.{path_cases, node_at-set_other}
 use Rattle.outside.proofs.Crash.{may_leave_now}
@@ -26,7 +26,7 @@ goes_map C D old (next change h) f (inl is) = inl is
 goes_map C D old (next change h) f (inr (here, more)) = inr (f change here, goes_map C D old h f more)
 
 -- what each history on the way has
-pub since_goes : (P : Tree → Type 0) (C : Change → Type 0) (old new : History) → ((h : History) → GoesOn C old h → EachImage P h) → GoesOn C old new
+pub since_goes : (P : Tree → Type 0) (C : Change → Type 0) (old new : History) → ((h : History) → GoesOn C old h → EachCrashState P h) → GoesOn C old new
     → EachSince P old new
 since_goes P C old (begun tree) each is = (is, each (begun tree) is)
 since_goes P C old (next change h) each (inl is) = (inl is, each (next change h) (inl is))
@@ -73,7 +73,7 @@ may_leave_untouched Q old (next synced h) (inr (here, more)) p not n may =
 
 -- at a path that is not touched a crash in between leaves what it might have left before
 pub since_untouched_at : (Q : Names → Type 0) (p : Names) → (Q p → ⊥) → (old new : History) → Touches Q old new
-    → EachSince (λ image. MayLeave old p (node_at image p)) old new
+    → EachSince (λ crashed. MayLeave old p (node_at crashed p)) old new
 since_untouched_at Q p apart old new touches =
-    since_goes (λ image. MayLeave old p (node_at image p)) (IsAtOrSync Q) old new
-    (λ h goes image is. may_leave_untouched Q old h goes p apart (node_at image p) (is p)) touches
+    since_goes (λ crashed. MayLeave old p (node_at crashed p)) (IsAtOrSync Q) old new
+    (λ h goes crashed is. may_leave_untouched Q old h goes p apart (node_at crashed p) (is p)) touches

@@ -15,7 +15,7 @@ abbrev pub Puts : {E : Type 0} → Names → Option Node → Result Unit E → H
 Puts path node (Ok done) old new = new ≡ next (replaced path node) old
 Puts path node (Err e) old new = (new ≡ old) ⊎ (new ≡ next (replaced path node) old)
 
--- What is there is on the disk; after an error the history is as before, so that the images are among those from before.
+-- What is there is on the disk; after an error the history is as before, so that the crash states are among those from before.
 abbrev pub Syncs : {E : Type 0} → Result Unit E → History → History → Type 0
 Syncs (Ok done) old new = new ≡ next synced old
 Syncs (Err e) old new = new ≡ old

@@ -42,12 +42,12 @@ MayLeave (next (scribbled at now) history) path node = MayLeave history path nod
 MayLeave (next synced history) path node = node ≡ node_at (tree_of history) path
 
 -- A crash now may leave this tree: each path has what it may have, whatever the others have.
-abbrev pub IsImage : History → Tree → Type 0
-IsImage history image = (path : Names) → MayLeave history path (node_at image path)
+abbrev pub IsCrashState : History → Tree → Type 0
+IsCrashState history crashed = (path : Names) → MayLeave history path (node_at crashed path)
 
 -- Each tree that a crash now may leave has P.
-abbrev pub EachImage : (Tree → Type 0) → History → Type 0
-EachImage P history = (image : Tree) → IsImage history image → P image
+abbrev pub EachCrashState : (Tree → Type 0) → History → Type 0
+EachCrashState P history = (crashed : Tree) → IsCrashState history crashed → P crashed
 
 -- A crash leaves at the path what is there.
 abbrev pub IsSettledAt : History → Names → Type 0

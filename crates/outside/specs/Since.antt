@@ -2,12 +2,12 @@
 use Rattle.std.specs.Prelude.{◌≡◌, ◌⊎◌, ℕ, ◌+◌, ◌≤◌}
 use Rattle.outside.specs.Names.{Names}
 use Rattle.outside.specs.Tree.{Tree}
-use Rattle.outside.specs.History.{Change, replaced, scribbled, synced, History, begun, next, IsImage, EachImage}
+use Rattle.outside.specs.History.{Change, replaced, scribbled, synced, History, begun, next, IsCrashState, EachCrashState}
 
 -- New goes on from old, and a crash at any moment between them, within a call too, leaves a tree that has P.
 abbrev pub EachSince : (Tree → Type 0) → History → History → Type 0
-EachSince P old (begun tree) = (begun tree ≡ old) × EachImage P (begun tree)
-EachSince P old (next change history) = ((next change history ≡ old) ⊎ EachSince P old history) × EachImage P (next change history)
+EachSince P old (begun tree) = (begun tree ≡ old) × EachCrashState P (begun tree)
+EachSince P old (next change history) = ((next change history ≡ old) ⊎ EachSince P old history) × EachCrashState P (next change history)
 
 -- The present moment, as a number of changes.
 abbrev pub clock : History → ℕ
@@ -16,8 +16,8 @@ clock (next change history) = clock history + 1
 
 -- A crash at some moment from t on might have left this tree.
 abbrev pub LeftSince : History → ℕ → Tree → Type 0
-LeftSince (begun tree) t image = IsImage (begun tree) image
-LeftSince (next change history) t image = IsImage (next change history) image ⊎ ((t ≤ clock history) × LeftSince history t image)
+LeftSince (begun tree) t crashed = IsCrashState (begun tree) crashed
+LeftSince (next change history) t crashed = IsCrashState (next change history) crashed ⊎ ((t ≤ clock history) × LeftSince history t crashed)
 
 -- New goes on from old by such changes alone.
 abbrev pub GoesOn : (Change → Type 0) → History → History → Type 0

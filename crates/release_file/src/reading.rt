@@ -9,8 +9,8 @@ ghost use Rattle.release_file.specs.declared.release_error.ReleaseKind.{ReleaseK
 ghost use Rattle.release_file.specs.declared.release.Release.{Release as Made};
 
 use crate::document::{check_names, check_version};
+use crate::located_fault::LocatedFault;
 use crate::migrations::migrations_of;
-use crate::refusal::Refusal;
 use crate::release::Release;
 use crate::release_error::{ReleaseError, ReleaseKind};
 use crate::transitions::transitions_of;
@@ -37,8 +37,8 @@ impl Release {
     {
         match release_of(alloc, text) {
             Ok(release) => Ok(release),
-            Err(Refusal::Fault(kind, at)) => Err(ReleaseError { kind, at }),
-            Err(Refusal::Memory) => Err(ReleaseError {
+            Err(LocatedFault::Fault(kind, at)) => Err(ReleaseError { kind, at }),
+            Err(LocatedFault::Memory) => Err(ReleaseError {
                 kind: ReleaseKind::Memory,
                 at: Text::of(String::new(alloc)),
             }),
@@ -46,18 +46,18 @@ impl Release {
     }
 }
 
-fn release_of(alloc: Global, text: &[u8]) -> Result<Release, Refusal>
+fn release_of(alloc: Global, text: &[u8]) -> Result<Release, LocatedFault>
     ensures ok { IfOk result (Spells text.now) }
     ensures fault { IfErr result (RefusesText text.now) }
 {
     let Some(document) = table_of(alloc, text)? else {
         let at = Text::from_str(alloc, "-")?;
-        return Err(Refusal::Fault(ReleaseKind::NotToml, at));
+        return Err(LocatedFault::Fault(ReleaseKind::NotToml, at));
     };
     sections_of(alloc, &document)
 }
 
-fn sections_of(alloc: Global, document: &Table) -> Result<Release, Refusal>
+fn sections_of(alloc: Global, document: &Table) -> Result<Release, LocatedFault>
     ensures passes { OnOk result (Passes (checks (table_view document.now))) }
     ensures release { IfOk result (IsReleaseOf (table_view document.now)) }
     ensures refused { IfErr result (Refuses (checks (table_view document.now))) }

@@ -16,8 +16,8 @@ ghost use Rattle.release_file.specs.declared.transition.Transition.{Transition a
 
 use crate::document::{section, table_in};
 use crate::field::{field, texts_of};
+use crate::located_fault::{LocatedFault, refused};
 use crate::pair::pair_of;
-use crate::refusal::{Refusal, refused};
 use crate::release_error::ReleaseKind;
 use crate::transition::Transition;
 use key_names::Text;
@@ -39,7 +39,7 @@ fn transition_of(alloc: Global, name: &str, value: &Value) -> Result<Option<Tran
     Ok(Some(Transition { from, to, names }))
 }
 
-fn transition_at(alloc: Global, name: &str, value: &Value) -> Result<Transition, Refusal>
+fn transition_at(alloc: Global, name: &str, value: &Value) -> Result<Transition, LocatedFault>
     ensures passes { OnOk result (Passes (transition (name.now, view value.now) ∷ [])) }
     ensures ok { IfOk result (λ t. IsTransition (name.now, view value.now) t.from t.to t.names.items) }
     ensures refused { IfErr result (Refuses (transition (name.now, view value.now) ∷ [])) }
@@ -51,7 +51,7 @@ fn transition_at(alloc: Global, name: &str, value: &Value) -> Result<Transition,
 }
 
 // The transitions of a table, in its order.
-fn transitions_in(alloc: Global, table: &Table) -> Result<Vec<Transition>, Refusal>
+fn transitions_in(alloc: Global, table: &Table) -> Result<Vec<Transition>, LocatedFault>
     ensures passes { OnOk result (Passes (map transition (named (table_view table.now)))) }
     ensures transitions { IfOk result (λ transitions. AreTransitions (named (table_view table.now)) transitions.items) }
     ensures names { OnOk result (IsStrictlySortedBy bytes_cmp (map (λ entry. entry.0) (named (table_view table.now)))) }
@@ -77,7 +77,12 @@ fn are_there(table: &Table, names: &[Text]) -> bool
 }
 
 // Checks that each migration that an entry names is there.
-fn known_at(alloc: Global, migrations: &Table, name: &str, value: &Value) -> Result<(), Refusal>
+fn known_at(
+    alloc: Global,
+    migrations: &Table,
+    name: &str,
+    value: &Value,
+) -> Result<(), LocatedFault>
     ensures passes { OnOk result (Passes (known_check (table_view migrations.now) (name.now, view value.now) ∷ [])) }
     ensures refused { IfErr result (Refuses (known_check (table_view migrations.now) (name.now, view value.now) ∷ [])) }
 {
@@ -92,7 +97,7 @@ fn known_at(alloc: Global, migrations: &Table, name: &str, value: &Value) -> Res
 }
 
 // Checks that each migration that a transition names is there.
-fn check_known(alloc: Global, table: &Table, migrations: &Table) -> Result<(), Refusal>
+fn check_known(alloc: Global, table: &Table, migrations: &Table) -> Result<(), LocatedFault>
     ensures passes { OnOk result (Passes (map (known_check (table_view migrations.now)) (named (table_view table.now)))) }
     ensures refused { IfErr result (Refuses (map (known_check (table_view migrations.now)) (named (table_view table.now)))) }
 {
@@ -103,7 +108,7 @@ fn check_known(alloc: Global, table: &Table, migrations: &Table) -> Result<(), R
 }
 
 // Checks that each migration that a transition names is one of the document.
-fn check_all_known(alloc: Global, document: &Table, table: &Table) -> Result<(), Refusal>
+fn check_all_known(alloc: Global, document: &Table, table: &Table) -> Result<(), LocatedFault>
     ensures passes { OnOk result (Passes (map (known_check (section_members (codes "migration") (table_view document.now))) (named (table_view table.now)))) }
     ensures refused { IfErr result (Refuses (map (known_check (section_members (codes "migration") (table_view document.now)))
         (named (table_view table.now)))) }
@@ -125,7 +130,7 @@ fn sorted(transitions: Vec<Transition>) -> Result<Vec<Transition>, AllocError>
 }
 
 /// The transitions of the document, rising by where they begin and then by where they end.
-pub fn transitions_of(alloc: Global, document: &Table) -> Result<Vec<Transition>, Refusal>
+pub fn transitions_of(alloc: Global, document: &Table) -> Result<Vec<Transition>, LocatedFault>
     ensures passes { OnOk result (Passes (transition_checks (table_view document.now) ++ known_checks (table_view document.now))) }
     ensures transitions { IfOk result (λ transitions. (listed : List Step) × AreTransitions (transitions_in (table_view document.now)) listed
         × IsPermutation listed transitions.items) }

@@ -39,7 +39,7 @@ fn told(out: &mut String, command: &Command) -> Result<(), AllocError> {
         Command::Get { keys } => lines::keys(out, "get", keys),
         Command::Apply { all } => writeln!(out, "apply {all}"),
         Command::Verify => out.push_str("verify\n"),
-        Command::Check => out.push_str("check\n"),
+        Command::Check { store } => writeln!(out, "check {store}"),
         Command::Migrate { to } => writeln!(out, "migrate {to}"),
         Command::Prune => out.push_str("prune\n"),
         Command::Load { count } => writeln!(out, "load {count}"),

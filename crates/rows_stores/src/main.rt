@@ -3,8 +3,8 @@
 //! Journals: `journal DIRECTORY` tells the text of a change of the lines below it, `change DIRECTORY` makes it there, and `recover DIRECTORY` carries out
 //! what was cut off. Links: `version TEXT` and `directory NAME` read names, `leads` tells where the links lead, `fresh VERSION` the next data directory, and
 //! `flip NAME` lets the links lead to the one of this name. Data directories: `stands PATH` tells whether a file may be alone, `load DIRECTORY` what is held
-//! there, `save DIRECTORY` lays what is held, and `commit TX` tells the journal of a commit. Stores: `init VERSION` begins one, `open` and `open boot` open it.
-//! The words for the disk are those of `row_disks`.
+//! there, `save DIRECTORY` lays what is held, and `commit TX` tells the journal of a commit. Stores: `init VERSION` begins one, `open` and `open boot` open it,
+//! and `peek` tells what it holds. The words for the disk are those of `row_disks`.
 #![tactic(auto)]
 
 mod held;
@@ -36,7 +36,7 @@ impl Words for StoreWords {
                 links::made(alloc, disk, word, text_of(given.text)?)
             }
             "stands" | "load" | "save" | "commit" => held::made(alloc, disk, word, given),
-            "init" | "open" => stores::made(alloc, disk, word, text_of(given.text)?),
+            "init" | "open" | "peek" => stores::made(alloc, disk, word, text_of(given.text)?),
             _ => disks.make(alloc, word, given),
         }
     }

@@ -6,7 +6,7 @@ use row_disks::{at, directory_of, line};
 use row_files::bad;
 use std::alloc::Global;
 use std::io;
-use store_open::{InitError, OpenError, Opened, init, open_store};
+use store_open::{InitError, OpenError, Opened, Stored, init, open_store, peek_store};
 use version_links::Version;
 
 fn begun(alloc: Global, disk: &mut MemoryDisk, version: &Version) -> io::Result<Vec<u8>> {
@@ -60,12 +60,26 @@ fn told(alloc: Global, disk: &MemoryDisk, opened: &Opened) -> io::Result<Vec<u8>
     Ok(told)
 }
 
+// The version, the data directory, and what is held.
+fn peeked(alloc: Global, stored: &Stored) -> io::Result<Vec<u8>> {
+    let version = format!(in alloc; "holds {}", stored.place.version)?;
+    let mut told = at(alloc, version.as_str(), &stored.place.directory)?;
+    let held = stored.held.print()?;
+    told.extend_from_slice(held.as_str().as_bytes())?;
+    told.push(b'\n')?;
+    Ok(told)
+}
+
 /// What a step of a word for stores comes to.
 pub fn made(alloc: Global, disk: &mut MemoryDisk, word: &str, text: &str) -> io::Result<Vec<u8>> {
     match (word, text) {
         ("init", _) => begun(alloc, disk, &Version::read(alloc, text)?.ok_or(bad())?),
         ("open", "" | "boot") => match open_store(alloc, disk, text == "boot") {
             Ok(opened) => told(alloc, disk, &opened),
+            Err(error) => refused(alloc, &error),
+        },
+        ("peek", "") => match peek_store(alloc, disk) {
+            Ok(stored) => peeked(alloc, &stored),
             Err(error) => refused(alloc, &error),
         },
         _ => Err(bad()),

@@ -9,7 +9,7 @@ ghost use Rattle.setting_generators.specs.Generators.{seen};
 ghost use Rattle.setting_generators.specs.Reading.{IsGenerator, SpellsNew, command_of};
 ghost use Rattle.setting_generators.specs.Refused.{RefusesEntry};
 
-use crate::refusal::{Refusal, refused};
+use crate::located_fault::{LocatedFault, refused};
 use crate::{Generator, GeneratorsKind};
 use key_names::{Key, KeyFault};
 use settings_tree::is_setting;
@@ -63,7 +63,7 @@ pub fn generator_of(
     before: &BTreeSet<Key>,
     name: &str,
     value: &Value,
-) -> Result<Generator, Refusal>
+) -> Result<Generator, LocatedFault>
     ensures ok { IfOk result (λ generator. IsGenerator types.now before.now.keys (name.now, view value.now) (seen generator)) }
     ensures refused { IfErr result (RefusesEntry types.now before.now.keys (name.now, view value.now)) }
 {

@@ -8,9 +8,9 @@ mod generate_error;
 mod generator;
 mod generators;
 mod generators_error;
+mod located_fault;
 mod output;
 mod reading;
-mod refusal;
 mod table;
 
 pub use generate_error::GenerateError;

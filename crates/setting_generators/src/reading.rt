@@ -7,7 +7,7 @@ ghost use Rattle.setting_generators.specs.declared.generators_error.GeneratorsKi
 ghost use Rattle.setting_generators.specs.declared.generators_error.GeneratorsKind.TheVariants.{Memory};
 
 use crate::generators::Generators;
-use crate::refusal::{Refusal, refused};
+use crate::located_fault::{LocatedFault, refused};
 use crate::table::generators_of;
 use crate::{GeneratorsError, GeneratorsKind};
 use key_names::Text;
@@ -34,8 +34,8 @@ impl Generators {
     {
         match read_text(alloc, text, types) {
             Ok(generators) => Ok(generators),
-            Err(Refusal::Fault(kind, at)) => Err(GeneratorsError { kind, at }),
-            Err(Refusal::Memory) => Err(GeneratorsError {
+            Err(LocatedFault::Fault(kind, at)) => Err(GeneratorsError { kind, at }),
+            Err(LocatedFault::Memory) => Err(GeneratorsError {
                 kind: GeneratorsKind::Memory,
                 at: Text::of(String::new(alloc)),
             }),
@@ -43,7 +43,7 @@ impl Generators {
     }
 }
 
-fn read_text(alloc: Global, text: &[u8], types: &Types) -> Result<Generators, Refusal>
+fn read_text(alloc: Global, text: &[u8], types: &Types) -> Result<Generators, LocatedFault>
     ensures ok { IfOk result (Spells types.now text.now) }
     ensures refused { IfErr result (RefusesText types.now text.now) }
 {

@@ -14,7 +14,8 @@ pub const PAGE: &str = "usage: settings COMMAND, in the folder of the host
   get [KEY ...]        prints what is set at the keys and below them, or all settings
   apply [--all]        writes the files and restarts the services that are owed, or all
   verify               tells of each configuration file whether it is what its template gives
-  check                tells of each configuration file whether it is covered
+  check [--store]      tells of each configuration file whether it is covered, and with --store
+                       whether the store is sound too; it writes nothing
   migrate --to V       moves the store to the version V
   prune                removes the files of other versions
   generate             asks the image's generators for settings that have no value

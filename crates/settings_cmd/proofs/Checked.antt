@@ -44,6 +44,8 @@ told files image (Err (refused.Dump kind at)) read reports = absurd reports
 told files image (Err (refused.MigrationStatus name number)) read reports = absurd reports
 told files image (Err (refused.MigrationOutput name)) read reports = absurd reports
 told files image (Err (refused.NotCurrent lines)) read reports = absurd reports
+told files image (Err (refused.HoldsIllTyped lines)) read reports = absurd reports
+told files image (Err (refused.WouldNotRender lines)) read reports = absurd reports
 
 -- The report on an image that was read.
 pub report_tells : (image : Image) (outcome : Outcome) (d : Option History)

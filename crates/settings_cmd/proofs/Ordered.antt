@@ -36,7 +36,7 @@ does_nothing now unused (set pairs) = inr (record { result_is = refl; no_runs = 
 does_nothing now unused (get keys) = inr (refl, refl)
 does_nothing now unused (apply all) = inr (record { result_is = refl; no_runs = refl; same = refl })
 does_nothing now unused verify = inr (refl, refl)
-does_nothing now unused check = inr (refl, refl)
+does_nothing now unused (check store) = inr (refl, refl)
 does_nothing now unused (migrate to) =
     inl (record { refusal = refused.Memory; answers = refl; tells = where_all (λ h. tt); same = refl; unasked = refl })
 does_nothing now unused prune = inr (refl, refl)

@@ -7,19 +7,19 @@ use Rattle.command_outcome.specs.Ends.{Outcome}
 use Rattle.command_outcome.specs.declared.refusal.Refusal.{Refusal}
 use Rattle.command_outcome.specs.declared.refusal.Refusal.TheVariants as refused
 use Rattle.core_commands.specs.Handing.{HasSpawnCause}
-use Rattle.settings_cmd.specs.Checks.{IsOfImage}
+use Rattle.settings_cmd.specs.Checks.{IsOfCheck}
 
 same_error : (y e : Refusal) → ◌≡◌ {A = Outcome} (Err y) (Err e) → y ≡ e
 same_error y e is = cc
 
--- A refusal of the image tells of no failure of the spawner, and of no door.
-pub cause_none : (outcome : Outcome) (x : ℕ) → IfErr outcome IsOfImage → HasSpawnCause x x outcome
+-- A refusal of a check tells of no failure of the spawner, and of no door.
+pub cause_none : (outcome : Outcome) (x : ℕ) → IfErr outcome IsOfCheck → HasSpawnCause x x outcome
 cause_none (Ok text) x of = record { later = omega arith; failed = λ name told. absurd (cc told); kept = λ not memory. refl; no_door = λ is. cc is }
 cause_none (Err refusal) x of = record {
   later = omega arith;
-  failed = λ name told. absurd (subst IsOfImage (same_error refusal (refused.Spawn name) told) of);
+  failed = λ name told. absurd (subst IsOfCheck (same_error refusal (refused.Spawn name) told) of);
   kept = λ not memory. refl;
-  no_door = λ is. subst IsOfImage (same_error refusal refused.Door is) of;
+  no_door = λ is. subst IsOfCheck (same_error refusal refused.Door is) of;
 }
 
 -- A failure that is reported under a name is one of the spawner.

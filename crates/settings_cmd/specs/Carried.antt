@@ -1,5 +1,5 @@
 -- What carrying out a command comes to, and what it does to the disk.
-use Rattle.std.specs.Prelude.{◌≡◌, ◌⊎◌, ℕ, Bool, false, List, [], ◌∷◌, ◌++◌, Option, Result, Ok, Err, IfOk, IfErr}
+use Rattle.std.specs.Prelude.{◌≡◌, ◌⊎◌, ℕ, Bool, true, false, List, [], ◌∷◌, ◌++◌, Option, Result, Ok, Err, IfOk, IfErr}
 use Rattle.outside.specs.History.{History, tree_of}
 use Rattle.outside.specs.Names.{Names}
 use Rattle.outside.specs.Told.{Moves, WhereTold}
@@ -34,6 +34,7 @@ use Rattle.settings_cmd.specs.Gets.{AnswersOpening}
 use Rattle.settings_cmd.specs.Handing.{HandsBeginning, HandsMoving}
 use Rattle.settings_cmd.specs.Prunes.{AnswersPruning}
 use Rattle.settings_cmd.specs.Releases.{IsReleaseIn, TellsOfRelease}
+use Rattle.settings_cmd.specs.StoreChecks.{IsStoreChecked}
 use Rattle.settings_cmd.specs.UserData.{data_tx, TellsOfData}
 
 -- What a command comes to, with the disk before and after, where the disk tells.
@@ -121,6 +122,11 @@ pub record IsPruned (outcome : Outcome) (d d' : Option History) : Type 0 where
 -- The image is reported on, and the disk is as before.
 abbrev pub IsChecked : Carrying
 IsChecked outcome d d' = WhereTold d (λ h. TellsOfImage (sources_in (tree_of h)) outcome) × (d' ≡ d)
+
+-- It is, or the image and the store are.
+abbrev pub IsCheckedWith : Bool → Carrying
+IsCheckedWith false = IsChecked
+IsCheckedWith true = IsStoreChecked
 
 -- ---- commands that make pairs of an open store
 

@@ -43,10 +43,8 @@ TellsOfImage files (Err refused.Disk) = ⊤
 TellsOfImage files (Err refused.Memory) = ⊤
 TellsOfImage files (Err _) = ⊥
 
--- Why not all files of an image are covered: it has a fault, or a file is not covered; or the disk or memory failed.
-abbrev pub IsOfImage : Refusal → Type 0
-IsOfImage (refused.NotCovered lines) = ⊤
-IsOfImage (refused.BadImage file kind at) = ⊤
-IsOfImage refused.Disk = ⊤
-IsOfImage refused.Memory = ⊤
-IsOfImage _ = ⊥
+-- Why a check is refused: no program has to do with it, and no door.
+abbrev pub IsOfCheck : Refusal → Type 0
+IsOfCheck (refused.Spawn name) = ⊥
+IsOfCheck refused.Door = ⊥
+IsOfCheck _ = ⊤

@@ -12,7 +12,7 @@ use Rattle.command_words.specs.Orders.{dump, restore, forget}
 use Rattle.core_commands.specs.Carried.{Carried as Commanded, set_requests, apply_requests}
 use Rattle.core_commands.specs.Lines.{IsSettingsLine, IsJobLine}
 use Rattle.core_commands.specs.Verifying.{HasVerified}
-use Rattle.settings_cmd.specs.Carried.{Carried, IsBegun, IsGot, IsChecked, IsMigrated, IsPruned, GeneratesOrNot, IsProvided, IsLoaded}
+use Rattle.settings_cmd.specs.Carried.{Carried, IsBegun, IsGot, IsCheckedWith, IsMigrated, IsPruned, GeneratesOrNot, IsProvided, IsLoaded}
 use Rattle.event_lines.specs.Logs.{LogState}
 use Rattle.settings_cmd.specs.Serving.{HasServed, HasAccepted}
 use Rattle.settings_cmd.specs.Stores.{IsDumped, IsForgotten, IsRestored}
@@ -62,7 +62,7 @@ Does (set pairs) outcome old new = Commanded (set_requests pairs) IsSettingsLine
 Does (get keys) outcome old new = Carried (IsGot keys) outcome old.disk new.disk
 Does (apply all) outcome old new = Commanded (apply_requests all) IsJobLine outcome old.runs new.runs old.disk new.disk
 Does verify outcome old new = Carried HasVerified outcome old.disk new.disk
-Does check outcome old new = Carried IsChecked outcome old.disk new.disk
+Does (check store) outcome old new = Carried (IsCheckedWith store) outcome old.disk new.disk
 Does (migrate to) outcome old new = IsMigrated to old.asked new.asked outcome old.disk new.disk
 Does prune outcome old new = Carried IsPruned outcome old.disk new.disk
 Does generate outcome old new = GeneratesOrNot old.asked new.asked outcome old.disk new.disk

@@ -9,5 +9,6 @@ pub mod Laws
 pub mod Prunes
 pub mod Releases
 pub mod Serving
+pub mod StoreChecks
 pub mod Stores
 pub mod UserData

@@ -9,7 +9,6 @@ ghost use Rattle.event_lines.specs.Logs.{log_state};
 ghost use Rattle.settings_cmd.specs.Does.{Does, devices, faults};
 
 use crate::beginning::begin;
-use crate::checking::check;
 use crate::dumping::dump;
 use crate::forgetting::forget;
 use crate::generating::generate;
@@ -19,6 +18,7 @@ use crate::provisioning::provision;
 use crate::pruning::prune_others;
 use crate::restoring::restore;
 use crate::serving::serve_store;
+use crate::store_checking::check_with;
 use api_server::Pace;
 use command_outcome::Refusal;
 use command_words::{Command, WordsError};
@@ -89,7 +89,7 @@ pub fn carry_out<D: Disk, S: Asker, N: Door, L: Sink>(
         Ok(Command::Get { keys }) => get(alloc, disk, &keys),
         Ok(Command::Apply { all }) => apply(alloc, all, disk, spawner),
         Ok(Command::Verify) => verify(alloc, disk),
-        Ok(Command::Check) => check(alloc, disk),
+        Ok(Command::Check { store }) => check_with(alloc, store, disk),
         Ok(Command::Migrate { to }) => migrate_to(alloc, disk, spawner, &to),
         Ok(Command::Prune) => prune_others(alloc, disk),
         Ok(Command::Generate) => generate(alloc, disk, spawner),

@@ -4,7 +4,7 @@ ghost use Rattle.outside.specs.History.{tree_of};
 ghost use Rattle.outside.specs.Told.{WhereTold};
 ghost use Rattle.outside.specs.Faults.{HasCauseOf};
 ghost use Rattle.store_image.specs.Paths.{sources_in};
-ghost use Rattle.settings_cmd.specs.Checks.{Reports, TellsOfImage, IsOfImage};
+ghost use Rattle.settings_cmd.specs.Checks.{Reports, TellsOfImage, IsOfCheck};
 ghost use Rattle.settings_cmd.specs.Handing.{HandsImage};
 
 use command_outcome::Refusal;
@@ -15,9 +15,9 @@ use std::alloc::Global;
 use store_image::{Image, ImageError, read_image};
 
 // Why there is no image to check.
-fn refused(error: ImageError) -> Result<Bytes, Refusal>
+pub(crate) fn refused(error: ImageError) -> Result<Bytes, Refusal>
     ensures hands { HandsImage error result }
-    ensures of_image { IfErr result IsOfImage }
+    ensures of_check { IfErr result IsOfCheck }
 {
     match error {
         ImageError::Bad { file, kind, at } => Err(Refusal::BadImage { file, kind, at }),
@@ -29,7 +29,7 @@ fn refused(error: ImageError) -> Result<Bytes, Refusal>
 // The lines of the files of the image, in the place of a refusal where one isn't covered.
 fn report(alloc: Global, image: &Image) -> Result<Bytes, Refusal>
     ensures reports { Reports image.now result }
-    ensures of_image { IfErr result IsOfImage }
+    ensures of_check { IfErr result IsOfCheck }
 {
     let checks = check_files(alloc, image)?;
     let lines = Bytes::of(lines_of(alloc, &checks)?);
@@ -48,7 +48,7 @@ fn report(alloc: Global, image: &Image) -> Result<Bytes, Refusal>
 pub(crate) fn check<D: Disk>(alloc: Global, disk: &mut D) -> Result<Bytes, Refusal>
     ensures same { D.told disk.new ≡ D.told disk.old }
     ensures tells { WhereTold (D.told disk.old) (λ h. TellsOfImage (sources_in (tree_of h)) result) }
-    ensures of_image { IfErr result IsOfImage }
+    ensures of_check { IfErr result IsOfCheck }
     ensures cause { HasCauseOf Refusal.Disk (D.faults disk.old) (D.faults disk.new) result }
 {
     match read_image(alloc, disk) {

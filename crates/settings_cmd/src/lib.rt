@@ -16,6 +16,7 @@ mod pruning;
 mod releasing;
 mod restoring;
 mod serving;
+mod store_checking;
 mod version_line;
 
 pub use carrying::carry_out;

@@ -8,7 +8,7 @@ use Rattle.settings_machine.specs.Plans.{first_in, refusing}
 use Rattle.settings_machine.specs.Step.{Next, stays, unless_refusing, answered}
 use Rattle.settings_machine.specs.PlanLaws.{guarded_files, GuardedRender, GuardRefuses, GuardsHold}
 use Rattle.settings_machine.proofs.Changed.{answered_changed}
-use Rattle.settings_machine.proofs.Refusing.{none_refuses, all_render, first_refuses, refused_first}
+use Rattle.settings_machine.proofs.RefusedFiles.{none_refuses, all_render, first_refuses, refused_first}
 
 abbrev Refusals : Type 0
 Refusals = List (List ℕ × RenderError)

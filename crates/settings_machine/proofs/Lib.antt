@@ -24,7 +24,7 @@ pub mod Settled
 pub mod Calming
 pub mod Newest
 pub mod Touching
-pub mod Refusing
+pub mod RefusedFiles
 pub mod AtOnce
 pub mod Guarding
 pub mod Changed

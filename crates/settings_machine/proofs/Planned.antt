@@ -26,7 +26,7 @@ use Rattle.settings_machine.proofs.Manifests.{HasGoodFiles, good_files}
 use Rattle.settings_machine.proofs.Lasting.{owed_known}
 use Rattle.settings_machine.proofs.PaidLaws.{no_file}
 use Rattle.settings_machine.proofs.Calming.{calm_jobs_end, applied_begins}
-use Rattle.settings_machine.proofs.Refusing.{all_render, first_refuses, refusing_among, among_refusing}
+use Rattle.settings_machine.proofs.RefusedFiles.{all_render, first_refuses, refusing_among, among_refusing}
 use Rattle.settings_machine.proofs.Changed.{none_changed, overlaid_changed}
 use Rattle.settings_machine.proofs.Written.{written_other, written_here}
 

@@ -20,7 +20,7 @@ pub use cause::Cause;
 pub use file::file_bytes;
 pub use job::{Job, JobStatus, Work, apply, begun, owes_none};
 pub use law::laws;
-pub use plan::{Plan, first_refusing, job_plan, path_of};
+pub use plan::{Plan, first_refusing, job_plan, path_of, refusing};
 pub use refusal::Refusal;
 pub use refused::refused_pair;
 pub use request::{Guard, Request};

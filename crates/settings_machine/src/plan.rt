@@ -64,8 +64,9 @@ pub fn first_refusing(
     Ok(None)
 }
 
-// Those of the files whose templates refuse on these live values, with why.
-fn refusing(
+/// Those of the files whose templates refuse on these live values, with why, in their order. It takes the time of `render` for each
+/// file, and the memory of one file at a time. The only error is out of memory.
+pub fn refusing(
     alloc: Global,
     templates: &Templates,
     os: &Os,

@@ -1,6 +1,6 @@
 -- What was made on a disk that tells, and what no event is.
 use Rattle.std.proofs.Common.{◌≡◌, inl, ⊎_elim, true, false, List, [], Result, Ok, Err, OnOk, refl, ap}
-use Rattle.outside.specs.History.{History, tree_of, EachImage}
+use Rattle.outside.specs.History.{History, tree_of, EachCrashState}
 use Rattle.outside.proofs.Told.{moves_same}
 use Rattle.settings_machine.specs.World.{Image, World, Idle, is_running}
 use Rattle.settings_machine.specs.Step.{with_job}
@@ -41,8 +41,8 @@ next_begins I folder X h disk = record {
     store = alike_store X (with_job X Idle) (tree_of h) alike disk.store;
     etc = record { each = disk.etc.each };
     image = disk.image;
-    images = λ c left. ⊎_elim (λ has. inl (alike_store X (with_job X Idle) c alike has)) (λ has. inl (alike_store X (with_job X Idle) c alike has))
-        (disk.images c left);
+    crash_states = λ c left. ⊎_elim (λ has. inl (alike_store X (with_job X Idle) c alike has)) (λ has. inl (alike_store X (with_job X Idle) c alike has))
+        (disk.crash_states c left);
     same_etc = refl;
     unsettled = disk.unsettled;
   };
@@ -69,7 +69,7 @@ module _ (order : Order) (I : Image) (good : IsGood I) (folder : Folder) (W : Wo
       goes_on : faulted_after false events ≡ false → Begins I folder (with_job (after I W events) Idle) new
       goes_on calm = next_begins I folder (after I W events) new (runs.settles calm)
 
-      recovers : faulted_after false events ≡ false → EachImage (Recovers I (after I W events)) new
+      recovers : faulted_after false events ≡ false → EachCrashState (Recovers I (after I W events)) new
       recovers calm c left = ⊎_elim (λ is. is) (λ is. is) (recovers_now I folder (after I W events) (after I W events) new (runs.settles calm) c left)
 
     -- A run of none.

@@ -21,11 +21,11 @@ use Rattle.migrate_chain.proofs.Migrated.{touched_since}
 use Rattle.store_events.proofs.Stays.{prunings_stay}
 use Rattle.command_outcome.specs.Ends.{Outcome}
 use Rattle.command_outcome.specs.declared.refusal.Refusal.TheVariants as refused
-use Rattle.command_words.specs.Orders.{Order, init, serve, set, get, apply, verify, check, prune, load}
+use Rattle.command_words.specs.Orders.{Order, init, serve, set, get, apply, verify, prune, load}
 use Rattle.core_commands.specs.Carried.{set_requests, apply_requests, FollowsOpening, CarriesOut, Carried as Commanded}
 use Rattle.core_commands.specs.Lines.{IsSettingsLine, IsJobLine}
 use Rattle.core_commands.specs.Verifying.{HasVerified}
-use Rattle.settings_cmd.specs.Carried.{Carried, IsBegun, IsGot, IsChecked, IsPruned, IsLoaded}
+use Rattle.settings_cmd.specs.Carried.{Carried, IsBegun, IsGot, IsPruned, IsLoaded}
 use Rattle.api_server.specs.declared.pace.Pace.{Pace}
 use Rattle.settings_cmd.specs.Serving.{FollowsOpening as FollowsServing, IsServed, HasServed}
 use Rattle.settings_cmd.specs.Does.{Devices, counts_of, pace_of}
@@ -59,10 +59,6 @@ module _ (b n : Devices) (outcome : Outcome) where
         subst (λ (h : History). RunsOver (init version) I folder W b n outcome old h) (sym same)
         (inl (untouched (init version) I good folder W b n outcome old at refl no_runs))
   inits version d d' no_runs (inr none) = unmoved (init version) d d' none.1 no_runs (λ I folder W h. refl)
-
-  pub checks : (d d' : Option History) → n.runs ≡ b.runs → Carried IsChecked outcome d d' → Moves d d' (RunsOverAll check b n outcome)
-  checks d d' no_runs (inl is) = unmoved check d d' is.1 no_runs (λ I folder W h. refl)
-  checks d d' no_runs (inr none) = unmoved check d d' none.1 no_runs (λ I folder W h. refl)
 
   pub prunes : (d d' : Option History) → n.runs ≡ b.runs → Carried IsPruned outcome d d' → Moves d d' (RunsOverAll prune b n outcome)
   prunes d d' no_runs (inl is) = moves_map (λ old new pruned I good folder image W at.

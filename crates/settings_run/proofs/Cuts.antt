@@ -4,7 +4,7 @@ use Rattle.std.proofs.Common.{refl, sym, ◌∙◌, ap, subst, arith, ◌∷◌,
 use Rattle.std.proofs.lemmas.Bool.{or_parts, false≢true}
 use Rattle.std.proofs.lemmas.List.{append-nil, append_cancel_left}
 use Rattle.outside.specs.Tree.{Tree}
-use Rattle.outside.specs.History.{History, IsImage}
+use Rattle.outside.specs.History.{History, IsCrashState}
 use Rattle.outside.specs.Since.{clock}
 use Rattle.settings_machine.specs.World.{Image, World}
 use Rattle.settings_machine.specs.Events.{Event, after, acknowledges_any}
@@ -40,13 +40,13 @@ no_more all (e ∷ lost) rest is =
     append_cancel_left all ((e ∷ lost) ++ rest) [] (sym (append_assoc all (e ∷ lost) rest) ∙ is ∙ sym (append-nil all)) in
     absurd (cc longer)
 
-module _ (order : Order) (I : Image) (folder : Folder) (W : World) (run : Invocation) (r : IsRunOf order I folder W run) (at : History) (image : Tree)
-    (later : IsLater run.old at) (more : IsLater at run.new) (left : IsImage at image) where
-  -- The events that are kept, and that the image recovers to the world after them.
+module _ (order : Order) (I : Image) (folder : Folder) (W : World) (run : Invocation) (r : IsRunOf order I folder W run) (at : History) (crashed : Tree)
+    (later : IsLater run.old at) (more : IsLater at run.new) (left : IsCrashState at crashed) where
+  -- The events that are kept, and that the tree recovers to the world after them.
   pub record Kept : Type 0 where
     pub events : List Event
     pub cut : IsCut order I folder W run r at events
-    pub recovers : Recovers I (after I W events) image
+    pub recovers : Recovers I (after I W events) crashed
 
   -- None of the first events is acknowledged of which none is.
   front : (X : World) (lost others : List Event) → acknowledges_any I X (lost ++ others) ≡ false → acknowledges_any I X lost ≡ false
@@ -78,8 +78,8 @@ module _ (order : Order) (I : Image) (folder : Folder) (W : World) (run : Invoca
       ended_well = λ well by. refl;
     };
     recovers = of_ok run.promised.outcome (r.crashes.ended_well ended.0.0)
-        (ended_well run.promised.outcome run.status run.output_before run.output_now run.promised.ends ended.0.1) image
-        (subst (λ (h : History). IsImage h image) (sym (same_moment (λ c. Unit {0}) at run.new more ended.1)) left);
+        (ended_well run.promised.outcome run.status run.output_before run.output_now run.promised.ends ended.0.1) crashed
+        (subst (λ (h : History). IsCrashState h crashed) (sym (same_moment (λ c. Unit {0}) at run.new more ended.1)) left);
   }
 
   has_ended : HasEnded ⊎ (HasEnded → ⊥)
@@ -92,7 +92,7 @@ module _ (order : Order) (I : Image) (folder : Folder) (W : World) (run : Invoca
     by false none status time = inr (λ ended. absurd (false≢true (sym none ∙ ended.0.0)))
 
   -- Of those that were made by then, the most are kept, but for some that were not acknowledged.
-  of_most : (HasEnded → ⊥) → (g : Greatest IsMade (length r.events)) → KeepsFirst I W W (first g.number) r.events image → Kept
+  of_most : (HasEnded → ⊥) → (g : Greatest IsMade (length r.events)) → KeepsFirst I W W (first g.number) r.events crashed → Kept
   of_most unended g (inl (recovers, none)) = record {
     events = [];
     cut = record {
@@ -123,10 +123,10 @@ module _ (order : Order) (I : Image) (folder : Folder) (W : World) (run : Invoca
   unended_kept unended = by (greatest IsMade (λ number. at_most _ _) (length r.events)) where
     by : Greatest IsMade (length r.events) ⊎ ((number : ℕ) → number ≤ length r.events → IsMade number → ⊥) → Kept
     by (inl g) = of_most unended g (since_at (KeepsFirst I W W (first g.number) r.events) (λ c. Unit {0}) (moment g.number).then_is at run.new
-        (moment g.number).keeps g.has more image left)
+        (moment g.number).keeps g.has more crashed left)
     by (inr none) =
-        let prefix : AtPrefix I W r.events image = since_at (AtPrefix I W r.events) (λ c. Unit {0}) run.old at run.new r.crashes.any_moment
-        (clock_later (λ c. Unit {0}) run.old at later) more image left in
+        let prefix : AtPrefix I W r.events crashed = since_at (AtPrefix I W r.events) (λ c. Unit {0}) run.old at run.new r.crashes.any_moment
+        (clock_later (λ c. Unit {0}) run.old at later) more crashed left in
         record {
           events = prefix.first;
           cut = record {

@@ -53,6 +53,8 @@ disk_alone (refused.Dump kind at) is = absurd (omega (arith, is))
 disk_alone (refused.MigrationStatus name number) is = absurd (omega (arith, is))
 disk_alone (refused.MigrationOutput name) is = absurd (omega (arith, is))
 disk_alone (refused.NotCurrent lines) is = absurd (omega (arith, is))
+disk_alone (refused.HoldsIllTyped lines) is = absurd (omega (arith, is))
+disk_alone (refused.WouldNotRender lines) is = absurd (omega (arith, is))
 
 rose : (outcome : Outcome) {P : Type 0} → (IsErrOf outcome refused.Disk → P) → status_in outcome ≡ 3 → P
 rose (Ok text) failed is = absurd (omega (arith, is))

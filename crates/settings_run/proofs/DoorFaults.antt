@@ -34,6 +34,8 @@ door_alone (refused.Dump kind at) is = absurd (omega (arith, is))
 door_alone (refused.MigrationStatus name number) is = absurd (omega (arith, is))
 door_alone (refused.MigrationOutput name) is = absurd (omega (arith, is))
 door_alone (refused.NotCurrent lines) is = absurd (omega (arith, is))
+door_alone (refused.HoldsIllTyped lines) is = absurd (omega (arith, is))
+door_alone (refused.WouldNotRender lines) is = absurd (omega (arith, is))
 door_alone (refused.Spawn name) is = absurd (omega (arith, is))
 
 rose : (outcome : Outcome) {P : Type 0} → (IsErrOf outcome refused.Door → P) → status_in outcome ≡ 4 → P
@@ -75,6 +77,8 @@ not_done (refused.Dump kind at) is = omega (arith, is)
 not_done (refused.MigrationStatus name number) is = omega (arith, is)
 not_done (refused.MigrationOutput name) is = omega (arith, is)
 not_done (refused.NotCurrent lines) is = omega (arith, is)
+not_done (refused.HoldsIllTyped lines) is = omega (arith, is)
+not_done (refused.WouldNotRender lines) is = omega (arith, is)
 not_done (refused.Spawn name) is = omega (arith, is)
 
 fine : (outcome : Outcome) → status_in outcome ≡ 0 → IsOk outcome

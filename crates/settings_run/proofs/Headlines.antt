@@ -8,7 +8,8 @@ use Rattle.settings_cmd.specs.Carried.{Carried, IsMisused, RunsNothing}
 use Rattle.settings_cmd.specs.Does.{Devices, Does}
 use Rattle.settings_run.specs.Headline.{HasCauses, RunsOverAll, Headline}
 use Rattle.settings_run.proofs.Beginnings.{begins_store, restores_store}
-use Rattle.settings_run.proofs.Commands.{inits, checks, prunes, sets, applies, verifies, gets, serves, loads}
+use Rattle.settings_run.proofs.Commands.{inits, prunes, sets, applies, verifies, gets, serves, loads}
+use Rattle.settings_run.proofs.Checks.{checks}
 use Rattle.settings_run.proofs.Stores.{dumps, restores, forgets}
 use Rattle.settings_run.proofs.Inputs.{generates, provides}
 use Rattle.settings_run.proofs.Moves.{migrates}
@@ -33,8 +34,8 @@ module _ (words : List (List ℕ)) (outcome : Outcome) (b n : Devices) (unrun : 
   runs (apply all) spells = applies b n outcome all b.disk n.disk (does (apply all) spells)
   runs verify spells =
       verifies b n outcome (unrun (verify_runs_nothing words spells)) b.disk n.disk (does verify spells)
-  runs check spells =
-      checks b n outcome b.disk n.disk (unrun (check_runs_nothing words spells)) (does check spells)
+  runs (check store) spells =
+      checks b n outcome (unrun (check_runs_nothing words store spells)) store b.disk n.disk (does (check store) spells)
   runs (migrate to) spells =
       migrates b n (unrun (migrate_runs_nothing words to spells)) to outcome b.disk n.disk
       (does (migrate to) spells)

@@ -1,7 +1,7 @@
 -- One moment of a run, and the last number that has come by then.
 use Rattle.std.proofs.Common.{◌≡◌, ◌⊎◌, inl, inr, ℕ, zero, suc, ◌≤◌, List, [], ◌∷◌, ◌++◌, take, refl, ap, subst, arith}
 use Rattle.outside.specs.Tree.{Tree}
-use Rattle.outside.specs.History.{History, begun, next, EachImage}
+use Rattle.outside.specs.History.{History, begun, next, EachCrashState}
 use Rattle.outside.specs.Since.{EachSince, clock}
 
 -- The clock never falls from one moment to a later one.
@@ -11,9 +11,9 @@ clock_later P old (next change h) (inl is, here) = let e = ap clock is in omega 
 clock_later P old (next change h) (inr more, here) = let le = clock_later P old h more in omega arith
 
 -- What each crash state has since a moment, those of a later moment have.
-pub since_at : (P Q : Tree → Type 0) (old at new : History) → EachSince P old new → clock old ≤ clock at → EachSince Q at new → EachImage P at
-since_at P Q old at (begun tree) (is, here) le (same, any) = subst (EachImage P) same here
-since_at P Q old at (next change h) (any, here) le (inl same, some) = subst (EachImage P) same here
+pub since_at : (P Q : Tree → Type 0) (old at new : History) → EachSince P old new → clock old ≤ clock at → EachSince Q at new → EachCrashState P at
+since_at P Q old at (begun tree) (is, here) le (same, any) = subst (EachCrashState P) same here
+since_at P Q old at (next change h) (any, here) le (inl same, some) = subst (EachCrashState P) same here
 since_at P Q old at (next change h) (inl is, here) le (inr more, some) =
     let e = ap clock is in let later = clock_later Q at h more in absurd (omega arith)
 since_at P Q old at (next change h) (inr since, rest) le (inr more, some) = since_at P Q old at h since le more

@@ -8,6 +8,7 @@ pub mod Answered
 pub mod Beginnings
 pub mod Commands
 pub mod Moves
+pub mod Checks
 pub mod Stores
 pub mod Inputs
 pub mod Words

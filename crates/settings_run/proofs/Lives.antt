@@ -6,8 +6,8 @@ use Rattle.std.proofs.lemmas.List.{append-nil}
 use Rattle.outside.specs.Names.{Names}
 use Rattle.outside.specs.Told.{BothBy, Moves}
 use Rattle.outside.specs.Tree.{Tree, file_in, link_in}
-use Rattle.outside.specs.History.{synced, History, begun, next as further, tree_of, IsImage, IsSettledOn}
-use Rattle.outside.proofs.Crash.{settled_synced, tree_is_image}
+use Rattle.outside.specs.History.{synced, History, begun, next as further, tree_of, IsCrashState, IsSettledOn}
+use Rattle.outside.proofs.Crash.{settled_synced, tree_is_crash_state}
 use Rattle.outside.proofs.Since.{since_now}
 use Rattle.settings_tree.specs.declared.entry.Owed.{Owed}
 use Rattle.settings_tree.specs.declared.entry.Owed.TheVariants.{All}
@@ -142,33 +142,33 @@ module _ (order : Order) (I : Image) (folder : Folder) (W : World) (run : Invoca
     run_kept Left ends = record { events = r.events; keeps = refl; leaves = at_end }
     run_kept Synced ends = record { events = r.events; keeps = refl; leaves = at_end }
     run_kept (Killed at) ends =
-        let k : Kept order I folder W run r at (tree_of at) ends.0 ends.1 (tree_is_image at) =
-        kept order I folder W run r at (tree_of at) ends.0 ends.1 (tree_is_image at) in
+        let k : Kept order I folder W run r at (tree_of at) ends.0 ends.1 (tree_is_crash_state at) =
+        kept order I folder W run r at (tree_of at) ends.0 ends.1 (tree_is_crash_state at) in
         record { events = k.events; keeps = k.cut; leaves = leaves k.events k.cut.rest k.cut.whole (tree_of at) k.recovers }
-    run_kept (Crashed at image) ends =
-        let k : Kept order I folder W run r at image ends.0 ends.1 ends.2 = kept order I folder W run r at image ends.0 ends.1 ends.2 in
-        record { events = k.events; keeps = k.cut; leaves = leaves k.events k.cut.rest k.cut.whole image k.recovers }
+    run_kept (Crashed at crashed) ends =
+        let k : Kept order I folder W run r at crashed ends.0 ends.1 ends.2 = kept order I folder W run r at crashed ends.0 ends.1 ends.2 in
+        record { events = k.events; keeps = k.cut; leaves = leaves k.events k.cut.rest k.cut.whole crashed k.recovers }
 
   module _ (fails : FailsToChange order I folder W run.before run.now run.promised.outcome run.old run.new) where
     abbrev Either : Tree → Type 0
-    Either image = LeavesFiles I W [] image ⊎ ((events : List Event) × ChangesBy order folder W events × LeavesFiles I W events image)
+    Either crashed = LeavesFiles I W [] crashed ⊎ ((events : List Event) × ChangesBy order folder W events × LeavesFiles I W events crashed)
 
     either_kept : (ending : Ending) → Either (tree_of (disk_after run.new ending)) → Kept_of order I folder W run rests (inr fails) ending
     either_kept ending (inl stays) = record { events = []; keeps = inl refl; leaves = stays }
     either_kept ending (inr moves) = record { events = moves.0; keeps = inr moves.1; leaves = moves.2 }
 
     now : Either (tree_of run.new)
-    now = since_now Either run.old run.new fails.any_moment (tree_of run.new) (tree_is_image run.new)
+    now = since_now Either run.old run.new fails.any_moment (tree_of run.new) (tree_is_crash_state run.new)
 
-    then_left : (at : History) (image : Tree) → IsLater run.old at → IsLater at run.new → IsImage at image → Either image
-    then_left at image before now left =
-        since_at Either (λ c. Unit {0}) run.old at run.new fails.any_moment (clock_later (λ c. Unit {0}) run.old at before) now image left
+    then_left : (at : History) (crashed : Tree) → IsLater run.old at → IsLater at run.new → IsCrashState at crashed → Either crashed
+    then_left at crashed before now left =
+        since_at Either (λ c. Unit {0}) run.old at run.new fails.any_moment (clock_later (λ c. Unit {0}) run.old at before) now crashed left
 
     fails_kept : (ending : Ending) → Ends I folder run.old run.new ending → Kept_of order I folder W run rests (inr fails) ending
     fails_kept Left ends = either_kept Left now
     fails_kept Synced ends = either_kept Synced now
-    fails_kept (Killed at) ends = either_kept (Killed at) (then_left at (tree_of at) ends.0 ends.1 (tree_is_image at))
-    fails_kept (Crashed at image) ends = either_kept (Crashed at image) (then_left at image ends.0 ends.1 ends.2)
+    fails_kept (Killed at) ends = either_kept (Killed at) (then_left at (tree_of at) ends.0 ends.1 (tree_is_crash_state at))
+    fails_kept (Crashed at crashed) ends = either_kept (Crashed at crashed) (then_left at crashed ends.0 ends.1 ends.2)
 
   next_run : (is : RunsOver order I folder W run.before run.now run.promised.outcome run.old run.new) (ending : Ending)
       → Ends I folder run.old run.new ending → Next order I folder W run rests is ending

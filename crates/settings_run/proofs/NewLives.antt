@@ -2,9 +2,9 @@
 use Rattle.std.proofs.Common.{◌≡◌, ◌⊎◌, inl, inr, ◌≤◌, ⊎_elim, true, List, [], ◌∷◌, Ok, Err, OnOk, refl, sym, ◌∙◌, subst}
 use Rattle.outside.specs.Names.{Names}
 use Rattle.outside.specs.Tree.{Tree}
-use Rattle.outside.specs.History.{History, begun, next as further, tree_of, synced, IsImage}
+use Rattle.outside.specs.History.{History, begun, next as further, tree_of, synced, IsCrashState}
 use Rattle.outside.specs.Since.{EachSince, clock}
-use Rattle.outside.proofs.Crash.{settled_image, settled_synced, tree_is_image}
+use Rattle.outside.proofs.Crash.{settled_state, settled_synced, tree_is_crash_state}
 use Rattle.outside.proofs.Since.{since_now, since_start}
 use Rattle.version_links.specs.Chain.{Resolves, nowhere}
 use Rattle.version_links.specs.declared.version.Version.{Version}
@@ -41,7 +41,7 @@ same_image I folder X h other same disk = record {
     store = disk.store;
     etc = disk.etc;
     image = λ path e. disk.image path e ∙ same path e;
-    images = disk.images;
+    crash_states = disk.crash_states;
     same_etc = disk.same_etc;
     unsettled = disk.unsettled;
   };
@@ -50,12 +50,12 @@ same_image I folder X h other same disk = record {
 -- What each crash state and the end of a run have, the disk has with which the next one begins.
 left_at : (I : Image) (folder : Folder) (run : Invocation) (P : Tree → Type 0) → EachSince P run.old run.new → (ending : Ending)
     → Ends I folder run.old run.new ending → P (tree_of (disk_after run.new ending))
-left_at I folder run P each Left ends = since_now P run.old run.new each (tree_of run.new) (tree_is_image run.new)
-left_at I folder run P each Synced ends = since_now P run.old run.new each (tree_of run.new) (tree_is_image run.new)
+left_at I folder run P each Left ends = since_now P run.old run.new each (tree_of run.new) (tree_is_crash_state run.new)
+left_at I folder run P each Synced ends = since_now P run.old run.new each (tree_of run.new) (tree_is_crash_state run.new)
 left_at I folder run P each (Killed at) ends =
-    since_at P (λ c. Unit {0}) run.old at run.new each (clock_later (λ c. Unit {0}) run.old at ends.0) ends.1 (tree_of at) (tree_is_image at)
-left_at I folder run P each (Crashed at image) ends =
-    since_at P (λ c. Unit {0}) run.old at run.new each (clock_later (λ c. Unit {0}) run.old at ends.0) ends.1 image ends.2
+    since_at P (λ c. Unit {0}) run.old at run.new each (clock_later (λ c. Unit {0}) run.old at ends.0) ends.1 (tree_of at) (tree_is_crash_state at)
+left_at I folder run P each (Crashed at crashed) ends =
+    since_at P (λ c. Unit {0}) run.old at run.new each (clock_later (λ c. Unit {0}) run.old at ends.0) ends.1 crashed ends.2
 
 module _ (I : Image) (folder : Folder) (W : World) (run : Invocation) (empty : IsEmpty I folder W run.old) (version : Version) (held : Held)
     (begins : BeginsStore (Moved version held) run.promised.outcome run.old run.new) where
@@ -104,12 +104,12 @@ module _ (I : Image) (folder : Folder) (W : World) (run : Invocation) (empty : I
   }
 
   -- Where it had ended well by then, a store is there.
-  at_end : (at : History) (c : Tree) → IsLater at run.new → clock run.new ≤ clock at → IsImage at c → Resolves c nowhere → OnOk run.promised.outcome ⊥
+  at_end : (at : History) (c : Tree) → IsLater at run.new → clock run.new ≤ clock at → IsCrashState at c → Resolves c nowhere → OnOk run.promised.outcome ⊥
   at_end at c now le left none = by run.promised.outcome (begins.each I empty.good W empty.bare).1 where
     by : (o : Outcome) → OnOk o (HasBegun I (bytes_at (tree_of run.old)) N run.new) → OnOk o ⊥
     by (Ok line) has =
         let same : run.new ≡ at = same_moment (λ t. Unit {0}) at run.new now le in
-        let recovers : Recovers I N c = has.at_exit c (subst (λ (h : History). IsImage h c) (sym same) left) in
+        let recovers : Recovers I N c = has.at_exit c (subst (λ (h : History). IsCrashState h c) (sym same) left) in
         not_nowhere N c recovers.store none
     by (Err e) has = tt
 
@@ -130,7 +130,7 @@ module _ (I : Image) (folder : Folder) (W : World) (run : Invocation) (empty : I
     by (Ok line) has = not_nowhere N (tree_of run.new) has.disk.store none
     by (Err e) has = tt
   still (Killed at) ends none = (
-    record { none = none; fails = λ le. at_end at (tree_of at) ends.1 le (tree_is_image at) none },
+    record { none = none; fails = λ le. at_end at (tree_of at) ends.1 le (tree_is_crash_state at) none },
     record {
       good = empty.good;
       made = empty.made;
@@ -224,7 +224,7 @@ module _ (I : Image) (folder : Folder) (W : World) (run : Invocation) (empty : I
       bare : EachSince (λ c. Resolves c nowhere) run.old run.new
       bare = subst (EachSince (λ c. Resolves c nowhere) run.old) (sym same)
           (since_start (λ c. Resolves c nowhere) run.old
-          (λ c left. subst (λ (t : Tree). Resolves t nowhere) (sym (settled_image run.old empty.bare.settled c left)) empty.bare.none))
+          (λ c left. subst (λ (t : Tree). Resolves t nowhere) (sym (settled_state run.old empty.bare.settled c left)) empty.bare.none))
 
   starts_by : (order : Order) → IsToBegin order → Spells run.words order → MayEnd I folder order run ending → Starts I folder W run order ending
   starts_by (init version) begins spells may = init_starts version spells may
@@ -238,7 +238,7 @@ module _ (I : Image) (folder : Folder) (W : World) (run : Invocation) (empty : I
   starts_by (get keys) begins spells may = absurd begins
   starts_by (apply all) begins spells may = absurd begins
   starts_by verify begins spells may = absurd begins
-  starts_by check begins spells may = absurd begins
+  starts_by (check store) begins spells may = absurd begins
   starts_by (migrate to) begins spells may = absurd begins
   starts_by prune begins spells may = absurd begins
   starts_by (load count) begins spells may = absurd begins

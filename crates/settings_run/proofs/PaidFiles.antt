@@ -18,8 +18,8 @@ stands_paid I X file paid = record {
   current = λ none. ⊎_elim (λ current. current) (λ is. absurd (no_file I file (due I X.held) none is)) paid.now;
 }
 
-pub leaves_files : (I : Image) (W : World) (events : List Event) (image : Tree) → LeavesPaid I W events image → LeavesFiles I W events image
-leaves_files I W events image leaves = record {
+pub leaves_files : (I : Image) (W : World) (events : List Event) (crashed : Tree) → LeavesPaid I W events crashed → LeavesFiles I W events crashed
+leaves_files I W events crashed leaves = record {
   recovers = leaves.recovers;
   stand = λ file covered was X is. stands_paid I X file (leaves.paid file covered was X is);
 }
@@ -28,7 +28,7 @@ pub files_paid : (I : Image) (folder : Folder) (W : World) (events : List Event)
     → FilesArePaid I W events old new
 files_paid I folder W events old new runs = record {
   any_prefix = λ first rest whole file covered was. stands_paid I _ file (runs.paid first rest whole file covered was);
-  any_moment = since_map (AtPaidPrefix I W events) (λ image. (first : List Event) × (rest : List Event) × (events ≡ first ++ rest)
-      × LeavesFiles I W first image) old new
-      (λ image at. (at.first, at.rest, at.whole, leaves_files I W at.first image at.leaves)) runs.image_paid;
+  any_moment = since_map (AtPaidPrefix I W events) (λ crashed. (first : List Event) × (rest : List Event) × (events ≡ first ++ rest)
+      × LeavesFiles I W first crashed) old new
+      (λ crashed at. (at.first, at.rest, at.whole, leaves_files I W at.first crashed at.leaves)) runs.crash_paid;
 }

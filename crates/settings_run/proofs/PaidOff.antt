@@ -61,7 +61,7 @@ module _ (run : Invocation) (I : Image) (folder : Folder) (W : World) (rests : R
   by_order (serve boot slice while_idle connections quiet) to_apply is = absurd (false≢true to_apply)
   by_order (get keys) to_apply is = absurd (false≢true to_apply)
   by_order verify to_apply is = absurd (false≢true to_apply)
-  by_order check to_apply is = absurd (false≢true to_apply)
+  by_order (check store) to_apply is = absurd (false≢true to_apply)
   by_order (migrate to) to_apply is = absurd (false≢true to_apply)
   by_order prune to_apply is = absurd (false≢true to_apply)
   by_order (load count) to_apply is = absurd (false≢true to_apply)

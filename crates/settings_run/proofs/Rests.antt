@@ -2,8 +2,8 @@
 use Rattle.std.proofs.Common.{◌≡◌, ◌≢◌, inl, inr, ⊎_elim, ℕ, Bool, true, false, List, [], ◌∷◌, codes, get_or, nat_eq, true≢false, refl, sym, ◌∙◌, ap, subst}
 use Rattle.outside.specs.Names.{Names, is_below}
 use Rattle.outside.specs.Tree.{Tree, node_at, file_in}
-use Rattle.outside.specs.History.{History, tree_of, MayLeave, IsImage, IsSettled, IsSettledOn}
-use Rattle.outside.proofs.Crash.{settled_image, tree_is_image}
+use Rattle.outside.specs.History.{History, tree_of, MayLeave, IsCrashState, IsSettled, IsSettledOn}
+use Rattle.outside.proofs.Crash.{settled_state, tree_is_crash_state}
 use Rattle.outside.proofs.Goes.{may_leave_untouched}
 use Rattle.settings_tree.specs.declared.held.Held.{Held}
 use Rattle.version_links.specs.Chain.{Resolves, found}
@@ -42,7 +42,7 @@ module _ (I : Image) (folder : Folder) (X : World) (h : History) (store : HasSto
         store = store;
         etc = files;
         image = disk.image;
-        images = λ c left. inl (store_alike X Y c same (⊎_elim (λ has. has) (λ has. has) (disk.images c left)));
+        crash_states = λ c left. inl (store_alike X Y c same (⊎_elim (λ has. has) (λ has. has) (disk.crash_states c left)));
         same_etc = refl;
         unsettled = λ path node e left. ⊎_elim
             (λ is. inl (is ∙ sym (disk.etc.each path e) ∙ files.each path e))
@@ -56,7 +56,7 @@ module _ (I : Image) (folder : Folder) (X : World) (h : History) (store : HasSto
     store = store;
     etc = files;
     image = image;
-    images = λ c left. inl (subst (HasStore X) (sym (settled_image h settled c left)) store);
+    crash_states = λ c left. inl (subst (HasStore X) (sym (settled_state h settled c left)) store);
     same_etc = refl;
     unsettled = λ path node e left. inl (ap file_in (settled path node left) ∙ files.each path e);
   }
@@ -107,26 +107,26 @@ abbrev pub Ends : Image → Folder → History → History → Ending → Type 0
 Ends I folder old new Left = IsAtOne I folder new
 Ends I folder old new Synced = Unit {0}
 Ends I folder old new (Killed at) = IsLater old at × IsLater at new
-Ends I folder old new (Crashed at image) = IsLater old at × IsLater at new × IsImage at image
+Ends I folder old new (Crashed at crashed) = IsLater old at × IsLater at new × IsCrashState at crashed
 
 -- ---- a part of the paths that a run leaves alone
 
 module _ (part : Names → Bool) (P : Names → Type 0) (apart : (path : Names) → part path ≡ true → P path → ⊥) (I : Image) (folder : Folder)
     (old new : History) (only : ChangesOnly P old new) (settled : IsSettledOn part old) where
-  left_at : (at : History) (image : Tree) → IsLater old at → IsLater at new → IsImage at image → (path : Names) → part path ≡ true
-      → bytes_at image path ≡ bytes_at (tree_of old) path
-  left_at at image before now left path e =
-      ap file_in (settled.at path e (node_at image path)
-      (since_at (λ (c : Tree). MayLeave old path (node_at c path)) (λ c. Unit {0}) old at new (only.images path (apart path e))
-      (clock_later (λ c. Unit {0}) old at before) now image left))
+  left_at : (at : History) (crashed : Tree) → IsLater old at → IsLater at new → IsCrashState at crashed → (path : Names) → part path ≡ true
+      → bytes_at crashed path ≡ bytes_at (tree_of old) path
+  left_at at crashed before now left path e =
+      ap file_in (settled.at path e (node_at crashed path)
+      (since_at (λ (c : Tree). MayLeave old path (node_at c path)) (λ c. Unit {0}) old at new (only.crash_states path (apart path e))
+      (clock_later (λ c. Unit {0}) old at before) now crashed left))
 
   -- Its files are as they were, however the run ended,
   pub part_stays : (ending : Ending) → Ends I folder old new ending → (path : Names) → part path ≡ true
       → bytes_at (tree_of (disk_after new ending)) path ≡ bytes_at (tree_of old) path
   part_stays Left ends path e = ap file_in (only.tree path (apart path e))
   part_stays Synced ends path e = ap file_in (only.tree path (apart path e))
-  part_stays (Killed at) ends path e = left_at at (tree_of at) ends.0 ends.1 (tree_is_image at) path e
-  part_stays (Crashed at image) ends path e = left_at at image ends.0 ends.1 ends.2 path e
+  part_stays (Killed at) ends path e = left_at at (tree_of at) ends.0 ends.1 (tree_is_crash_state at) path e
+  part_stays (Crashed at crashed) ends path e = left_at at crashed ends.0 ends.1 ends.2 path e
 
   -- and a crash leaves them so.
   pub part_settled : (ending : Ending) → IsSettledOn part (disk_after new ending)
@@ -136,7 +136,7 @@ module _ (part : Names → Bool) (P : Names → Type 0) (apart : (path : Names) 
   }
   part_settled Synced = record { at = λ path e node may. may }
   part_settled (Killed at) = record { at = λ path e node may. may }
-  part_settled (Crashed at image) = record { at = λ path e node may. may }
+  part_settled (Crashed at crashed) = record { at = λ path e node may. may }
 
 -- A run touches no file of the image.
 pub run_apart : (order : Order) (I : Image) (events : List Event) (W : World) (tree : Tree) (store : HasStore W tree) (path : Names)

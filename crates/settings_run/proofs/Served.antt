@@ -76,6 +76,8 @@ module _ (I : Image) (W : World) (qs : List Request) where
   comes_served Tells (Err (refused.MigrationStatus name number)) asked turned comes = absurd comes
   comes_served Tells (Err (refused.MigrationOutput name)) asked turned comes = absurd comes
   comes_served Tells (Err (refused.NotCurrent lines)) asked turned comes = absurd comes
+  comes_served Tells (Err (refused.HoldsIllTyped lines)) asked turned comes = absurd comes
+  comes_served Tells (Err (refused.WouldNotRender lines)) asked turned comes = absurd comes
 
 -- ---- commits of pairs
 
@@ -121,6 +123,8 @@ module _ (I : Image) (W : World) (tx : List ℕ) (pairs : List (Key × Scalar)) 
   commits_plain (Err (refused.MigrationStatus name number)) events comes = absurd comes
   commits_plain (Err (refused.MigrationOutput name)) events comes = absurd comes
   commits_plain (Err (refused.NotCurrent lines)) events comes = absurd comes
+  commits_plain (Err (refused.HoldsIllTyped lines)) events comes = absurd comes
+  commits_plain (Err (refused.WouldNotRender lines)) events comes = absurd comes
 
 -- ---- connections
 

@@ -57,6 +57,8 @@ spawn_alone (refused.Dump kind at) is = absurd (omega (arith, is))
 spawn_alone (refused.MigrationStatus name number) is = absurd (omega (arith, is))
 spawn_alone (refused.MigrationOutput name) is = absurd (omega (arith, is))
 spawn_alone (refused.NotCurrent lines) is = absurd (omega (arith, is))
+spawn_alone (refused.HoldsIllTyped lines) is = absurd (omega (arith, is))
+spawn_alone (refused.WouldNotRender lines) is = absurd (omega (arith, is))
 
 rose : (outcome : Outcome) {P : Type 0} → ((name : List ℕ) → IsErrOf outcome (refused.Spawn name) → P) → status_in outcome ≡ 5 → P
 rose (Ok text) failed is = absurd (omega (arith, is))

@@ -24,7 +24,7 @@ pub changes_only : (P : Names → Type 0) (old new : History) → Touches P old 
 changes_only P old new touches = record {
   touches = touches;
   tree = λ path apart. tree_untouched P old new touches path apart;
-  images = λ path apart. since_untouched_at P path apart old new touches;
+  crash_states = λ path apart. since_untouched_at P path apart old new touches;
 }
 
 -- Nothing happened.
@@ -79,7 +79,7 @@ touches_within (set pairs) I events tree version directory leads path may = chan
 touches_within (get keys) I events tree version directory leads path may = change_within I events tree version directory leads path may
 touches_within (apply all) I events tree version directory leads path may = change_within I events tree version directory leads path may
 touches_within verify I events tree version directory leads path may = change_within I events tree version directory leads path may
-touches_within check I events tree version directory leads path may = absurd may
+touches_within (check store) I events tree version directory leads path may = absurd may
 touches_within (migrate to) I events tree version directory leads path may = inl may
 touches_within prune I events tree version directory leads path may = inl (other_in_store directory path may)
 touches_within (load count) I events tree version directory leads path may = absurd may

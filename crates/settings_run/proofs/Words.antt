@@ -1,5 +1,5 @@
 -- Words that order this order nothing else.
-use Rattle.std.proofs.Common.{◌≡◌, ℕ, true, false, List, [], ◌∷◌, codes, refl, sym, ◌∙◌}
+use Rattle.std.proofs.Common.{◌≡◌, ℕ, Bool, true, false, List, [], ◌∷◌, codes, refl, sym, ◌∙◌}
 use Rattle.std.specs.Str.{bytes_eq}
 use Rattle.std.proofs.lemmas.Slice.Eq.{bytes_eq-Decides}
 use Rattle.version_links.specs.declared.version.Version.{Version}
@@ -38,8 +38,8 @@ module _ (words : List (List ℕ)) where
   verify_runs_nothing spells = runs_nothing words verify spells
       (differs (codes "verify") (codes "serve") refl) (differs (codes "verify") (codes "set") refl) (differs (codes "verify") (codes "apply") refl)
 
-  pub check_runs_nothing : Spells words check → RunsNothing words
-  check_runs_nothing spells = runs_nothing words check spells
+  pub check_runs_nothing : (store : Bool) → Spells words (check store) → RunsNothing words
+  check_runs_nothing store spells = runs_nothing words (check store) spells
       (differs (codes "check") (codes "serve") refl) (differs (codes "check") (codes "set") refl) (differs (codes "check") (codes "apply") refl)
 
   pub migrate_runs_nothing : (to : Version) → Spells words (migrate to) → RunsNothing words

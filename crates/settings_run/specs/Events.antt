@@ -1,5 +1,5 @@
 -- The events of each command, by what it came to.
-use Rattle.std.specs.Prelude.{◌≡◌, ◌⊎◌, ◌++◌, List, [], ◌∷◌, codes, Some, None, Ok, Err}
+use Rattle.std.specs.Prelude.{◌≡◌, ◌⊎◌, ◌++◌, ⊤, Bool, true, false, List, [], ◌∷◌, codes, Some, None, Ok, Err}
 use Rattle.serde_json.specs.Written.{compact_text}
 use Rattle.outside.specs.History.{History}
 use Rattle.held_text.specs.HeldText.{keys_data}
@@ -13,7 +13,9 @@ use Rattle.version_links.specs.declared.version.Version.{Version}
 use Rattle.version_links.specs.Versions.{version_text}
 use Rattle.release_file.specs.declared.release.Release.{Release}
 use Rattle.migrate_chain.specs.Tasks.{Mapped}
+use Rattle.store_image.specs.declared.image.Image as own
 use Rattle.store_open.specs.Forgetting.{first_unheld}
+use Rattle.store_open.specs.Laws.{HoldsImage}
 use Rattle.store_events.specs.Laws.{MoveEvents, forgot}
 use Rattle.command_outcome.specs.Ends.{Outcome}
 use Rattle.command_outcome.specs.declared.refusal.Refusal.TheVariants as refused
@@ -23,6 +25,7 @@ use Rattle.core_commands.specs.Carried.{set_requests, apply_requests}
 use Rattle.core_commands.specs.Lines.{IsSettingsLine, IsJobLine}
 use Rattle.settings_cmd.specs.Does.{Devices, counts_of, pace_of}
 use Rattle.settings_cmd.specs.Releases.{IsReleaseIn}
+use Rattle.settings_cmd.specs.StoreChecks.{IsHeldReport}
 use Rattle.settings_run.specs.Laws.{RequestEvents, ServeEvents, LogsAll, GetEvents, VerifyEvents, GenerateEvents, ProvisionEvents}
 
 -- The release of the image, and what its migrations made, led from W to the version by these events: one, or none where the store was there
@@ -51,6 +54,25 @@ ForgetEvents W keys (Ok line) events =
 ForgetEvents W keys (Err (refused.Refused (NoKey key))) events = (first_unheld W.held keys ≡ Some key) × (events ≡ [])
 ForgetEvents W keys (Err refusal) events = events ≡ []
 
+-- The image that was read is the machine's, and the report is on it and on what the world holds, which is of format 2.
+pub record ReportsOn (I : Image) (W : World) (outcome : Outcome) : Type 0 where
+  pub image : own.Image
+  pub holds : HoldsImage I image
+  pub format : W.format ≡ 2
+  pub report : IsHeldReport image W.held outcome
+
+-- The disk or memory failed, or the store is of format 1.
+abbrev pub IsUnreported : World → Outcome → Type 0
+IsUnreported W (Err refused.Disk) = ⊤
+IsUnreported W (Err refused.Memory) = ⊤
+IsUnreported W (Err (refused.OldFormat directory)) = W.format ≡ 1
+IsUnreported W _ = ⊥
+
+-- A check is no event. With the store it tells of the machine's image and of the world.
+abbrev pub CheckEvents : Bool → Image → World → Outcome → List Event → Type 0
+CheckEvents false I W outcome events = events ≡ []
+CheckEvents true I W outcome events = (ReportsOn I W outcome ⊎ IsUnreported W outcome) × (events ≡ [])
+
 -- It ran out of memory before anything was done.
 abbrev pub IsUnbegun : Outcome → List Event → Type 0
 IsUnbegun outcome events = (outcome ≡ Err refused.Memory) × (events ≡ [])
@@ -67,7 +89,7 @@ Makes (set pairs) I folder W b n outcome old events = RequestEvents I W (set_req
 Makes (get keys) I folder W b n outcome old events = GetEvents I W keys outcome events ⊎ IsUnbegun outcome events
 Makes (apply all) I folder W b n outcome old events = RequestEvents I W (apply_requests all) IsJobLine outcome events ⊎ IsUnbegun outcome events
 Makes verify I folder W b n outcome old events = VerifyEvents I W outcome events ⊎ IsUnbegun outcome events
-Makes check I folder W b n outcome old events = events ≡ []
+Makes (check store) I folder W b n outcome old events = CheckEvents store I W outcome events
 Makes (migrate to) I folder W b n outcome old events = MigrateEvents folder W to outcome events
 Makes prune I folder W b n outcome old events = events ≡ []
 Makes (load count) I folder W b n outcome old events = events ≡ []

@@ -1,7 +1,7 @@
 -- The headline: what every run of the program is, said of the map machine.
 use Rattle.std.specs.Prelude.{◌≡◌, ◌⊎◌, ◌++◌, ℕ, Bool, true, false, List, [], Option, Some, Err, OnOk}
 use Rattle.outside.specs.Faults.{HasCauseOf, Rose}
-use Rattle.outside.specs.History.{History, tree_of, EachImage}
+use Rattle.outside.specs.History.{History, tree_of, EachCrashState}
 use Rattle.outside.specs.Since.{EachSince}
 use Rattle.outside.specs.Spawner.{Run}
 use Rattle.outside.specs.Told.{Moves}
@@ -51,8 +51,8 @@ acknowledges_all _ = true
 pub record RecoversToPrefix (order : Order) (I : Image) (W : World) (outcome : Outcome) (events : List Event) (old new : History) : Type 0 where
   pub any_moment : EachSince (AtPrefix I W events) old new
   pub keeps : HasMoments I W W events old new
-  pub at_exit : EachImage (AtLatePrefix I W events) new
-  pub ended_well : acknowledges_all order ≡ true → OnOk outcome (EachImage (Recovers I (after I W events)) new)
+  pub at_exit : EachCrashState (AtLatePrefix I W events) new
+  pub ended_well : acknowledges_all order ≡ true → OnOk outcome (EachCrashState (Recovers I (after I W events)) new)
 
 -- The file is what its template renders to from scratch, or it is due; so where no key is owed, it is the former.
 pub record StandsPaid (I : Image) (X : World) (file : List ℕ) : Type 0 where
@@ -63,15 +63,15 @@ pub record StandsPaid (I : Image) (X : World) (file : List ℕ) : Type 0 where
 abbrev pub FilesStay : Image → World → List Event → Type 0
 FilesStay I W events = (file : List ℕ) → IsCovered I file → WasPaid I W events file → StandsPaid I (after I W events) file
 
--- A crash that leaves this image recovers to the world after the events, and in each world of the image the same files are so.
-pub record LeavesFiles (I : Image) (W : World) (events : List Event) (image : Tree) : Type 0 where
-  pub recovers : Recovers I (after I W events) image
-  pub stand : (file : List ℕ) → IsCovered I file → WasPaid I W events file → (X : World) → IsWorldOf image X → StandsPaid I X file
+-- A crash that leaves this tree recovers to the world after the events, and in each world of the tree the same files are so.
+pub record LeavesFiles (I : Image) (W : World) (events : List Event) (crashed : Tree) : Type 0 where
+  pub recovers : Recovers I (after I W events) crashed
+  pub stand : (file : List ℕ) → IsCovered I file → WasPaid I W events file → (X : World) → IsWorldOf crashed X → StandsPaid I X file
 
 -- It is so after each prefix of the events, and by a prefix of them in what a crash at any moment leaves.
 pub record FilesArePaid (I : Image) (W : World) (events : List Event) (old new : History) : Type 0 where
   pub any_prefix : (first rest : List Event) → events ≡ first ++ rest → FilesStay I W first
-  pub any_moment : EachSince (λ image. (first : List Event) × (rest : List Event) × (events ≡ first ++ rest) × LeavesFiles I W first image) old new
+  pub any_moment : EachSince (λ crashed. (first : List Event) × (rest : List Event) × (events ≡ first ++ rest) × LeavesFiles I W first crashed) old new
 
 -- The programs that were run are those of the events' jobs, and each job ran the commands of the services that what was owed when it began affects,
 -- in order, up to the first that failed.
@@ -115,8 +115,8 @@ pub record FailsToChange (order : Order) (I : Image) (folder : Folder) (W : Worl
     : Type 0 where
   pub at_once : is_at_once order ≡ true
   pub outcome_is : outcome ≡ Err refused.Disk
-  pub any_moment : EachSince (λ image. LeavesFiles I W [] image
-      ⊎ ((events : List Event) × ChangesBy order folder W events × LeavesFiles I W events image)) old new
+  pub any_moment : EachSince (λ crashed. LeavesFiles I W [] crashed
+      ⊎ ((events : List Event) × ChangesBy order folder W events × LeavesFiles I W events crashed)) old new
   pub no_runs : now.runs ≡ before.runs
   pub elsewhere : StaysElsewhere order I [] old new
 

@@ -5,7 +5,7 @@ use Rattle.std.specs.FinMap.{get}
 use Rattle.std.specs.Str.{bytes_eq}
 use Rattle.outside.specs.Names.{Names}
 use Rattle.outside.specs.Tree.{Tree, node_at, file_in}
-use Rattle.outside.specs.History.{synced, History, begun, next as then, tree_of, IsImage, IsSettled, IsSettledOn}
+use Rattle.outside.specs.History.{synced, History, begun, next as then, tree_of, IsCrashState, IsSettled, IsSettledOn}
 use Rattle.outside.specs.Since.{EachSince, clock}
 use Rattle.settings_tree.specs.declared.held.Held.{Held}
 use Rattle.held_text.specs.Dump.{SpellsDump}
@@ -41,7 +41,7 @@ pub record Invocation : Type 0 where
   pub told_now : now.disk ≡ Some new
 
 -- How a run ends, and how the disk is then: as the run left it; or the run ended and the disk was synced; or the run was killed at a moment, and the
--- disk was synced; or a crash came at a moment of the run, or at its end, and left this image.
+-- disk was synced; or a crash came at a moment of the run, or at its end, and left this tree.
 pub data Ending : Type 0 where
   Left : Ending
   Synced : Ending
@@ -59,18 +59,18 @@ abbrev pub disk_after : History → Ending → History
 disk_after new Left = new
 disk_after new Synced = then synced new
 disk_after new (Killed at) = then synced at
-disk_after new (Crashed at image) = begun image
+disk_after new (Crashed at crashed) = begun crashed
 
 -- The moment to which the run went.
 abbrev pub moment_of : History → Ending → History
 moment_of new Left = new
 moment_of new Synced = new
 moment_of new (Killed at) = at
-moment_of new (Crashed at image) = at
+moment_of new (Crashed at crashed) = at
 
 -- The second goes on from the first.
 abbrev pub IsLater : History → History → Type 0
-IsLater old new = EachSince (λ image. Unit {0}) old new
+IsLater old new = EachSince (λ crashed. Unit {0}) old new
 
 -- A command other than `serve` has ended with exit status 0.
 abbrev pub HasEndedWell : Order → Invocation → Type 0
@@ -87,7 +87,7 @@ abbrev pub MayEnd : Image → Folder → Order → Invocation → Ending → Typ
 MayEnd I folder order run Left = HasEndedWell order run ⊎ IsAtOne I folder run.new
 MayEnd I folder order run Synced = Unit {0}
 MayEnd I folder order run (Killed at) = IsLater run.old at × IsLater at run.new
-MayEnd I folder order run (Crashed at image) = IsLater run.old at × IsLater at run.new × IsImage at image
+MayEnd I folder order run (Crashed at crashed) = IsLater run.old at × IsLater at run.new × IsCrashState at crashed
 
 -- The image is laid on a disk that a crash leaves as it is, and so it is afterwards. No path is touched but those of the image's folder.
 pub record IsLaid (J : Image) (below : Folder) (old new : History) : Type 0 where
@@ -148,7 +148,7 @@ abbrev pub Keeps : (order : Order) (I : Image) (folder : Folder) (W : World) (ru
 Keeps order I folder W run (inl r) Left kept = kept ≡ r.events
 Keeps order I folder W run (inl r) Synced kept = kept ≡ r.events
 Keeps order I folder W run (inl r) (Killed at) kept = IsCut order I folder W run r at kept
-Keeps order I folder W run (inl r) (Crashed at image) kept = IsCut order I folder W run r at kept
+Keeps order I folder W run (inl r) (Crashed at crashed) kept = IsCut order I folder W run r at kept
 Keeps order I folder W run (inr fails) ending kept = (kept ≡ []) ⊎ ChangesBy order folder W kept
 
 -- The run is the machine's, as the headline has it; this part of it is kept. The configuration files are those of the world after its events,

@@ -17,7 +17,7 @@ use Rattle.command_words.specs.Orders.{Order, init, check, migrate, prune, load,
 pub record ChangesOnly (P : Names → Type 0) (old new : History) : Type 0 where
   pub touches : Touches P old new
   pub tree : (path : Names) → (P path → ⊥) → node_at (tree_of new) path ≡ node_at (tree_of old) path
-  pub images : (path : Names) → (P path → ⊥) → EachSince (λ image. MayLeave old path (node_at image path)) old new
+  pub crash_states : (path : Names) → (P path → ⊥) → EachSince (λ crashed. MayLeave old path (node_at crashed path)) old new
 
 -- Which paths a run of the order and the events may change, where a store is there: `init`, `restore`, `check` and `load` none; `prune` those below other
 -- data directories; `migrate` those in the folder `store`; and the others those below the data directory and, where a turn of a job is
@@ -25,7 +25,7 @@ pub record ChangesOnly (P : Names → Type 0) (old new : History) : Type 0 where
 abbrev pub MayTouch : Order → Image → List Event → Names → Names → Type 0
 MayTouch (init version) I events directory path = ⊥
 MayTouch (restore from) I events directory path = ⊥
-MayTouch check I events directory path = ⊥
+MayTouch (check store) I events directory path = ⊥
 MayTouch (load count) I events directory path = ⊥
 MayTouch prune I events directory path = IsInOther directory path
 MayTouch (migrate to) I events directory path = is_store path ≡ true

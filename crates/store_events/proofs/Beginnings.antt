@@ -1,9 +1,9 @@
 -- A beginning is an event of the machine.
 use Rattle.std.proofs.Common.{inl, inr, ◌⊎◌, [], ◌∷◌, ⊎_elim, Result, Ok, refl, sym, ◌∙◌, ap, subst}
 use Rattle.outside.specs.Tree.{Tree, file_in}
-use Rattle.outside.specs.History.{History, tree_of, IsImage}
+use Rattle.outside.specs.History.{History, tree_of, IsCrashState}
 use Rattle.outside.specs.Since.{EachSince}
-use Rattle.outside.proofs.Crash.{settled_image}
+use Rattle.outside.proofs.Crash.{settled_state}
 use Rattle.outside.proofs.Since.{since_start, since_map, since_both}
 use Rattle.commit_journal.specs.Files.{files_below}
 use Rattle.settings_tree.specs.declared.entry.Owed.TheVariants as owed
@@ -58,7 +58,7 @@ module _ (I : Image) (good : IsGood I) (W : World) (version : Version) (held : H
     whole : IsBeginning I N old new
     whole = record {
       any_moment = any_moment;
-      image_paid = since_map (λ c. Resolves c nowhere ⊎ Recovers I N c) (λ c. (X : World) → IsWorldOf c X → Paid I X) old new
+      crash_paid = since_map (λ c. Resolves c nowhere ⊎ Recovers I N c) (λ c. (X : World) → IsWorldOf c X → Paid I X) old new
           (λ c either X is f covered. ⊎_elim (λ none. absurd (not_nowhere X c is.store none))
           (λ r. let leaves : LeavesPaid I W (Moved version held ∷ []) c = leaves_paid I good W (Moved version held ∷ []) c r (λ g known was. paid g known) in
           leaves.paid f covered (inr refl) X is) either) any_moment;
@@ -88,12 +88,12 @@ module _ (I : Image) (good : IsGood I) (W : World) (version : Version) (held : H
         store = store;
         etc = etc;
         image = λ path e. image_kept old new begins.others.touches path e;
-        images = λ c left. inl (subst (HasStore N) (sym (settled_image new at_rest.rest.settled c left)) store);
+        crash_states = λ c left. inl (subst (HasStore N) (sym (settled_state new at_rest.rest.settled c left)) store);
         same_etc = refl;
         unsettled = λ path node e left. inl (ap file_in (at_rest.rest.settled path node left) ∙ etc.each path e);
       };
       paid = paid;
-      at_exit = λ c left. subst (Recovers I N) (sym (settled_image new at_rest.rest.settled c left))
+      at_exit = λ c left. subst (Recovers I N) (sym (settled_state new at_rest.rest.settled c left))
           (record { store = store; etc = λ path e. inl (etc.each path e) });
     }
 
@@ -101,11 +101,11 @@ module _ (I : Image) (good : IsGood I) (W : World) (version : Version) (held : H
 pub bare_stays : (I : Image) (W : World) (version : Version) (held : Held) (h : History) → IsBare W h → IsBeginning I (next I W (Moved version held)) h h
 bare_stays I W version held h bare = record {
   any_moment = since_start (λ c. Resolves c nowhere ⊎ Recovers I (next I W (Moved version held)) c) h (λ c left. inl (none c left));
-  image_paid = since_start (λ c. (X : World) → IsWorldOf c X → Paid I X) h (λ c left X is. absurd (not_nowhere X c is.store (none c left)));
+  crash_paid = since_start (λ c. (X : World) → IsWorldOf c X → Paid I X) h (λ c left X is. absurd (not_nowhere X c is.store (none c left)));
 }
   where
-    none : (c : Tree) → IsImage h c → Resolves c nowhere
-    none c left = subst (λ (t : Tree). Resolves t nowhere) (sym (settled_image h bare.settled c left)) bare.none
+    none : (c : Tree) → IsCrashState h c → Resolves c nowhere
+    none c left = subst (λ (t : Tree). Resolves t nowhere) (sym (settled_state h bare.settled c left)) bare.none
 
 pub beginnings_are_whole : BeginningsAreWhole
 beginnings_are_whole I good W version held result old new bare begins = whole I good W version held result old new bare begins

@@ -3,7 +3,7 @@ use Rattle.std.proofs.Common.{◌≡◌, ◌≢◌, ◌⊎◌, inl, inr, ⊎_eli
 use Rattle.std.specs.FinMap.{get}
 use Rattle.outside.specs.Names.{Names, is_below}
 use Rattle.outside.specs.Tree.{Tree, node_at, file_in}
-use Rattle.outside.specs.History.{synced, History, next as then, tree_of, EachImage, IsSettled}
+use Rattle.outside.specs.History.{synced, History, next as then, tree_of, EachCrashState, IsSettled}
 use Rattle.outside.specs.Since.{EachSince, IsAtOrSync, Touches}
 use Rattle.outside.proofs.Goes.{goes_stay, goes_next, goes_joined, since_goes, may_leave_untouched, tree_untouched}
 use Rattle.commit_journal.specs.Files.{IsBelow}
@@ -51,9 +51,9 @@ module _ (etc : Files) (old new : History) (touches : Touches IsInStore old new)
   -- and so is what a crash leaves.
   pub files_left : IsSettled old → EachSince (HasFiles etc) old new
   files_left settled = since_goes (HasFiles etc) (IsAtOrSync IsInStore) old new
-      (λ h goes image is. record {
+      (λ h goes crashed is. record {
         each = λ path e.
-            ap file_in (settled path (node_at image path) (may_leave_untouched IsInStore old h goes path (etc_apart path e) (node_at image path) (is path)))
+            ap file_in (settled path (node_at crashed path) (may_leave_untouched IsInStore old h goes path (etc_apart path e) (node_at crashed path) (is path)))
             ∙ here.each path e;
       })
       touches
@@ -68,20 +68,20 @@ module _ (I : Image) (folder : Folder) (W : World) (old new : History) (touches 
   -- A crash at any moment leaves such,
   pub due_left : EachSince (HasLeft I W) old new
   due_left = since_goes (HasLeft I W) (IsAtOrSync IsInStore) old new
-      (λ h goes image is path e. ⊎_elim (λ same. inl same) (λ due. inr due.0)
-      (disk.unsettled path (node_at image path) e (may_leave_untouched IsInStore old h goes path (etc_apart path e) (node_at image path) (is path))))
+      (λ h goes crashed is path e. ⊎_elim (λ same. inl same) (λ due. inr due.0)
+      (disk.unsettled path (node_at crashed path) e (may_leave_untouched IsInStore old h goes path (etc_apart path e) (node_at crashed path) (is path))))
       touches
 
   pub image_stands : (path : Names) → is_image path ≡ true → bytes_at (tree_of new) path ≡ folder path
   image_stands path e = image_kept old new touches path e ∙ disk.image path e
 
   -- and where it leaves the store as it was, the disk is at the world still.
-  pub stays_at : HasStore W (tree_of new) → EachImage (HasStore W) new → DiskAt I folder W W new
-  stays_at store images = record {
+  pub stays_at : HasStore W (tree_of new) → EachCrashState (HasStore W) new → DiskAt I folder W W new
+  stays_at store crash_states = record {
     store = store;
     etc = files_stand W.etc old new touches disk.etc;
     image = image_stands;
-    images = λ c left. inl (images c left);
+    crash_states = λ c left. inl (crash_states c left);
     same_etc = refl;
     unsettled = λ path node e left. disk.unsettled path node e (may_leave_untouched IsInStore old new touches path (etc_apart path e) node left);
   }

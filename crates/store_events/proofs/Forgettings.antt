@@ -9,7 +9,7 @@ use Rattle.outside.specs.History.{History, tree_of, IsSettled}
 use Rattle.outside.specs.Since.{EachSince, IsAtOrSync}
 use Rattle.outside.specs.declared.disk_error.DiskErr.{DiskErr}
 use Rattle.outside.specs.declared.disk_error.DiskErr.TheVariants as device
-use Rattle.outside.proofs.Crash.{settled_image, tree_is_image}
+use Rattle.outside.proofs.Crash.{settled_state, tree_is_crash_state}
 use Rattle.outside.proofs.Goes.{goes_joined, since_goes, may_leave_untouched}
 use Rattle.outside.proofs.Since.{since_map, since_both, since_now, since_joined}
 use Rattle.commit_journal.specs.Files.{IsBelow}
@@ -108,7 +108,7 @@ module _ (I : Image) (good : IsGood I) (folder : Folder) (W : World) (keys : Lis
         lays.touches
 
     there : IsThereElsewhere dir mid (tree_of new)
-    there = since_now (IsThereElsewhere dir mid) mid new elsewhere (tree_of new) (tree_is_image new)
+    there = since_now (IsThereElsewhere dir mid) mid new elsewhere (tree_of new) (tree_is_crash_state new)
 
     abbrev Either : Tree → Type 0
     Either c = Recovers I W c ⊎ Recovers I N c
@@ -128,7 +128,7 @@ module _ (I : Image) (good : IsGood I) (folder : Folder) (W : World) (keys : Lis
       store = store;
       etc = record { each = etc_of (tree_of new) there };
       image = λ path is. ap file_in (there path (apart.image path is)) ∙ disk.image path is;
-      images = λ c left. inl (subst (HasStore N) (sym (settled_image new now.settled c left)) store);
+      crash_states = λ c left. inl (subst (HasStore N) (sym (settled_state new now.settled c left)) store);
       same_etc = refl;
       unsettled = λ path node is left. inl (ap file_in (now.settled path node left) ∙ etc_of (tree_of new) there path is);
     } where
@@ -141,7 +141,7 @@ module _ (I : Image) (good : IsGood I) (folder : Folder) (W : World) (keys : Lis
       store = store_of W refl refl (tree_of new) kept.tree there;
       etc = record { each = etc_of (tree_of new) there };
       image = λ path is. ap file_in (there path (apart.image path is)) ∙ disk.image path is;
-      images = λ c left. inl (store_of W refl refl c (since_now (HoldsIn dir W.held 2) mid new kept.images c left)
+      crash_states = λ c left. inl (store_of W refl refl c (since_now (HoldsIn dir W.held 2) mid new kept.crash_states c left)
           (since_now (IsThereElsewhere dir mid) mid new elsewhere c left));
       same_etc = refl;
       unsettled = λ path node is left. inl (ap file_in (settled path node
@@ -151,7 +151,7 @@ module _ (I : Image) (good : IsGood I) (folder : Folder) (W : World) (keys : Lis
     pub kept_moments : IsKept dir W.held mid new → EachSince (Recovers I W) mid new
     kept_moments kept = since_map (λ c. HoldsIn dir W.held 2 c × IsThereElsewhere dir mid c) (Recovers I W) mid new
         (λ c both. recovers_was c both.0 both.1)
-        (since_both (HoldsIn dir W.held 2) (IsThereElsewhere dir mid) mid new kept.images elsewhere)
+        (since_both (HoldsIn dir W.held 2) (IsThereElsewhere dir mid) mid new kept.crash_states elsewhere)
 
 -- Where no event happened, that was no forgetting either.
 stayed_whole : (I : Image) → IsGood I → (folder : Folder) (W : World) (keys : List Key) (old new : History) → HasStayed I folder W old new

@@ -2,9 +2,9 @@
 use Rattle.std.proofs.Common.{◌≡◌, inl, inr, ◌⊎◌, ⊎_elim, ℕ, List, [], ◌∷◌, Option, Some, Result, Ok, Err, refl, sym, ◌∙◌, ap, subst}
 use Rattle.std.proofs.lemmas.List.{append_cancel_left}
 use Rattle.outside.specs.Tree.{Tree, file_in}
-use Rattle.outside.specs.History.{History, tree_of, IsImage, IsSettled}
+use Rattle.outside.specs.History.{History, tree_of, IsCrashState, IsSettled}
 use Rattle.outside.specs.Since.{EachSince, Touches}
-use Rattle.outside.proofs.Crash.{settled_image}
+use Rattle.outside.proofs.Crash.{settled_state}
 use Rattle.outside.proofs.Since.{since_map, since_both}
 use Rattle.settings_tree.specs.declared.held.Held.{Held}
 use Rattle.version_links.specs.declared.version.Version.{Version}
@@ -100,14 +100,14 @@ module _ (I : Image) (good : IsGood I) (folder : Folder) (W : World) (to : Versi
   abbrev Stored : Tree → Type 0
   Stored c = HasStore place W.held W.format c ⊎ HasMigrated place W.held to transitions migrations before now c
 
-  moment : (c : Tree) → (IsImage old c ⊎ Stored c) × HasLeft I W c → Moment c
-  moment c (inl im, left) = inl (recovers_was c (⊎_elim (λ has. has) (λ has. has) (disk_at.images c im)) left)
+  moment : (c : Tree) → (IsCrashState old c ⊎ Stored c) × HasLeft I W c → Moment c
+  moment c (inl im, left) = inl (recovers_was c (⊎_elim (λ has. has) (λ has. has) (disk_at.crash_states c im)) left)
   moment c (inr (inl has), left) = inl (recovers_was c (from_place W place W.held W.format c refl refl refl has) left)
   moment c (inr (inr has), left) = inr (has.moved.made, made_of c has, recovers_moved c has left)
 
   moments : EachSince Moment old new
-  moments = since_map (λ c. (IsImage old c ⊎ Stored c) × HasLeft I W c) Moment old new moment
-      (since_both (λ c. IsImage old c ⊎ Stored c) (HasLeft I W) old new (migrates.any_moment place W.held W.format was)
+  moments = since_map (λ c. (IsCrashState old c ⊎ Stored c) × HasLeft I W c) Moment old new moment
+      (since_both (λ c. IsCrashState old c ⊎ Stored c) (HasLeft I W) old new (migrates.any_moment place W.held W.format was)
       (due_left I folder W old new touches disk_at))
 
   moving_whole : IsMoving I W to transitions migrations before now old new
@@ -186,7 +186,7 @@ module _ (I : Image) (good : IsGood I) (folder : Folder) (W : World) (to : Versi
         store = store;
         etc = files;
         image = image_stands I folder W old new outside disk_at;
-        images = λ c left. inl (subst (disk.HasStore (N_of made)) (sym (settled_image new settled c left)) store);
+        crash_states = λ c left. inl (subst (disk.HasStore (N_of made)) (sym (settled_state new settled c left)) store);
         same_etc = refl;
         unsettled = λ path node e left. inl (ap file_in (settled path node left) ∙ files.each path e);
       }

@@ -139,7 +139,7 @@ module _ (I : Image) (good : IsGood I) (folder : Folder) (W : World) (old new : 
 
   pub refusal_stays : (e : OpenError) → Refuses e old new → HasStayed I folder W old new
   refusal_stays e refuses = stayed I good folder W old new disk_at touched
-      (since_first (HasStore W) old new disk_at.store (refused_since kept.images)) where
+      (since_first (HasStore W) old new disk_at.store (refused_since kept.crash_states)) where
         kept : IsNotTaken before old new
         kept = refuses.stays before (record { links = disk_at.store.resolves; holds = disk_at.store.holds })
 

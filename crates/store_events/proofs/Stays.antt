@@ -1,9 +1,9 @@
 -- What is no event of the machine: a crash at any moment recovers to the world that was there.
 use Rattle.std.proofs.Common.{◌≡◌, ◌⊎◌, inl, inr, ⊎_elim, ℕ, List, [], ◌∷◌, refl, subst}
 use Rattle.outside.specs.Tree.{Tree}
-use Rattle.outside.specs.History.{History, tree_of, IsImage, EachImage}
+use Rattle.outside.specs.History.{History, tree_of, IsCrashState, EachCrashState}
 use Rattle.outside.specs.Since.{EachSince, IsAtOrSync, Touches}
-use Rattle.outside.proofs.Crash.{tree_is_image}
+use Rattle.outside.proofs.Crash.{tree_is_crash_state}
 use Rattle.outside.proofs.Goes.{goes_stay}
 use Rattle.outside.proofs.Since.{since_start, since_map, since_both, since_now}
 use Rattle.commit_journal.specs.Recovery.{FromSyncOn}
@@ -50,11 +50,11 @@ from_place W place held format tree version_is held_is format_is has = record {
 
 module _ (I : Image) (good : IsGood I) (folder : Folder) (W : World) (old new : History) (disk_at : DiskAt I folder W W old)
     (touches : Touches IsInStore old new) where
-  old_store : (c : Tree) → IsImage old c ⊎ disk.HasStore W c → disk.HasStore W c
-  old_store c (inl left) = ⊎_elim (λ has. has) (λ has. has) (disk_at.images c left)
+  old_store : (c : Tree) → IsCrashState old c ⊎ disk.HasStore W c → disk.HasStore W c
+  old_store c (inl left) = ⊎_elim (λ has. has) (λ has. has) (disk_at.crash_states c left)
   old_store c (inr has) = has
 
-  recovers : (c : Tree) → (IsImage old c ⊎ disk.HasStore W c) × HasLeft I W c → Recovers I W c
+  recovers : (c : Tree) → (IsCrashState old c ⊎ disk.HasStore W c) × HasLeft I W c → Recovers I W c
   recovers c both = record { store = old_store c both.0; etc = both.1 }
 
   -- Nothing changed but in the folder of the store, and the store is as it was at every moment.
@@ -63,25 +63,27 @@ module _ (I : Image) (good : IsGood I) (folder : Folder) (W : World) (old new : 
       (none_moments I W W old new disk_at.store disk_at.etc moments) (λ calm. here) where
         here : DiskAt I folder W W new
         here =
-            let now : EachImage (λ c. IsImage old c ⊎ disk.HasStore W c) new = since_now (λ c. IsImage old c ⊎ disk.HasStore W c) old new since in
-            stays_at I folder W old new touches disk_at (old_store (tree_of new) (now (tree_of new) (tree_is_image new))) (λ c left. old_store c (now c left))
+            let now : EachCrashState (λ c. IsCrashState old c ⊎ disk.HasStore W c) new = since_now
+            (λ c. IsCrashState old c ⊎ disk.HasStore W c) old new since in
+            stays_at I folder W old new touches disk_at (old_store (tree_of new) (now (tree_of new) (tree_is_crash_state new)))
+            (λ c left. old_store c (now c left))
 
         moments : EachSince (OnTheWay I W W []) old new
-        moments = since_map (λ c. (IsImage old c ⊎ disk.HasStore W c) × HasLeft I W c) (OnTheWay I W W []) old new (λ c both. inl (recovers c both))
-            (since_both (λ c. IsImage old c ⊎ disk.HasStore W c) (HasLeft I W) old new since (due_left I folder W old new touches disk_at))
+        moments = since_map (λ c. (IsCrashState old c ⊎ disk.HasStore W c) × HasLeft I W c) (OnTheWay I W W []) old new (λ c both. inl (recovers c both))
+            (since_both (λ c. IsCrashState old c ⊎ disk.HasStore W c) (HasLeft I W) old new since (due_left I folder W old new touches disk_at))
 
   abbrev place : Place
   place = place_in W (tree_of old) disk_at.store
 
   pub store_stays : SinceStart (HasStore place W.held W.format) old new → HasStayed I folder W old new
-  store_stays kept = stayed (since_map (λ c. IsImage old c ⊎ HasStore place W.held W.format c) (λ c. IsImage old c ⊎ disk.HasStore W c) old new
+  store_stays kept = stayed (since_map (λ c. IsCrashState old c ⊎ HasStore place W.held W.format c) (λ c. IsCrashState old c ⊎ disk.HasStore W c) old new
       (λ c either. ⊎_elim (λ left. inl left) (λ has. inr (from_place W place W.held W.format c refl refl refl has)) either) kept)
 
 -- ---- the disk is as before
 
 pub same_disks_stay : SameDisksStay
 same_disks_stay I good folder W h disk_at = stayed I good folder W h h disk_at (goes_stay (IsAtOrSync IsInStore) h)
-    (since_start (λ c. IsImage h c ⊎ disk.HasStore W c) h (λ c left. inl left))
+    (since_start (λ c. IsCrashState h c ⊎ disk.HasStore W c) h (λ c left. inl left))
 
 -- ---- prunings
 

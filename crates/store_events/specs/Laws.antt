@@ -1,6 +1,6 @@
 -- Laws of beginnings, moves, readings and the forgetting of keys: what they make of the machine's run.
 use Rattle.std.specs.Prelude.{◌≡◌, ◌≢◌, ◌⊎◌, ℕ, false, List, [], ◌∷◌, Option, Some, None, Result, Ok, Err}
-use Rattle.outside.specs.History.{History, tree_of, EachImage, IsSettled}
+use Rattle.outside.specs.History.{History, tree_of, EachCrashState, IsSettled}
 use Rattle.outside.specs.Since.{EachSince}
 use Rattle.settings_tree.specs.declared.entry.Owed.TheVariants as owed
 use Rattle.settings_tree.specs.declared.held.Held.{Held}
@@ -46,13 +46,13 @@ pub record IsBare (W : World) (h : History) : Type 0 where
 -- A crash at any moment leaves no store, or what recovers to N; and a world that it leaves is paid.
 pub record IsBeginning (I : Image) (N : World) (old new : History) : Type 0 where
   pub any_moment : EachSince (λ c. Resolves c nowhere ⊎ Recovers I N c) old new
-  pub image_paid : EachSince (λ c. (X : World) → IsWorldOf c X → Paid I X) old new
+  pub crash_paid : EachSince (λ c. (X : World) → IsWorldOf c X → Paid I X) old new
 
 -- The disk is at N alone, which is paid, and a crash leaves what recovers to it.
 pub record HasBegun (I : Image) (folder : Folder) (N : World) (h : History) : Type 0 where
   pub disk : DiskAt I folder N N h
   pub paid : Paid I N
-  pub at_exit : EachImage (Recovers I N) h
+  pub at_exit : EachCrashState (Recovers I N) h
 
 -- Whatever a beginning comes to, a crash leaves no store, or the machine's world after `Moved`; that is the one after `Began` where nothing is held.
 abbrev pub BeginningsAreWhole : Type 0

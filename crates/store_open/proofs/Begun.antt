@@ -6,7 +6,7 @@ use Rattle.outside.specs.Told.{Moves, WhereTold}
 use Rattle.outside.proofs.Told.{moves_map, moves_same, moves_where, moves_after, where_both}
 use Rattle.outside.specs.Names.{Names}
 use Rattle.outside.specs.Tree.{Node, Tree, node_at}
-use Rattle.outside.specs.History.{Change, replaced, scribbled, synced, History, tree_of, EachImage, IsSettled, IsSettledOn}
+use Rattle.outside.specs.History.{Change, replaced, scribbled, synced, History, tree_of, EachCrashState, IsSettled, IsSettledOn}
 use Rattle.outside.specs.Since.{EachSince, GoesOn, IsAtOrSync, Touches}
 use Rattle.outside.specs.declared.disk_error.DiskErr.{DiskErr}
 use Rattle.outside.specs.declared.disk_error.DiskErr.TheVariants as device
@@ -88,16 +88,16 @@ module _ (target : Target) (held : Held) where
   dir = directory target
 
   abbrev EitherWay : Tree → Type 0
-  EitherWay image = Resolves image nowhere ⊎ HasWorld (first_world target held) image
+  EitherWay crashed = Resolves crashed nowhere ⊎ HasWorld (first_world target held) crashed
 
   -- while the directory is written the links lead nowhere
   since_saved : (old mid : History) → IsSettledOn is_in_store old → Touches (IsBelow dir) old mid → Resolves (tree_of old) nowhere → EachSince EitherWay old mid
   since_saved old mid settled touches none = since_goes EitherWay (IsAtOrSync (IsBelow dir)) old mid each touches where
-    each : (h : History) → GoesOn (IsAtOrSync (IsBelow dir)) old h → EachImage EitherWay h
-    each h goes image is = inl (same_outcome image (tree_of old) (record {
+    each : (h : History) → GoesOn (IsAtOrSync (IsBelow dir)) old h → EachCrashState EitherWay h
+    each h goes crashed is = inl (same_outcome crashed (tree_of old) (record {
       same =
-          λ p inside. settled.at p inside (node_at image p) (may_leave_untouched (IsBelow dir) old h goes p
-          (store_apart (directory_name target.version.major target.version.minor target.version.patch target.id) p inside) (node_at image p) (is p));
+          λ p inside. settled.at p inside (node_at crashed p) (may_leave_untouched (IsBelow dir) old h goes p
+          (store_apart (directory_name target.version.major target.version.minor target.version.patch target.id) p inside) (node_at crashed p) (is p));
     }) nowhere none)
 
   still_none : (old mid : History) → Touches (IsBelow dir) old mid → Resolves (tree_of old) nowhere → Resolves (tree_of mid) nowhere
@@ -111,24 +111,24 @@ module _ (target : Target) (held : Held) where
       (flips : Flips target result mid new) where
     holds_since : EachSince (HoldsIn dir held 2) mid new
     holds_since = since_goes (HoldsIn dir held 2) (IsAtOrSync (IsLinkTo target)) mid new each flips.others.touches where
-      each : (h : History) → GoesOn (IsAtOrSync (IsLinkTo target)) mid h → EachImage (HoldsIn dir held 2) h
-      each h goes image is = holds_plain dir held 2 image (stand_alike (files_below dir (tree_of mid)) (files_below dir image) held 2
-          (λ name rest. sym (settled (dir ++ name ∷ rest) (node_at image (dir ++ name ∷ rest))
-          (may_leave_untouched (IsLinkTo target) mid h goes (dir ++ name ∷ rest) (link_apart target name rest) (node_at image (dir ++ name ∷ rest))
+      each : (h : History) → GoesOn (IsAtOrSync (IsLinkTo target)) mid h → EachCrashState (HoldsIn dir held 2) h
+      each h goes crashed is = holds_plain dir held 2 crashed (stand_alike (files_below dir (tree_of mid)) (files_below dir crashed) held 2
+          (λ name rest. sym (settled (dir ++ name ∷ rest) (node_at crashed (dir ++ name ∷ rest))
+          (may_leave_untouched (IsLinkTo target) mid h goes (dir ++ name ∷ rest) (link_apart target name rest) (node_at crashed (dir ++ name ∷ rest))
           (is (dir ++ name ∷ rest)))))
           means)
 
-    led : (image : Tree) → LeadsTo image target → Resolves image (found target.version dir)
-    led image is = (target.id, is, refl)
+    led : (crashed : Tree) → LeadsTo crashed target → Resolves crashed (found target.version dir)
+    led crashed is = (target.id, is, refl)
 
     since_flipped : Resolves (tree_of mid) nowhere → EachSince EitherWay mid new
-    since_flipped none = since_map (λ image. ResolvesToEither nowhere target image × HoldsIn dir held 2 image) EitherWay mid new way
+    since_flipped none = since_map (λ crashed. ResolvesToEither nowhere target crashed × HoldsIn dir held 2 crashed) EitherWay mid new way
         (since_both (ResolvesToEither nowhere target) (HoldsIn dir held 2) mid new (flips.any_moment nowhere (record { at = λ p inside. settled p }) none)
         holds_since)
       where
-        way : (image : Tree) → ResolvesToEither nowhere target image × HoldsIn dir held 2 image → EitherWay image
-        way image (inl is, holds) = inl is
-        way image (inr is, holds) = inr (record { links = led image is; holds = holds })
+        way : (crashed : Tree) → ResolvesToEither nowhere target crashed × HoldsIn dir held 2 crashed → EitherWay crashed
+        way crashed (inl is, holds) = inl is
+        way crashed (inr is, holds) = inr (record { links = led crashed is; holds = holds })
 
     means_now : Stands (files_below dir (tree_of new)) held 2
     means_now = stand_alike (files_below dir (tree_of mid)) (files_below dir (tree_of new)) held 2
@@ -192,8 +192,8 @@ pub nothing_begun : (version : Version) (held : Held) (f : InitError) (h : Histo
     → ((path : Names) → f ≡ refused.BadLink path → Resolves (tree_of h) (bad path))
     → ((other : Version) → f ≡ refused.AlreadyThere other → (path : Names) × Resolves (tree_of h) (found other path)) → Begins version held (Err f) h h
 nothing_begun version held f h bad_is there_is = record {
-  any_moment = λ settled none. since_start (λ image. Resolves image nowhere ⊎ HasBegun version held image) h
-      (λ image is. inl (same_outcome image (tree_of h) (record { same = λ p inside. settled.at p inside (node_at image p) (is p) }) nowhere none));
+  any_moment = λ settled none. since_start (λ crashed. Resolves crashed nowhere ⊎ HasBegun version held crashed) h
+      (λ crashed is. inl (same_outcome crashed (tree_of h) (record { same = λ p inside. settled.at p inside (node_at crashed p) (is p) }) nowhere none));
   done = tt;
   others = only_below (codes "store" ∷ []) h h (goes_stay (IsAtOrSync (IsBelow (codes "store" ∷ []))) h);
   still = λ other path led. refl;
@@ -208,8 +208,8 @@ pub begun_of : (target : Target) (version : Version) (held : Held) → target.ve
     → Places target held result old new
     → IsFree (tree_of old) target → Resolves (tree_of old) nowhere → Begins version held result old new
 begun_of target version held is result old new places free none = record {
-  any_moment = λ settled nowhere_is. since_map (λ image. Resolves image nowhere ⊎ HasWorld (first_world target held) image)
-      (λ image. Resolves image nowhere ⊎ HasBegun version held image) old new way (places.any_moment settled free nowhere_is);
+  any_moment = λ settled nowhere_is. since_map (λ crashed. Resolves crashed nowhere ⊎ HasWorld (first_world target held) crashed)
+      (λ crashed. Resolves crashed nowhere ⊎ HasBegun version held crashed) old new way (places.any_moment settled free nowhere_is);
   done = by result places.done;
   others = only_below (codes "store" ∷ []) old new places.touches;
   still = λ other path led. absurd (found_no_nowhere other path (resolves_one (tree_of old) nowhere (found other path) none led));
@@ -217,9 +217,9 @@ begun_of target version held is result old new places free none = record {
   bad_link = λ path same. absurd (no_bad result places.plain path same);
 }
   where
-    way : (image : Tree) → Resolves image nowhere ⊎ HasWorld (first_world target held) image → Resolves image nowhere ⊎ HasBegun version held image
-    way image (inl n) = inl n
-    way image (inr w) = inr (record { target = target; version_is = is; world = w })
+    way : (crashed : Tree) → Resolves crashed nowhere ⊎ HasWorld (first_world target held) crashed → Resolves crashed nowhere ⊎ HasBegun version held crashed
+    way crashed (inl n) = inl n
+    way crashed (inr w) = inr (record { target = target; version_is = is; world = w })
 
     found_no_nowhere : (other : Version) (path : Names) → nowhere ≡ found other path → ⊥
     found_no_nowhere other path is = cc is

@@ -140,10 +140,10 @@ module _ (boot : Bool) (name : List ℕ) (version : Version) (was : Bool) (old m
         kept_this : IsKept dir held mid new → IsNotTaken this old new
         kept_this is = record {
           tree = world_of (tree_of new) led_now is.tree;
-          images = inr (since_map (λ tree. Resolves tree (found version dir) × HoldsIn dir held 2 tree) (HasWorld this) (next synced old) new
+          crash_states = inr (since_map (λ tree. Resolves tree (found version dir) × HoldsIn dir held 2 tree) (HasWorld this) (next synced old) new
               (λ tree both. world_of tree both.0 both.1)
               (since_both (λ tree. Resolves tree (found version dir)) (HoldsIn dir held 2) (next synced old) new links_now
-              (since_joined (HoldsIn dir held 2) (next synced old) mid new held_first is.images)));
+              (since_joined (HoldsIn dir held 2) (next synced old) mid new held_first is.crash_states)));
         }
 
       pub moments : (before : World) → HasWorld before (tree_of old) → FromSyncOn (EachSince (HasEither boot (tree_of old) before)) old new

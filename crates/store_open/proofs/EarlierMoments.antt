@@ -5,7 +5,7 @@ use Rattle.outside.specs.History.{History, next, synced, tree_of, IsSettled}
 use Rattle.outside.specs.Since.{EachSince}
 use Rattle.outside.specs.declared.disk_error.Failed.{Failed}
 use Rattle.outside.proofs.Since.{since_start, since_map, since_joined, since_syncs}
-use Rattle.outside.proofs.Crash.{settled_image}
+use Rattle.outside.proofs.Crash.{settled_state}
 use Rattle.commit_journal.specs.Recovery.{FromSyncOn}
 use Rattle.store_open.specs.World.{World, HasWorld}
 use Rattle.store_open.specs.Opening.{HasEither}
@@ -24,6 +24,7 @@ pub since_settled : (boot : Bool) (before : World) (old new : History) → IsSet
     → FromSyncOn (EachSince (HasEither boot (tree_of old) before)) old new → EachSince (HasEither boot (tree_of old) before) old new
 since_settled boot before old new settled has from =
     since_opened (HasEither boot (tree_of old) before) boot before old old new
-    (since_start (HasEither boot (tree_of old) before) old (λ image is. subst (HasEither boot (tree_of old) before) (sym (settled_image old settled image is))
+    (since_start (HasEither boot (tree_of old) before) old (λ crashed is. subst (HasEither boot (tree_of old) before) (sym
+    (settled_state old settled crashed is))
     (inl has)))
     (λ tree is. is) from

@@ -29,7 +29,7 @@ use Rattle.store_open.proofs.Recovered.{one_place, untouched, elsewhere, kept}
 -- a refusal that leaves the world as it was is one of an opening
 pub opens_not : (boot : Bool) (e : OpenError) (old new : History) → Refuses e old new → Opens boot (Err e) old new
 opens_not boot e old new refuses = record {
-  any_moment = λ before has. moment before (refuses.stays before has).images;
+  any_moment = λ before has. moment before (refuses.stays before has).crash_states;
   there = tt;
   done = tt;
   taken = tt;

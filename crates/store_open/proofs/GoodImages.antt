@@ -1,4 +1,4 @@
--- Each image that can be read is a good image of the machine.
+-- Each crash state that can be read is a good image of the machine.
 use Rattle.std.proofs.Common.{◌≡◌, inl, inr, ℕ, List, [], ◌∷◌, Bool, true, false, cond, map, Some, None, Option, Ok, IsSome, refl, sym, ◌∙◌, ap, subst}
 use Rattle.std.specs.Prelude.{option_and_then}
 use Rattle.std.specs.Option.{option_map}

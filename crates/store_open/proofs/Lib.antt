@@ -10,8 +10,11 @@ pub mod LastExits
 pub mod Forgets
 pub mod EarlierMoments
 pub mod ReadStores
+pub mod Copied
+pub mod Peeked
 pub mod OpenedFits
 pub mod OneImage
+pub mod FolderImages
 pub mod GoodModels
 pub mod GoodImages
 pub mod MachineRuns

@@ -1,6 +1,5 @@
 -- What an opening makes of the machine's run.
-use Rattle.std.proofs.Common.{arith, ◌≡◌, inl, inr, ◌⊎◌, ℕ, List, ◌∷◌, codes, Bool, true, false, Result, Ok, Err, refl, sym, ◌∙◌, ap, subst}
-use Rattle.std.proofs.lemmas.Bool.{and_from, lt-ltb}
+use Rattle.std.proofs.Common.{◌≡◌, inl, inr, ◌⊎◌, ℕ, List, ◌∷◌, codes, Bool, true, false, Result, Ok, Err, refl, sym, ◌∙◌, ap, subst}
 use Rattle.outside.specs.Names.{Names}
 use Rattle.outside.specs.Tree.{Tree, file_in}
 use Rattle.outside.specs.History.{History, next as then, synced, tree_of}
@@ -13,12 +12,10 @@ use Rattle.fs_datastore.specs.Stands.{Stands}
 use Rattle.fs_datastore.proofs.Faults.{faultless}
 use Rattle.fs_datastore.proofs.Meaning.{one_meaning}
 use Rattle.settings_tree.specs.declared.held.Held.{Held}
-use Rattle.typed_settings.specs.Order.{IsTable}
 use Rattle.typed_settings.specs.declared.row.Row.{Row}
 use Rattle.store_image.specs.Paths.{Sources, sources_in}
 use Rattle.store_image.specs.declared.image.Image as own
 use Rattle.store_image.specs.Refused.{IsRefused}
-use Rattle.store_image.proofs.OneOutcome.{makes_unrefused}
 use Rattle.fs_datastore.specs.Damage.{IsFaultBelow}
 use Rattle.version_links.specs.Chain.{Outcome, Resolves, found}
 use Rattle.version_links.specs.declared.version.Version.{Version}
@@ -28,7 +25,7 @@ use Rattle.settings_machine.specs.Typed.{IsTypedHeld}
 use Rattle.settings_machine.specs.Opening.{opened_held}
 use Rattle.settings_machine.specs.Paid.{IsGood}
 use Rattle.settings_machine.specs.Step.{opened as world_opened}
-use Rattle.machine_disk.specs.Store.{is_image, HoldsIn, HasStore}
+use Rattle.machine_disk.specs.Store.{HoldsIn, HasStore}
 use Rattle.machine_disk.specs.Kept.{Folder, DiskAt}
 use Rattle.machine_disk.specs.Ran.{OpensTo, OpensNot}
 use Rattle.machine_disk.proofs.Apart.{dir_apart}
@@ -46,16 +43,12 @@ use Rattle.store_open.specs.declared.opened.Opened.{Opened}
 use Rattle.store_open.specs.declared.open_error.OpenError.{OpenError}
 use Rattle.store_open.specs.declared.open_error.OpenError.TheVariants as refused
 use Rattle.store_open.proofs.Recovered.{one_place}
-use Rattle.store_open.proofs.OneImage.{models_same, manifests_same, texts_same, templates_same, image_alike}
+use Rattle.store_open.proofs.FolderImages.{in_folder, folder_image, folder_unrefused}
 
 -- With what was read of an image of the machine, the step is the machine's.
 pub machine_step : IsMachineStep
 unfolding opened
 machine_step I image holds boot held = λ i. opened_held (record I { defaults = holds.defaults_are i; text = holds.text_is i }) held boot
-
--- A path after the folder's name is in the folder of the image.
-in_folder : (name : List ℕ) (rest : Names) → is_image (codes "image" ∷ name ∷ rest) ≡ true
-in_folder name rest = and_from _ _ (lt-ltb 1 _ (omega arith)) refl
 
 -- ---- an opening that was refused
 
@@ -104,34 +97,11 @@ module _ (I : Image) (good : IsGood I) (folder : Folder) (is : IsImageOfFolder I
   abbrev sources : Sources
   sources path = folder (codes "image" ∷ path)
 
-  table : IsTable is.model.types
-  table = subst IsTable (sym is.holds.types_are) good.table
-
   -- What is read of a tree that has the folder's files is the image.
   module _ (tree : Tree) (alike : (name : List ℕ) (rest : Names) → sources_in tree (name ∷ rest) ≡ sources (name ∷ rest)) (image : own.Image)
       (read : IsImageIn tree image) where
     holds : HoldsImage I image
-    holds =
-        let models = models_same (sources_in tree) sources alike image.model is.model image.manifest is.manifest image.templates is.templates image.text I.text
-        read.made
-        is.made read.table table in
-        record {
-          types_are = models.types ∙ is.holds.types_are;
-          os_is = models.os ∙ is.holds.os_is;
-          defaults_are = models.content ∙ is.holds.defaults_are;
-          manifest_is = manifests_same (sources_in tree) sources alike image.model is.model image.manifest is.manifest image.templates is.templates image.text
-              I.text
-              read.made is.made read.table table ∙ is.holds.manifest_is;
-          templates_are = record {
-            sources = λ f. templates_same (sources_in tree) sources alike image.model is.model image.manifest is.manifest image.templates is.templates
-                image.text I.text
-                read.made is.made read.table table f ∙ is.holds.templates_are.sources f;
-            trees = is.holds.templates_are.trees;
-          };
-          text_is = texts_same (sources_in tree) sources alike image.model is.model image.manifest is.manifest image.templates is.templates image.text I.text
-              read.made
-              is.made read.table table;
-        }
+    holds = folder_image I good folder is tree alike image read
 
     -- so its step is the machine's
     step_is : (held : Held) → opened boot image held ≡ opened_held I held boot
@@ -219,7 +189,7 @@ module _ (I : Image) (good : IsGood I) (folder : Folder) (is : IsImageOfFolder I
     by : IsNotTaken before old new ⊎ (HasOpened boot (tree_of old) before (tree_of new) × (◌≡◌ {A = Result Opened OpenError} (Err e) (Err refused.Failed)))
         → OpensNot I folder W V boot old new
     by (inl not) = opens_not_taken I good folder W V boot old new disk_at place disk_at.store.resolves others
-        (store_before (tree_of new) not.tree) (from_sync (HasWorld before) (HasStore W) store_before not.images)
+        (store_before (tree_of new) not.tree) (from_sync (HasWorld before) (HasStore W) store_before not.crash_states)
     by (inr taken) = opens_taken I good folder W V boot old new disk_at place disk_at.store.resolves others (typed taken.0) idle
         (store_opened (tree_of new) taken.0) (moments (Err e) opens)
 
@@ -249,8 +219,7 @@ module _ (I : Image) (good : IsGood I) (folder : Folder) (is : IsImageOfFolder I
     of_format_one means = (one_meaning (files_below directory (tree_of new)) W.held means.held W.format 1 stands_now means.means).1
 
     not_bad_image : (file kind at : List ℕ) → IsRefused (sources_in (tree_of new)) file (kind, at) → ⊥
-    not_bad_image file kind at bad = makes_unrefused (sources_in (tree_of new)) is.model is.manifest is.templates I.text file (kind, at)
-        (image_alike (sources_in (tree_of new)) sources alike is.model is.manifest is.templates I.text is.made) bad
+    not_bad_image file kind at bad = folder_unrefused I good folder is (tree_of new) alike file kind at bad
 
     ill_typed : (key : List (List ℕ)) → MeansIllTyped directory key (tree_of new) → IsIllTyped I.types W.held key
     ill_typed key means =

@@ -33,7 +33,7 @@ one_place tree v w d e one other = let same : found v d ≡ found w e = resolves
 
 -- nothing happened yet
 pub untouched : (before : World) (old new : History) → new ≡ old → HasWorld before (tree_of old) → IsNotTaken before old new
-untouched before old new is has = record { tree = subst (λ (h : History). HasWorld before (tree_of h)) (sym is) has; images = inl is }
+untouched before old new is has = record { tree = subst (λ (h : History). HasWorld before (tree_of h)) (sym is) has; crash_states = inl is }
 
 module _ (name : List ℕ) (result : Result Bool JournalError) (old new : History) (r : Recovers (store name) result old new) where
   -- from the first sync on nothing changes elsewhere
@@ -53,10 +53,10 @@ module _ (name : List ℕ) (result : Result Bool JournalError) (old new : Histor
         → FromSyncOn (EachSince (HasWorld (world_of version (store name) format held))) old new
     by (inl same) keeps = inl same
     by (inr touches) (inl same) = inl same
-    by (inr touches) (inr keeps) = inr (since_map (λ image. Resolves image (found version (store name)) × TreeStandsFor (store name) holds.files image)
+    by (inr touches) (inr keeps) = inr (since_map (λ crashed. Resolves crashed (found version (store name)) × TreeStandsFor (store name) holds.files crashed)
         (HasWorld (world_of version (store name) format held)) (next synced old) new
-        (λ image both. record { links = both.0; holds = record { files = holds.files; stands_for = both.1; stands = holds.stands } })
-        (since_both (λ image. Resolves image (found version (store name))) (TreeStandsFor (store name) holds.files) (next synced old) new
+        (λ crashed both. record { links = both.0; holds = record { files = holds.files; stands_for = both.1; stands = holds.stands } })
+        (since_both (λ crashed. Resolves crashed (found version (store name))) (TreeStandsFor (store name) holds.files) (next synced old) new
         (links_since name old new touches (found version (store name)) links) keeps))
 
   pub kept_at : (version : Version) (held : Held) (format : ℕ) → Resolves (tree_of old) (found version (store name))
@@ -68,7 +68,7 @@ module _ (name : List ℕ) (result : Result Bool JournalError) (old new : Histor
       holds =
           record { files = holds.files; stands_for = r.stands holds.files holds.stands_for; stands = holds.stands };
     };
-    images = world_images version held format links holds;
+    crash_states = world_images version held format links holds;
   }
 
   pub kept : (version : Version) → Resolves (tree_of old) (found version (store name)) → (before : World) → HasWorld before (tree_of old)

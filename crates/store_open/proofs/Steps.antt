@@ -8,7 +8,7 @@ use Rattle.outside.specs.declared.disk_error.DiskErr.{DiskErr}
 use Rattle.outside.specs.declared.disk_error.DiskErr.TheVariants as device
 use Rattle.outside.proofs.Since.{since_map, since_start}
 use Rattle.outside.proofs.Goes.{goes_stay}
-use Rattle.outside.proofs.Crash.{settled_image}
+use Rattle.outside.proofs.Crash.{settled_state}
 use Rattle.commit_journal.specs.Entries.{Changes}
 use Rattle.commit_journal.specs.Files.{Files, IsBelow}
 use Rattle.commit_journal.specs.Stands.{TreeStandsFor}
@@ -25,17 +25,17 @@ use Rattle.store_open.proofs.Worlds.{holds_plain}
 -- nothing is written: at an error, or where nothing is to change
 module _ (dir : Names) (held after : Held) (h : History) where
   stays : IsReadyWith dir held h → EachSince (HoldsIn dir held 2) h h
-  stays ready = since_start (HoldsIn dir held 2) h (λ image is. subst (HoldsIn dir held 2) (sym (settled_image h ready.settled image is))
+  stays ready = since_start (HoldsIn dir held 2) h (λ crashed is. subst (HoldsIn dir held 2) (sym (settled_state h ready.settled crashed is))
       (holds_plain dir held 2 (tree_of h) ready.means))
 
   either : IsReadyWith dir held h → EachSince (HoldsEither dir held after) h h
-  either ready = since_map (HoldsIn dir held 2) (HoldsEither dir held after) h h (λ image is. inl is) (stays ready)
+  either ready = since_map (HoldsIn dir held 2) (HoldsEither dir held after) h h (λ crashed is. inl is) (stays ready)
 
   pub lays_none : (e : DiskErr) → Lays dir held after (Err e) h h
   lays_none e = record {
     any_moment = either;
     done = tt;
-    failed = λ ready. inl (record { tree = holds_plain dir held 2 (tree_of h) ready.means; images = stays ready });
+    failed = λ ready. inl (record { tree = holds_plain dir held 2 (tree_of h) ready.means; crash_states = stays ready });
     touches = goes_stay (IsAtOrSync (IsBelow dir)) h;
   }
 
@@ -92,8 +92,8 @@ module _ (batch : Changes) (change : List Entry) (follows : Follows change batch
       | inl stands ↦ inr (after_of ready (tree_of new) stands, refl)
       | inr not ↦ inl (record {
         tree = before_of ready (tree_of new) not.tree;
-        images =
-            since_map (TreeStandsFor batch.dir (files_before batch old)) (HoldsIn batch.dir held 2) old new (before_of ready) not.images;
+        crash_states =
+            since_map (TreeStandsFor batch.dir (files_before batch old)) (HoldsIn batch.dir held 2) old new (before_of ready) not.crash_states;
       })
     ];
     touches = commits.others.touches;

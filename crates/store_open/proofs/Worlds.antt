@@ -2,7 +2,7 @@
 use Rattle.std.proofs.Common.{arith, ◌≡◌, inl, ℕ, List, [], ◌∷◌, codes, true, refl, sym, ◌∙◌, ap}
 use Rattle.outside.specs.Names.{Names}
 use Rattle.outside.specs.Tree.{Tree, node_at, file_in}
-use Rattle.outside.specs.History.{History, next, synced, tree_of, EachImage}
+use Rattle.outside.specs.History.{History, next, synced, tree_of, EachCrashState}
 use Rattle.outside.specs.Since.{EachSince, GoesOn, IsAtOrSync, Touches}
 use Rattle.outside.proofs.Goes.{since_goes, tree_untouched, may_leave_untouched}
 use Rattle.commit_journal.specs.Files.{files_below, IsBelow}
@@ -42,12 +42,12 @@ module _ (name : List ℕ) where
       (record { same = λ p inside. tree_untouched (IsBelow dir) old new touches p (store_apart p inside) }) o links
 
   pub links_since : (old new : History) → Touches (IsBelow dir) (next synced old) new → (o : Outcome) → Resolves (tree_of old) o
-      → EachSince (λ image. Resolves image o) (next synced old) new
-  links_since old new touches o links = since_goes (λ image. Resolves image o) (IsAtOrSync (IsBelow dir)) (next synced old) new each touches where
-    each : (h : History) → GoesOn (IsAtOrSync (IsBelow dir)) (next synced old) h → EachImage (λ image. Resolves image o) h
-    each h goes image is = same_outcome image (tree_of old) (record {
+      → EachSince (λ crashed. Resolves crashed o) (next synced old) new
+  links_since old new touches o links = since_goes (λ crashed. Resolves crashed o) (IsAtOrSync (IsBelow dir)) (next synced old) new each touches where
+    each : (h : History) → GoesOn (IsAtOrSync (IsBelow dir)) (next synced old) h → EachCrashState (λ crashed. Resolves crashed o) h
+    each h goes crashed is = same_outcome crashed (tree_of old) (record {
       same =
-          λ p inside. may_leave_untouched (IsBelow dir) (next synced old) h goes p (store_apart p inside) (node_at image p) (is p);
+          λ p inside. may_leave_untouched (IsBelow dir) (next synced old) h goes p (store_apart p inside) (node_at crashed p) (is p);
     }) o links
 
   -- the files of the image stay

@@ -35,7 +35,7 @@ pub record IsBegun (version : Version) (held : Held) (history : History) : Type 
 pub record Begins (version : Version) (held : Held) (result : Result (Unit {0}) InitError) (old new : History) : Type 0 where
   -- Where no store is there and the links are settled, a crash leaves no store, or the first world of one, whole.
   pub any_moment : IsSettledOn is_in_store old → Resolves (tree_of old) nowhere
-      → EachSince (λ image. Resolves image nowhere ⊎ HasBegun version held image) old new
+      → EachSince (λ crashed. Resolves crashed nowhere ⊎ HasBegun version held crashed) old new
   -- After Ok no store was there, and its first world is on the disk.
   pub done : OnOk result (Resolves (tree_of old) nowhere × IsBegun version held new)
   -- Nothing changes but in the store, and nothing at all where a store is there already.
@@ -49,7 +49,7 @@ pub record Begins (version : Version) (held : Held) (result : Result (Unit {0}) 
 -- For private clauses: the first world of a store is saved into a free directory, and the links are pointed there.
 pub record Places (target : Target) (held : Held) (result : Result (Unit {0}) InitError) (old new : History) : Type 0 where
   pub any_moment : IsSettledOn is_in_store old → IsFree (tree_of old) target → Resolves (tree_of old) nowhere
-      → EachSince (λ image. Resolves image nowhere ⊎ HasWorld (first_world target held) image) old new
+      → EachSince (λ crashed. Resolves crashed nowhere ⊎ HasWorld (first_world target held) crashed) old new
   pub done : OnOk result (IsFree (tree_of old) target → IsAtRest (first_world target held) new)
   pub touches : Touches (IsBelow (codes "store" ∷ [])) old new
   pub plain : IfErr result (λ e. (e ≡ refused.Failed) ⊎ (e ≡ refused.Memory))

@@ -8,3 +8,5 @@ pub mod Handing
 pub mod Phases
 pub mod Forgetting
 pub mod Laws
+pub mod Peeking
+pub mod Copying

@@ -44,7 +44,7 @@ HasEither boot start before tree = HasWorld before tree ⊎ HasOpened boot start
 -- The step is not taken: the tree holds the world before it, and so does all that a crash might have left from the first sync on.
 pub record IsNotTaken (before : World) (old new : History) : Type 0 where
   pub tree : HasWorld before (tree_of new)
-  pub images : FromSyncOn (EachSince (HasWorld before)) old new
+  pub crash_states : FromSyncOn (EachSince (HasWorld before)) old new
 
 -- The store is open: the disk is at rest in the world of what was opened, and the image is that of the disk.
 pub record IsOpen (result : Opened) (new : History) : Type 0 where

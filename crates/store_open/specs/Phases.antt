@@ -51,7 +51,7 @@ HoldsEither directory held after tree = HoldsIn directory held 2 tree ⊎ HoldsI
 -- It holds what it held, and so does all that a crash since the start might have left.
 pub record IsKept (directory : Names) (held : Held) (old new : History) : Type 0 where
   pub tree : HoldsIn directory held 2 (tree_of new)
-  pub images : EachSince (HoldsIn directory held 2) old new
+  pub crash_states : EachSince (HoldsIn directory held 2) old new
 
 -- What is held in the directory becomes this, at once or not at all.
 pub record Lays (directory : Names) (held after : Held) (result : Result (Unit {0}) DiskErr) (old new : History) : Type 0 where

@@ -4,12 +4,14 @@
 
 mod begin_error;
 mod beginning;
+mod copying;
 mod forget_error;
 mod forgetting;
 mod law;
 mod open_error;
 mod opened;
 mod opening;
+mod peeking;
 mod reading;
 mod step;
 mod stored;
@@ -23,6 +25,7 @@ pub use law::laws;
 pub use open_error::OpenError;
 pub use opened::Opened;
 pub use opening::open_store;
+pub use peeking::peek_store;
 pub use reading::read_store;
 pub use store_image::{Image, ImageError, read_image};
 pub use stored::Stored;

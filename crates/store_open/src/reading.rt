@@ -31,7 +31,11 @@ fn check_format(format: u8, dir: &Path) -> Result<(), OpenError>
 }
 
 // What the data directory holds, in format 2. It changes nothing.
-fn load_current<D: Disk>(alloc: Global, disk: &mut D, dir: &Path) -> Result<Held, OpenError>
+pub(crate) fn load_current<D: Disk>(
+    alloc: Global,
+    disk: &mut D,
+    dir: &Path,
+) -> Result<Held, OpenError>
     requires { length dir.now ≡ 2 }
     ensures same { D.told disk.new ≡ D.told disk.old }
     ensures held { IfOk result (λ held. WhereTold (D.told disk.old)

@@ -4,6 +4,7 @@ pub mod Steps
 pub mod NextTag
 pub mod Trees
 pub mod Parts
+pub mod BlockParts
 pub mod Whole
 pub mod WordParts
 pub mod Unique

@@ -86,7 +86,8 @@ unfolding cut pieces first_piece text_length through through_dashes through_unqu
     tag_takes_after items_behind
 lines = refl
 
-helpers : items_behind 0 0 (spots (codes "{{default -7 a}}{{base64_decode a}}{{json a}}{{json}}{{join_array \",\" a}}{{join_map \"=\" \" \" \"no-fail-if-missing\" a}}"))
+helpers : items_behind 0 0 (spots
+    (codes "{{default -7 a}}{{base64_decode a}}{{json a}}{{json}}{{join_array \",\" a}}{{join_map \"=\" \" \" \"no-fail-if-missing\" a}}"))
     ≡ item.print (Default (literal.Int (neg_ℤ (pos 7))) (Root (codes "a" ∷ []))) ∷ item.print (Decode (Root (codes "a" ∷ [])))
     ∷ item.print (Json (Root (codes "a" ∷ []))) ∷ item.print (Plain (Root (codes "json" ∷ [])))
     ∷ item.print (JoinArray (codes ",") (Root (codes "a" ∷ [])))

@@ -24,7 +24,7 @@ use Rattle.template_reader.specs.declared.tag.Name.{Name}
 use Rattle.template_reader.specs.declared.walk.Walk.{Walk}
 use Rattle.template_reader.specs.declared.template_error.TemplateError.{TemplateError}
 use Rattle.template_reader.specs.declared.template_error.TemplateKind.{TemplateKind}
-use Rattle.template_reader.proofs.Parts.{same_name-eq, spells_block}
+use Rattle.template_reader.proofs.BlockParts.{same_name-eq, spells_block}
 use Rattle.template_reader.specs.contracts.template_error.TemplateError as error
 use Rattle.std.specs.Coded.{Coded-set, coded_option}
 use mathlib.Core.Logic.{∥∥₁_elim}

@@ -3,9 +3,9 @@
 #![tactic(auto)]
 
 mod document;
+mod located_fault;
 mod place;
 mod reading;
-mod refusal;
 mod user_data_error;
 mod walk;
 

@@ -6,7 +6,7 @@ ghost use Rattle.user_data.specs.Pairs.{Pairs, printed_path, where_key};
 ghost use Rattle.user_data.specs.Refused.{Refuses};
 
 use crate::UserDataKind;
-use crate::refusal::Refusal;
+use crate::located_fault::LocatedFault;
 use key_names::{Key, KeyFault, Text};
 use std::alloc::{AllocError, Global};
 
@@ -34,7 +34,7 @@ impl Place {
     }
 
     /// The place of the entry of this name below it. `BadKey` is answered exactly where the names are together no key.
-    pub fn below(&self, alloc: Global, name: &str) -> Result<Place, Refusal>
+    pub fn below(&self, alloc: Global, name: &str) -> Result<Place, LocatedFault>
         ensures ok { IfOk result (λ place. place.key ≡ self.now.key ++ name.now ∷ []) }
         ensures valid { IfOk result (λ place. IsTrue (is_key place.key)) }
         ensures refused { (pairs : Pairs) → IfErr result (Refuses (where_key (self.now.key ++ name.now ∷ []) pairs)) }
@@ -42,7 +42,7 @@ impl Place {
         let at = Text::of(joined(alloc, self.at.as_str(), name)?);
         match child_of(&self.key, name)? {
             Some(key) => Ok(Place { key, at }),
-            None => Err(Refusal::Fault(UserDataKind::BadKey, at)),
+            None => Err(LocatedFault::Fault(UserDataKind::BadKey, at)),
         }
     }
 }

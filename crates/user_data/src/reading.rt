@@ -8,7 +8,7 @@ ghost use Rattle.user_data.specs.Refused.{Refuses};
 ghost use Rattle.user_data.specs.declared.user_data_error.UserDataKind.TheVariants.{Memory};
 
 use crate::document::document_pairs;
-use crate::refusal::{Refusal, refused};
+use crate::located_fault::{LocatedFault, refused};
 use crate::{UserDataError, UserDataKind};
 use json_trees::Scalar;
 use key_names::{Key, Text};
@@ -31,15 +31,15 @@ pub fn read(alloc: Global, text: &[u8]) -> Result<Vec<(Key, Scalar)>, UserDataEr
 {
     match pairs_of(alloc, text) {
         Ok(pairs) => Ok(pairs),
-        Err(Refusal::Fault(kind, at)) => Err(UserDataError { kind, at }),
-        Err(Refusal::Memory) => Err(UserDataError {
+        Err(LocatedFault::Fault(kind, at)) => Err(UserDataError { kind, at }),
+        Err(LocatedFault::Memory) => Err(UserDataError {
             kind: UserDataKind::Memory,
             at: Text::of(String::new(alloc)),
         }),
     }
 }
 
-fn pairs_of(alloc: Global, text: &[u8]) -> Result<Vec<(Key, Scalar)>, Refusal>
+fn pairs_of(alloc: Global, text: &[u8]) -> Result<Vec<(Key, Scalar)>, LocatedFault>
     ensures ok { IfOk result (λ pairs. pairs_of text.now ≡ Ok pairs.items) }
     ensures refused { IfErr result (Refuses (pairs_of text.now)) }
     ensures apart { IfOk result (λ pairs. AreApart (keys_of pairs.items)) }

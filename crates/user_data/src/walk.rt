@@ -6,8 +6,8 @@ ghost use Rattle.user_data.specs.Refused.{Appends, Refuses};
 ghost use Rattle.user_data.specs.Rising.{HasRisingNames, RisesWithin};
 
 use crate::UserDataKind;
+use crate::located_fault::LocatedFault;
 use crate::place::Place;
-use crate::refusal::Refusal;
 use json_trees::Scalar;
 use key_names::Key;
 use std::alloc::Global;
@@ -21,7 +21,7 @@ pub fn push_members(
     place: &Place,
     members: &Table,
     pairs: &mut Vec<(Key, Scalar)>,
-) -> Result<(), Refusal>
+) -> Result<(), LocatedFault>
     ensures ok { OnOk result (Appends (members_pairs place.now.key (table_view members.now)) pairs.old.items pairs.new.items) }
     ensures rise { OnOk result (RisesWithin (table_view members.now)) }
     ensures refused { IfErr result (Refuses (members_pairs place.now.key (table_view members.now))) }
@@ -40,7 +40,7 @@ fn push_entry(
     name: &str,
     value: &Value,
     pairs: &mut Vec<(Key, Scalar)>,
-) -> Result<(), Refusal>
+) -> Result<(), LocatedFault>
     ensures ok { OnOk result (Appends (entry_pairs (place.now.key ++ name.now ∷ []) (view value.now)) pairs.old.items pairs.new.items) }
     ensures rise { OnOk result (HasRisingNames (view value.now)) }
     ensures refused { IfErr result (Refuses (entry_pairs (place.now.key ++ name.now ∷ []) (view value.now))) }
@@ -58,7 +58,7 @@ fn push_leaf(
     place: Place,
     value: &Value,
     pairs: &mut Vec<(Key, Scalar)>,
-) -> Result<(), Refusal>
+) -> Result<(), LocatedFault>
     ensures ok { OnOk result (Appends (leaf_pairs place.key (view value.now)) pairs.old.items pairs.new.items) }
     ensures refused { IfErr result (Refuses (leaf_pairs place.key (view value.now))) }
 {
@@ -67,6 +67,6 @@ fn push_leaf(
             pairs.push((place.key, scalar))?;
             Ok(())
         }
-        None => Err(Refusal::Fault(UserDataKind::BadValue, place.at)),
+        None => Err(LocatedFault::Fault(UserDataKind::BadValue, place.at)),
     }
 }

@@ -2,12 +2,12 @@
 use Rattle.std.proofs.Common.{◌≡◌, inl, inr, ◌⊎◌, true, List, [], ◌∷◌, ◌++◌, Some, Result, Ok, Err, OnOk, refl, sym, ap, subst, arith}
 use Rattle.outside.specs.Names.{Names}
 use Rattle.outside.specs.Tree.{link, Tree, set_node, AgreeOn}
-use Rattle.outside.specs.History.{replaced, synced, History, next, tree_of, EachImage, IsSettled, IsSettledOn}
+use Rattle.outside.specs.History.{replaced, synced, History, next, tree_of, EachCrashState, IsSettled, IsSettledOn}
 use Rattle.outside.specs.Since.{EachSince, IsAtOrSync, Touches}
 use Rattle.outside.proofs.Crash.{settled_synced}
 use Rattle.outside.proofs.Since.{since_start, since_next, since_syncs}
 use Rattle.outside.proofs.Goes.{goes_stay, goes_next, tree_untouched, since_untouched_at}
-use Rattle.outside.proofs.Parts.{image_on, image_replaced_on, settled_on_synced}
+use Rattle.outside.proofs.Parts.{state_on, state_replaced_on, settled_on_synced}
 use Rattle.version_links.specs.declared.version.Version.{Version}
 use Rattle.version_links.specs.Names.{is_in_store, Target, IsTarget, numbers}
 use Rattle.version_links.specs.Chain.{Leads, LeadsTo, Outcome, Resolves}
@@ -35,11 +35,11 @@ EachRelink Q (r ∷ rs) = Q r × EachRelink Q rs
 -- ---- any relinks that keep what trees with the same links share
 
 module _ (P : Tree → Type 0) (shared : (one other : Tree) → AgreeOn is_in_store one other → P other → P one) where
-  images : (h : History) (relink : Relink) → InStore relink → IsSettledOn is_in_store h → P (tree_of h) → P (put relink (tree_of h))
-      → EachImage P (relinked relink h)
-  images h relink inside settled old new image is = elim (image_replaced_on is_in_store h relink.0 (Some (link relink.1)) inside settled image is) [
-    | inl was ↦ shared image (tree_of h) was old
-    | inr put ↦ shared image (set_node (tree_of h) relink.0 (Some (link relink.1))) put new
+  crash_states : (h : History) (relink : Relink) → InStore relink → IsSettledOn is_in_store h → P (tree_of h) → P (put relink (tree_of h))
+      → EachCrashState P (relinked relink h)
+  crash_states h relink inside settled old new crashed is = elim (state_replaced_on is_in_store h relink.0 (Some (link relink.1)) inside settled crashed is) [
+    | inl was ↦ shared crashed (tree_of h) was old
+    | inr put ↦ shared crashed (set_node (tree_of h) relink.0 (Some (link relink.1))) put new
   ]
 
   -- Every crash state since the start.
@@ -48,14 +48,15 @@ module _ (P : Tree → Type 0) (shared : (one other : Tree) → AgreeOn is_in_st
   moments [] inside (Ok done) start old new settled now steps since is = subst (λ h. EachSince P start h) (sym is) since
   moments [] inside (Err e) start old new settled now steps since is = absurd is
   moments (r ∷ rs) inside {E = E} (Ok done) start old new settled now steps since is =
-      let put = since_next P start old (replaced r.0 (Some (link r.1))) since (images old r inside.0 settled now steps.0) in
+      let put = since_next P start old (replaced r.0 (Some (link r.1))) since (crash_states old r inside.0 settled now steps.0) in
       let both = since_syncs P start (relinked r old) (kept r old) {E = E} (Ok done) put refl in
       moments rs inside.1 {E = E} (Ok done) start (kept r old) new (settled_on_synced is_in_store (relinked r old)) steps.0 steps.1 both is
   moments (r ∷ rs) inside (Err e) start old new settled now steps since (inl (inl is)) = subst (λ h. EachSince P start h) (sym is) since
   moments (r ∷ rs) inside (Err e) start old new settled now steps since (inl (inr is)) =
-      subst (λ h. EachSince P start h) (sym is) (since_next P start old (replaced r.0 (Some (link r.1))) since (images old r inside.0 settled now steps.0))
+      subst (λ h. EachSince P start h) (sym is) (since_next P start old (replaced r.0 (Some (link r.1))) since
+      (crash_states old r inside.0 settled now steps.0))
   moments (r ∷ rs) inside {E = E} (Err e) start old new settled now steps since (inr more) =
-      let put = since_next P start old (replaced r.0 (Some (link r.1))) since (images old r inside.0 settled now steps.0) in
+      let put = since_next P start old (replaced r.0 (Some (link r.1))) since (crash_states old r inside.0 settled now steps.0) in
       let both = since_syncs P start (relinked r old) (kept r old) {E = E} (Ok tt) put refl in
       moments rs inside.1 {E = E} (Err e) start (kept r old) new (settled_on_synced is_in_store (relinked r old)) steps.0 steps.1 both more
 
@@ -212,8 +213,8 @@ flipped target fits {E = E} result old new is = let touches = touched (IsLinkTo 
       any_moment = λ before settled resolves. moments (ResolvesToEither before target) (shared_either before target) (relinks_to target)
           (refl, (refl, (refl, (refl, tt)))) {E = E} result old old new settled (inl resolves)
           (either before target _ (turns_once target fits (tree_of old) before resolves))
-          (since_start (ResolvesToEither before target) old (λ image im. shared_either before target image (tree_of old)
-          (image_on is_in_store old settled image im)
+          (since_start (ResolvesToEither before target) old (λ crashed im. shared_either before target crashed (tree_of old)
+          (state_on is_in_store old settled crashed im)
           (inl resolves))) is;
       tree = λ before resolves. tree_after (ResolvesToEither before target) (relinks_to target) {E = E} result old new (inl resolves)
           (either before target _ (turns_once target fits (tree_of old) before resolves)) is;
@@ -222,6 +223,6 @@ flipped target fits {E = E} result old new is = let touches = touched (IsLinkTo 
       others = record {
         touches = touches;
         tree = λ path apart. tree_untouched (IsLinkTo target) old new touches path apart;
-        images = λ path apart. since_untouched_at (IsLinkTo target) path apart old new touches;
+        crash_states = λ path apart. since_untouched_at (IsLinkTo target) path apart old new touches;
       };
     }

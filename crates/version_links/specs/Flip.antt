@@ -72,7 +72,7 @@ IsLinkTo target path = let v = target.version in
 pub record ChangesOnlyLinks (target : Target) (old new : History) : Type 0 where
   pub touches : Touches (IsLinkTo target) old new
   pub tree : (path : Names) → (IsLinkTo target path → ⊥) → node_at (tree_of new) path ≡ node_at (tree_of old) path
-  pub images : (path : Names) → (IsLinkTo target path → ⊥) → EachSince (λ image. MayLeave old path (node_at image path)) old new
+  pub crash_states : (path : Names) → (IsLinkTo target path → ⊥) → EachSince (λ crashed. MayLeave old path (node_at crashed path)) old new
 
 -- The links are pointed to a data directory.
 pub record Flips {E : Type 0} (target : Target) (result : Result Unit E) (old new : History) : Type 0 where

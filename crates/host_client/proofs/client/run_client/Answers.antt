@@ -27,7 +27,8 @@ pub returns-in-Ok : goal.returns-in-Ok
 returns-in-Ok g c = record {
   status = c.in-Ok.ending.status;
   line = c.in-Ok.ending.line;
-  ends = by_order (order_of c.in-Ok-Some.command) c.in-Ok.ending (rw c.in-Ok-Some.field-0-is at c.in-Ok-Some.ensures) c.in-Ok.ensures.ended (c.in-Ok.ensures.kept (λ e. cc));
+  ends = by_order (order_of c.in-Ok-Some.command) c.in-Ok.ending
+      (rw c.in-Ok-Some.field-0-is at c.in-Ok-Some.ensures) c.in-Ok.ensures.ended (c.in-Ok.ensures.kept (λ e. cc));
   printed = subst
       (λ (l : List ℕ). IsPrinted c.in-Ok.ending.status l (g.O.Sink.faults c.args.out.now) (g.O.Sink.faults c.printed-in-Ok.new.out)
       (g.O.Sink.told c.args.out.now) (g.O.Sink.told c.printed-in-Ok.new.out) c.printed-in-Ok.result)
@@ -39,7 +40,8 @@ returns-in-Err-Link g c =
     let is = ap stopped c.in-Err-Link.field-0-is in record {
       status = 4;
       line = codes "settingsctl: link\n";
-      ends = cut_off (order_of c.in-Ok-Some.command) (rw c.in-Ok-Some.field-0-is at c.in-Ok-Some.ensures) (c.in-Err-Link.ensures.in_part is) (c.in-Err-Link.ensures.rose is);
+      ends = cut_off (order_of c.in-Ok-Some.command)
+          (rw c.in-Ok-Some.field-0-is at c.in-Ok-Some.ensures) (c.in-Err-Link.ensures.in_part is) (c.in-Err-Link.ensures.rose is);
       printed = c.printed-in-Err-Link.ensures;
     }
 

@@ -65,7 +65,8 @@ pub loop-i-preserved : goal.loop-i-preserved
 loop-i-preserved g c =
     let turn = rw c.in-Ok-None.field-0-is at c.in-Ok-None.ensures.went in record {
       asked = asked_more c.loop-i.links c.loop-i.i c.index-links-i.result c.turn.new.link (omega arith) g.L.Link.told
-          (order_of c.args.command.now) c.args.links.now c.loop-i.replies.items c.loop-i.invariant.as_many c.turn.new.replies.items c.loop-i.invariant.asked turn;
+          (order_of c.args.command.now) c.args.links.now c.loop-i.replies.items c.loop-i.invariant.as_many
+          c.turn.new.replies.items c.loop-i.invariant.asked turn;
       as_many = omega (arith, ap length turn.replies, length-append c.loop-i.replies.items (turn.reply ∷ []), c.loop-i.invariant.as_many);
       kept = stays c.loop-i.links c.loop-i.i c.index-links-i.result c.turn.new.link (omega arith) g.L.Link.faults
           c.in-Ok-None.ensures.cause.kept ∙ c.loop-i.invariant.kept;

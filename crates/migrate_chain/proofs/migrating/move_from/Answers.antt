@@ -6,7 +6,8 @@ use Rattle.release_file.specs.Chain.{HasNoPlan}
 use Rattle.migrate_chain.specs.Errors.{of_plan}
 use Rattle.migrate_chain.proofs.Started.{error_is}
 use Rattle.migrate_chain.proofs.Causes.{cause_quiet, cause_done}
-use Rattle.migrate_chain.proofs.Migrated.{no_way, is_there, migrated, way_known, no_steps, no_way_on, none_mapped, plan_quiet}
+use Rattle.migrate_chain.proofs.Ways.{way_known, no_steps, no_way_on}
+use Rattle.migrate_chain.proofs.Migrated.{no_way, is_there, migrated, none_mapped, plan_quiet}
 use Rattle.migrate_chain.proofs.Ended.{unasked}
 use Rattle.migrate_chain.proofs.migrating.move_from.Goals as goal
 

@@ -55,8 +55,8 @@ returns-in-Ok-Verify-clause-does g c = λ order spelled.
 
 pub returns-in-Ok-Check-clause-does : goal.returns-in-Ok-Check-clause-does
 returns-in-Ok-Check-clause-does g c = λ order spelled.
-    does_read c.check.result _ _ c.in-Ok-Check.field-0 _ order c.in-Ok-Check.field-0-is (c.in-Ok-Check.ensures.exact order spelled)
-    (inl (c.check.ensures.tells, c.check.ensures.same))
+    does_read c.check_with.result _ _ c.in-Ok-Check.field-0 _ order c.in-Ok-Check.field-0-is (c.in-Ok-Check.ensures.exact order spelled)
+    (inl c.check_with.ensures.checked)
 
 pub returns-in-Ok-Migrate-clause-does : goal.returns-in-Ok-Migrate-clause-does
 returns-in-Ok-Migrate-clause-does g c = λ order spelled.
@@ -108,7 +108,7 @@ returns-in-Err-Memory-clause-does g c = λ order spelled. does_nothing _ c.requi
 -- ---- causes
 
 pub returns-in-Ok-Check-clause-spawn_cause : goal.returns-in-Ok-Check-clause-spawn_cause
-returns-in-Ok-Check-clause-spawn_cause g c = λ serves_not. cause_none c.check.result _ c.check.ensures.of_image
+returns-in-Ok-Check-clause-spawn_cause g c = λ serves_not. cause_none c.check_with.result _ c.check_with.ensures.of_check
 
 pub returns-in-Ok-Migrate-clause-spawn_cause : goal.returns-in-Ok-Migrate-clause-spawn_cause
 returns-in-Ok-Migrate-clause-spawn_cause g c = λ serves_not. cause_named c.migrate_to.result _ _ c.migrate_to.ensures.spawn_cause c.migrate_to.ensures.no_door

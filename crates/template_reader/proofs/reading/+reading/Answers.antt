@@ -5,7 +5,8 @@ use Rattle.template_reader.specs.Tree as trees
 use Rattle.template_reader.specs.Forest.{tree_of, tree_in, branch_of}
 use Rattle.template_reader.specs.Reading.{head}
 use Rattle.template_reader.proofs.Parts.{moved_more, moved_stop, last_stop, passed_comment, passed_print, passed_begin, outside_print, outside_begin}
-use Rattle.template_reader.proofs.Parts.{deep_begin, failed_begin, other_wrong, other_twice, other_ends, first_wrong, other_failed, block_ends, block_others}
+use Rattle.template_reader.proofs.Parts.{deep_begin, failed_begin}
+use Rattle.template_reader.proofs.BlockParts.{other_wrong, other_twice, other_ends, first_wrong, other_failed, block_ends, block_others}
 use Rattle.template_reader.proofs.reading.+reading.Goals as goal
 
 pub read_block-returns-in_err-other-in-Otherwise-clause-err : goal.read_block-returns-in_err-other-in-Otherwise-clause-err

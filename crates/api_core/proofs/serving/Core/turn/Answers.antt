@@ -14,7 +14,8 @@ returns-clause-turns g c =
     let now : Core = record { place = old_core.place; held = t.new.held; image = old_core.image; job = t.new.job; faulted = t.result } in
     let failed = failed_with_disk (job_of t.new.job) in
     let calm = calm_running old_core c.requires.sound c.requires.running in
-    let flag = t.ensures.failed ∙ sym (ap (λ (b : Bool). b && failed) c.requires.running) ∙ sym (ap (λ (b : Bool). b || (is_running (job_of old_core.job) && failed)) calm)
+    let flag = t.ensures.failed ∙ sym (ap (λ (b : Bool). b && failed) c.requires.running)
+    ∙ sym (ap (λ (b : Bool). b || (is_running (job_of old_core.job) && failed)) calm)
     in
     moves_map
     (λ old new turn. turns_of old_core now _ refl refl flag _ _ _ old new refl refl

@@ -1,0 +1,4 @@
+pub mod IllTyped
+pub mod Lines
+pub mod Report
+pub mod Laws
