@@ -52,6 +52,12 @@ where
         self.folder.hold.wait();
     }
 
+    /// Takes the lock on the folder now, as the first call would, and answers whether it is held. Where it isn't, nothing is a fault yet: the first call
+    /// tries again, without a wait.
+    pub fn hold(&mut self) -> bool {
+        self.folder.take_hold().is_ok()
+    }
+
     /// No call takes the lock on the folder: for who reads alone what no program writes.
     pub fn take_no_lock(&mut self) {
         self.folder.hold.take_none();

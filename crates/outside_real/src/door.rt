@@ -117,6 +117,17 @@ where
         })
     }
 
+    /// Takes the lock on the socket now, where that is wanted and no other program has it, so that others see at once that a server is at work. Where it
+    /// can't, nothing happens: the first accept says why.
+    pub fn claim(&mut self, is_wanted: bool)
+        ensures same { state_of self.new.clients ≡ state_of self.old.clients }
+        ensures faults { self.new.faults ≡ self.old.faults }
+    {
+        if is_wanted && self.lock.is_none() {
+            self.lock = take_lock_within(&self.rt, self.root.as_str(), "socket-lock", LOOKS).ok();
+        }
+    }
+
     // The next client whose request is whole. The socket is bound first, where it wasn't.
     fn client(&mut self) -> io::Result<Serving>
         ensures same { state_of self.new.clients ≡ state_of self.old.clients }

@@ -1,5 +1,6 @@
 //! What is in the way of a call, for a person.
 use crate::failure::Failure;
+use crate::quoting::plain;
 use std::alloc::AllocError;
 use std::fs;
 use std::io::{self, ErrorKind};
@@ -157,6 +158,8 @@ pub fn explain(
     };
     let path = below(root, strayed.place.as_str());
     if is_of_name(failure.error()) {
+        let path = plain(files.alloc(), path)?;
+        let path = path.as_str();
         return format!(in files.alloc(); "{path}: a name outside the rules of the store");
     }
     explain_at(files, root, failure, strayed.call, path)

@@ -1,4 +1,5 @@
 //! What a device says of its last failure, for a person.
+use crate::quoting::plain;
 use outside::Path;
 use std::alloc::{AllocError, Global};
 use std::io;
@@ -85,8 +86,8 @@ impl Failure {
 
     /// The same of another call, at another place: that by which it failed. Or out of memory.
     pub fn print_at(&self, alloc: Global, call: &str, on: &str) -> Result<String, AllocError> {
-        let words = words_of(alloc, &self.error)?;
-        let words = words.as_str();
+        let (on, words) = (plain(alloc, on)?, words_of(alloc, &self.error)?);
+        let (on, words) = (on.as_str(), words.as_str());
         format!(in alloc; "{call} {on}: {words}")
     }
 }

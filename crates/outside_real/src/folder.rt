@@ -62,6 +62,11 @@ where
         explain(&self.rt, self.root.as_str(), failure, self.strayed.as_ref())
     }
 
+    /// Takes the lock on the folder, if it isn't taken. `WouldBlock` where another program holds it.
+    pub fn take_hold(&mut self) -> io::Result<()> {
+        self.hold.take(&self.rt, self.root.as_str())
+    }
+
     // The call failed by this one, at this place.
     pub(crate) fn stray(&mut self, call: &'static str, place: Option<String>) {
         if let Some(place) = place {
@@ -75,7 +80,7 @@ where
             return Err(io::Error::from(ErrorKind::Other));
         }
         self.strayed = None;
-        let answer = self.hold.take(&self.rt, self.root.as_str());
+        let answer = self.take_hold();
         if answer.is_err() {
             let place = place_in_work(self.rt.alloc(), self.root.as_str(), "lock").ok();
             self.stray("lock", place);

@@ -73,9 +73,9 @@ impl<R: Net + Clock + Drop> Link for RealLink<R> {
 
     fn connect(&mut self) -> Result<(), Failed> {
         let answer = UnixStream::connect(&self.rt, self.place.as_str());
-        let stream = self
-            .faults
-            .counted("connect to", On::Name("api.sock"), answer)?;
+        let place = self.place.as_str();
+        let name = place.strip_prefix("./").unwrap_or(place);
+        let stream = self.faults.counted("connect to", On::Name(name), answer)?;
         self.stream = Some(stream);
         self.patience = Patience::of_seconds(PATIENCE);
         Ok(())

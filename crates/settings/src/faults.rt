@@ -110,7 +110,7 @@ fn row_fault(alloc: Global, text: &[u8], at: &str) -> Result<Option<String>, All
     match types.get(name) {
         Some(Value::String(word)) => {
             let word = word.as_str();
-            Ok(Some(format!(in alloc; "{at}: \"{word}\" is no type word")?))
+            Ok(Some(format!(in alloc; "{at}: {word:?} is no type word")?))
         }
         _ => Ok(Some(format!(in alloc; "{at}: no text with a type word")?)),
     }

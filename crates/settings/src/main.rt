@@ -9,13 +9,14 @@ mod usage;
 
 use crate::usage::PAGE;
 use api_http::WholeRequests;
+use command_words::Command;
 use event_lines::Discard;
 use outside::{Asker, Disk, Door, Sink};
-use outside_real::{RealDisk, RealDoor, RealSink, RealSpawner, words_of};
+use outside_real::{LimitedWriter, RealDisk, RealDoor, RealSink, RealSpawner, Stream, words_of};
 use program_version::VERSION;
 use settings_run::run;
 use std::alloc::{AllocError, Global};
-use std::io::{self, Write};
+use std::io::{self, Stderr, Write};
 use std::process::ExitCode;
 
 /// The exit status of a program that ran out of memory in making its devices, as that of a command.
@@ -48,24 +49,32 @@ fn main(rt: HostRuntime) -> ExitCode {
     }
 }
 
-// Prints what was asked for besides the commands: the page, or the version. None where the words ask for neither.
-fn told(rt: &HostRuntime, words: &[String]) -> Option<u8> {
+// What is printed besides what the commands print: the page, or the version. None where the words ask for neither. Or out of memory.
+fn asked_of(alloc: Global, words: &[String]) -> Result<Option<String>, AllocError> {
     let [word] = words else {
-        return None;
+        return Ok(None);
     };
-    let answer = match word.as_str() {
-        "-h" | "--help" => print!(rt; "{PAGE}"),
-        "--version" => println!(rt; "settings {VERSION}"),
-        _ => return None,
-    };
-    Some(if answer.is_ok() { 0 } else { OUTPUT })
+    match word.as_str() {
+        "-h" | "--help" => Ok(Some(String::from_str(alloc, PAGE)?)),
+        "--version" => Ok(Some(format!(in alloc; "settings {VERSION}\n")?)),
+        _ => Ok(None),
+    }
+}
+
+// Writes the text to standard error, as far as that takes it.
+fn say(rt: &HostRuntime, text: &str) {
+    if let Ok(files) = rt.clone() {
+        let _ = LimitedWriter::new(files, Stream::Error, rt.stderr()).write_all(text.as_bytes());
+    }
 }
 
 // Tells on standard error what failed, where a device did.
 fn tell(rt: &HostRuntime, failure: Result<Option<String>, AllocError>) {
     if let Ok(Some(line)) = failure {
         let line = line.as_str();
-        let _ = eprintln!(rt; "settings: {line}");
+        if let Ok(line) = format!(in rt.alloc(); "settings: {line}\n") {
+            say(rt, line.as_str());
+        }
     }
 }
 
@@ -85,13 +94,26 @@ fn disk_for(rt: &HostRuntime, words: &[String]) -> io::Result<RealDisk<HostRunti
     Ok(disk)
 }
 
+// The line that tells which word is at fault; None where there is no word. Or out of memory.
+fn misuse_line(alloc: Global, words: &[String]) -> Result<Option<String>, AllocError> {
+    match misuse::fault_of(alloc, words)? {
+        Some(fault) => {
+            let fault = fault.as_str();
+            Ok(Some(format!(in alloc; "usage: {fault}")?))
+        }
+        None => Ok(None),
+    }
+}
+
 // Tells on standard error which word is at fault, and then the words of all commands.
 fn tell_misuse(rt: &HostRuntime, words: &[String]) {
-    if let Ok(Some(line)) = misuse::fault_of(rt.alloc(), words) {
-        let line = line.as_str();
-        let _ = eprintln!(rt; "settings: usage: {line}");
-    }
-    let _ = eprint!(rt; "{PAGE}");
+    tell(rt, misuse_line(rt.alloc(), words));
+    say(rt, PAGE);
+}
+
+// Whether the words are those of a server.
+fn serves(alloc: Global, words: &[String]) -> bool {
+    matches!(Command::read(alloc, words), Ok(Command::Serve { .. }))
 }
 
 // Runs the command, with this log, or without one where nobody can hear it.
@@ -114,6 +136,29 @@ fn run_heard<D: Disk, S: Asker, N: Door, O: Sink, L: Sink>(
     run(alloc, words, disk, spawner, door, out, &mut Discard)
 }
 
+// The log, which is written to standard error.
+fn log_of(rt: &HostRuntime) -> io::Result<RealSink<LimitedWriter<HostRuntime, Stderr>>> {
+    let writer = LimitedWriter::new(rt.clone()?, Stream::Error, rt.stderr());
+    Ok(RealSink::new(rt.alloc(), writer))
+}
+
+// What failed, in words, where it was a device.
+fn failure_of<W: Write + Drop>(
+    status: u8,
+    disk: &RealDisk<HostRuntime>,
+    door: &RealDoor<HostRuntime, WholeRequests>,
+    spawner: &RealSpawner<HostRuntime>,
+    out: &RealSink<W>,
+) -> Result<Option<String>, AllocError> {
+    match status {
+        DISK => disk.last_failure(),
+        DOOR => door.last_failure(),
+        SPAWN => spawner.last_failure(),
+        OUTPUT => out.last_failure(),
+        _ => Ok(None),
+    }
+}
+
 // The status of the command of these words. Standard error gets the log, says what failed, and where the words spell no command, how they
 // are spelled.
 fn carried_out<W: Write + Drop>(
@@ -123,12 +168,15 @@ fn carried_out<W: Write + Drop>(
 ) -> io::Result<u8> {
     let alloc = rt.alloc();
     // where standard error is closed, the first file that is opened takes its place, and is not to get the log
-    let mut log = RealSink::new(alloc, rt.stderr());
+    let mut log = log_of(rt)?;
     let is_heard = !log.is_closed();
     let mut disk = disk_for(rt, words)?;
+    // a server has both locks from its start, so that others see at once that it is at work, at the job of its boot too
+    let is_server = serves(alloc, words) && disk.hold();
     let mut spawner = RealSpawner::new(rt.clone()?, ".")?;
     // the socket is bound by the first accept, which `serve` alone asks for
     let mut door = RealDoor::new(rt.clone()?, ".", WholeRequests::new(alloc))?;
+    door.claim(is_server);
     let status = run_heard(
         alloc,
         words,
@@ -146,25 +194,31 @@ fn carried_out<W: Write + Drop>(
     }
     let failure = match status {
         BAD_IMAGE | USER_DATA => faults::fault_of(alloc, &mut disk, words, out.first_bytes()),
-        DISK => disk.last_failure(),
-        DOOR => door.last_failure(),
-        SPAWN => spawner.last_failure(),
-        OUTPUT => out.last_failure(),
-        _ => Ok(None),
+        _ => failure_of(status, &disk, &door, &spawner, out),
     };
     tell(rt, failure);
     Ok(status)
 }
 
+// Prints the text that was asked for, and answers the status.
+fn print_asked(out: &mut impl Write, text: &str) -> u8 {
+    if out.write_all(text.as_bytes()).is_ok() {
+        0
+    } else {
+        OUTPUT
+    }
+}
+
 // The status of the run. Where standard output is closed nothing is done: the lock would take its place, and get what is printed.
 fn status_of(rt: &HostRuntime) -> io::Result<u8> {
-    let mut out = RealSink::new(rt.alloc(), rt.stdout());
+    let mut writer = LimitedWriter::new(rt.clone()?, Stream::Output, rt.stdout());
+    let words = words_of(rt)?;
+    if let Some(text) = asked_of(rt.alloc(), &words)? {
+        return Ok(print_asked(&mut writer, text.as_str()));
+    }
+    let mut out = RealSink::new(rt.alloc(), writer);
     if out.is_closed() {
         return Ok(OUTPUT);
     }
-    let words = words_of(rt)?;
-    match told(rt, &words) {
-        Some(status) => Ok(status),
-        None => carried_out(rt, &words, &mut out),
-    }
+    carried_out(rt, &words, &mut out)
 }

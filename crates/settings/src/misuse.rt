@@ -1,5 +1,6 @@
 //! Which word is at fault, where the words spell no command.
 use command_words::{Command, WordsError};
+use outside_real::plain;
 use std::alloc::{AllocError, Global};
 
 // The words of all commands.
@@ -90,6 +91,7 @@ fn wanted_by(command: &str) -> &'static str {
             "[--boot] [--slice N] [--while-idle] [--connections N] [--quiet], N at most 4294967295 and a slice at least 1",
         "set" => "KEY=JSON ...",
         "apply" => "[--all]",
+        "check" => "[--store]",
         "forget" => "KEY ...",
         "user-data" | "restore" => "PATH, a path below the working folder",
         "load" => "N, from 1 to 10000",
@@ -106,20 +108,24 @@ fn fault_of_each(
     for word in words {
         let word = word.as_str();
         if let Some(wrong) = wrong_word(alloc, command, word)? {
+            let word = plain(alloc, word)?;
+            let word = word.as_str();
             return Ok(Some(format!(in alloc; "{word}: {wrong}")?));
         }
     }
     Ok(None)
 }
 
-/// The word at fault, where the words spell no command, with what is wrong, as `settings.motd=hi: no JSON (a text stands in double quotes)`; None
-/// where there is no word. Or out of memory.
+/// The word at fault, where the words spell no command, with what is wrong, as `settings.motd=hi: no JSON (a text stands in double quotes)`, in one line;
+/// None where there is no word. Or out of memory.
 pub fn fault_of(alloc: Global, words: &[String]) -> Result<Option<String>, AllocError> {
     let Some((command, behind)) = words.split_first() else {
         return Ok(None);
     };
     let command = command.as_str();
     if !COMMANDS.contains(&command) {
+        let command = plain(alloc, command)?;
+        let command = command.as_str();
         return Ok(Some(format!(in alloc; "{command}: no command")?));
     }
     if matches!(command, "set" | "get" | "forget") {

@@ -2,15 +2,16 @@
 //! prints the answer.
 #![tactic(auto)]
 
+mod misuse;
 mod paced;
 mod usage;
 
 use crate::paced::PacedLink;
 use crate::usage::PAGE;
 use host_client::{Pace, is_verb, pace_in, run_client};
-use outside_real::{RealLink, RealSink, words_of};
+use outside_real::{LimitedWriter, RealLink, RealSink, Stream, words_of};
 use program_version::VERSION;
-use std::alloc::AllocError;
+use std::alloc::{AllocError, Global};
 use std::fs;
 use std::io::{self, Write};
 use std::process::ExitCode;
@@ -43,25 +44,50 @@ fn main(rt: HostRuntime) -> ExitCode {
     }
 }
 
-// Prints what was asked for besides a question: the page, or the version. None where the words ask for neither.
-fn told(rt: &HostRuntime, words: &[String]) -> Option<u8> {
+// What is printed besides the answer to a question: the page, or the version. None where the words ask for neither. Or out of memory.
+fn asked_of(alloc: Global, words: &[String]) -> Result<Option<String>, AllocError> {
     let [word] = words else {
-        return None;
+        return Ok(None);
     };
-    let answer = match word.as_str() {
-        "-h" | "--help" => print!(rt; "{PAGE}"),
-        "--version" => println!(rt; "settingsctl {VERSION}"),
-        _ => return None,
-    };
-    Some(if answer.is_ok() { 0 } else { OUTPUT })
+    match word.as_str() {
+        "-h" | "--help" => Ok(Some(String::from_str(alloc, PAGE)?)),
+        "--version" => Ok(Some(format!(in alloc; "settingsctl {VERSION}\n")?)),
+        _ => Ok(None),
+    }
+}
+
+// Writes the text to standard error, as far as that takes it.
+fn say(rt: &HostRuntime, text: &str) {
+    if let Ok(files) = rt.clone() {
+        let _ = LimitedWriter::new(files, Stream::Error, rt.stderr()).write_all(text.as_bytes());
+    }
 }
 
 // Tells on standard error what failed, where a device did.
 fn tell(rt: &HostRuntime, failure: Result<Option<String>, AllocError>) {
     if let Ok(Some(line)) = failure {
         let line = line.as_str();
-        let _ = eprintln!(rt; "settingsctl: {line}");
+        if let Ok(line) = format!(in rt.alloc(); "settingsctl: {line}\n") {
+            say(rt, line.as_str());
+        }
     }
+}
+
+// The line that tells which word is at fault; None where there is no word. Or out of memory.
+fn misuse_line(alloc: Global, words: &[String]) -> Result<Option<String>, AllocError> {
+    match misuse::fault_of(alloc, words)? {
+        Some(fault) => {
+            let fault = fault.as_str();
+            Ok(Some(format!(in alloc; "usage: {fault}")?))
+        }
+        None => Ok(None),
+    }
+}
+
+// Tells on standard error which word is at fault, and then how the words are spelled.
+fn tell_misuse(rt: &HostRuntime, words: &[String]) {
+    tell(rt, misuse_line(rt.alloc(), words));
+    say(rt, PAGE);
 }
 
 // The folder that is asked, and the words after it: DIR where the words begin with `-C DIR`. By default it is the working folder;
@@ -87,25 +113,27 @@ fn links_of(rt: &HostRuntime, folder: &str, pace: Pace) -> io::Result<Links> {
     Ok(links)
 }
 
-// The status of the run. Where standard output is closed nothing is asked: the socket would take its place, and get what is printed.
-// Standard error says what failed, and where the words ask no question, how they are spelled.
-fn status_of(rt: &HostRuntime) -> io::Result<u8> {
+// Prints the text that was asked for, and answers the status.
+fn print_asked(out: &mut impl Write, text: &str) -> u8 {
+    if out.write_all(text.as_bytes()).is_ok() {
+        0
+    } else {
+        OUTPUT
+    }
+}
+
+// The status of the questions of these words. Standard error says what failed, and where they ask nothing, how they are spelled.
+fn answered<W: Write + Drop>(
+    rt: &HostRuntime,
+    words: &[String],
+    out: &mut RealSink<W>,
+) -> io::Result<u8> {
     let alloc = rt.alloc();
-    let mut out = RealSink::new(alloc, rt.stdout());
-    if out.is_closed() {
-        return Ok(OUTPUT);
-    }
-    let words = words_of(rt)?;
-    if let Some(status) = told(rt, &words) {
-        return Ok(status);
-    }
-    let (folder, words) = folder_of(rt, &words);
+    let (folder, words) = folder_of(rt, words);
     let mut links = links_of(rt, folder, pace_in(alloc, words)?)?;
-    let status = run_client(alloc, words, &mut links, &mut out);
+    let status = run_client(alloc, words, &mut links, out);
     match status {
-        MISUSED => {
-            let _ = eprint!(rt; "{PAGE}");
-        }
+        MISUSED => tell_misuse(rt, words),
         LINK => {
             for paced in &links {
                 tell(rt, paced.link().last_failure());
@@ -115,4 +143,18 @@ fn status_of(rt: &HostRuntime) -> io::Result<u8> {
         _ => {}
     }
     Ok(status)
+}
+
+// The status of the run. Where standard output is closed nothing is asked: the socket would take its place, and get what is printed.
+fn status_of(rt: &HostRuntime) -> io::Result<u8> {
+    let mut writer = LimitedWriter::new(rt.clone()?, Stream::Output, rt.stdout());
+    let words = words_of(rt)?;
+    if let Some(text) = asked_of(rt.alloc(), &words)? {
+        return Ok(print_asked(&mut writer, text.as_str()));
+    }
+    let mut out = RealSink::new(rt.alloc(), writer);
+    if out.is_closed() {
+        return Ok(OUTPUT);
+    }
+    answered(rt, &words, &mut out)
 }
