@@ -1,12 +1,13 @@
 -- Plans, and files as they would be, as readings.
-use Rattle.std.proofs.Common.{◌≡◌, ℕ, Bool, if◌then◌else◌, List, [], Option, Some, None, IsSome, is_some, refl, sym, ◌∙◌, ap, subst}
-use Rattle.std.specs.FinMap.{FinMap, get}
+use Rattle.std.proofs.Common.{◌≡◌, ℕ, Bool, if◌then◌else◌, List, [], Option, Some, None, IsSome, is_some, unwrap_or, refl, sym, ◌∙◌, ap, subst}
+use Rattle.std.specs.FinMap.{FinMap, empty, get}
 use Rattle.key_names.specs.Order.{key_cmp}
 use Rattle.json_trees.specs.declared.pending.Pending.{Pending}
 use Rattle.settings_tree.specs.Content.{Contents}
 use Rattle.settings_tree.specs.Laid.{laid}
 use Rattle.settings_tree.specs.declared.entry.Owed.{Owed}
-use Rattle.pending_tx.specs.Transactions.{changed_keys, committed}
+use Rattle.settings_tree.specs.Over.{laid_over}
+use Rattle.pending_tx.specs.Transactions.{changed_in, changed_keys, committed, owing, pending_of}
 use Rattle.metadata_links.specs.declared.manifest.Manifest.{Manifest}
 use Rattle.settings_machine.specs.declared.refusal.Refusal.TheVariants.{NoName}
 use Rattle.settings_machine.specs.World.{Key, Image, rendered}
@@ -65,6 +66,21 @@ module _ (c : Core) where
       by I None there = absurd (there refl)
       by I (Some p) there = refl
 
+    -- What the transaction has pending is what is laid over the live settings.
+    keys_are : (m : FinMap key_cmp Pending) → Some m ≡ get c.held.pending tx → m ≡ pending_of c.held tx
+    keys_are m is = ap (λ (o : Pends). unwrap_or o empty) is
+
+    some_there : (m : FinMap key_cmp Pending) → Some m ≡ get c.held.pending tx → get c.held.pending tx ≡ None → ⊥
+    some_there m is none = cc (is, none)
+
+    pub plan_of_keys : (m : FinMap key_cmp Pending) (changed : List Key) (owed : Owed) (a : Answer) → Some m ≡ get c.held.pending tx
+        → changed ≡ changed_in c.held m → owed ≡ owing c.held.owed changed → PlansOver c (laid_over c.held.live m) owed changed a
+        → IsReading c (Plan (Some tx)) a
+    plan_of_keys m changed owed a is is_changed is_owed plans =
+        let keys = keys_are m is in
+        let all = is_changed ∙ ap (changed_in c.held) keys in
+        plan_after a (some_there m is) (same_plan _ _ _ _ _ _ a (ap (laid_over c.held.live) keys) (is_owed ∙ ap (owing c.held.owed) all) all plans)
+
   -- ---- files
 
   module _ (file : List ℕ) where
@@ -82,3 +98,7 @@ module _ (c : Core) where
         by : (I : Image) (o : Pends) → (o ≡ None → ⊥) → committed_file I c.held file tx o ≡ rendered_reply file (rendered I file (committed c.held tx).live)
         by I None there = absurd (there refl)
         by I (Some p) there = refl
+
+      pub file_of_keys : (tx : List ℕ) (m : FinMap key_cmp Pending) (a : Answer) → Some m ≡ get c.held.pending tx
+          → RendersOver c (laid_over c.held.live m) file a → IsReading c (PlanFile file (Some tx)) a
+      file_of_keys tx m a is renders = file_after tx a (some_there tx m is) (same_file _ _ file a (ap (laid_over c.held.live) (keys_are tx m is)) renders)

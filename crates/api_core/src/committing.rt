@@ -1,10 +1,8 @@
 //! What a request does to a core is written down.
-ghost use Rattle.std.specs.Prelude.{◌≡◌, ◌≢◌, [], length, false, Err, IfOk, OnOk, OnErr};
+ghost use Rattle.std.specs.Prelude.{◌≡◌, ◌≢◌, [], false, Err};
 ghost use Rattle.outside.specs.Told.{Moves};
 ghost use Rattle.outside.specs.Faults.{HasCauseOf};
 ghost use Rattle.settings_machine.specs.Requests.{Request};
-ghost use Rattle.settings_tree.specs.Laid.{laid, KeepsPrefixRule, NamesWeak, TellsWeak};
-ghost use Rattle.fs_datastore.specs.Batches.{Follows};
 ghost use Rattle.machine_answers.specs.declared.answer.Answer.{Answer};
 ghost use Rattle.api_core.specs.Cores.{IsSound, Commits, core_state};
 ghost use Rattle.api_core.specs.Jobs.{HasRoom};
@@ -14,27 +12,10 @@ ghost use Rattle.api_core.specs.Carried.{Carries};
 use crate::Core;
 use crate::next_job::{fail, go, reserve};
 use crate::planned::Effect;
-use commit_journal::{Batch, change};
-use fs_datastore::batch_of;
-use outside::{Disk, DiskErr, Path};
-use settings_tree::{Change, Held};
-use std::alloc::{AllocError, Global};
-
-// Writes the change as a batch, and lays it over what is held; where it runs out of memory it lays nothing.
-fn lay(alloc: Global, dir: &Path, held: &mut Held, change: Change) -> Result<Batch, AllocError>
-    requires two_names { length dir.now ≡ 2 }
-    requires rule { KeepsPrefixRule (laid held.old change) }
-    requires weak { NamesWeak held.old change }
-    requires told { TellsWeak held.old change }
-    ensures held { OnOk result (held.new ≡ laid held.old change) }
-    ensures kept { OnErr result (held.new ≡ held.old) }
-    ensures dir { IfOk result (λ batch. batch.dir ≡ dir.now) }
-    ensures follows { IfOk result (λ batch. Follows change batch.entries) }
-{
-    let batch = batch_of(alloc, dir, &change)?;
-    held.lay(change)?;
-    Ok(batch)
-}
+use commit_journal::change;
+use outside::{Disk, DiskErr};
+use std::alloc::Global;
+use store_open::lay_change;
 
 impl Core {
     // Commits the effect, where a running job has room for the keys that it notes.
@@ -60,7 +41,7 @@ impl Core {
             go(&mut self.job, next);
             return Ok(());
         }
-        let batch = lay(alloc, &self.place.directory, &mut self.held, changes)?;
+        let batch = lay_change(alloc, &self.place.directory, &mut self.held, changes)?;
         if change(disk, &batch).is_err() {
             fail(&mut self.job);
             self.faulted = true;

@@ -3,6 +3,7 @@ ghost use Rattle.std.specs.Prelude.{◌≡◌, IsTrue, All, IfOk, None, IsSome};
 ghost use Rattle.std.specs.FinMap.{get};
 ghost use Rattle.key_names.specs.Key.{is_prefix};
 ghost use Rattle.settings_tree.specs.Content.{settings_key};
+ghost use Rattle.settings_tree.specs.Over.{laid_over};
 ghost use Rattle.settings_machine.specs.Requests as machine;
 ghost use Rattle.settings_machine.specs.Typed.{first_wanted};
 ghost use Rattle.pending_tx.specs.Transactions.{changed_keys, changed_in, last_of, committed, set_at_once};
@@ -14,24 +15,26 @@ use crate::planned::Planned;
 use crate::planning::without_effect;
 use key_names::Key;
 use machine_answers::Answer;
-use pending_tx::{Commit, CommitError, live_after};
+use pending_tx::{changed_in, last_of};
 use settings_machine::{Refusal, first_refusing, refused_pair};
-use settings_tree::{Content, KeyList, Owed, Pending, TxName};
+use settings_maps::KeyMap;
+use settings_tree::{LiveView, Owed, Pending, TxName};
 use std::alloc::{AllocError, Global};
 
 impl Core {
-    // Why a change is refused after which these values are live and those at these keys are changed.
-    fn refusal_on(
+    // Why it is refused to lay these values and removals over the live settings.
+    fn refusal_over(
         &self,
         alloc: Global,
-        live: &Content,
-        changed: KeyList,
+        keys: &KeyMap<Pending>,
     ) -> Result<Option<Refusal>, AllocError>
-        ensures { IfOk result (Guards self.now live.now changed) }
+        ensures { IfOk result (Guards self.now (laid_over self.now.held.live keys.now) (changed_in self.now.held keys.now)) }
     {
         let image = &self.image;
+        let changed = changed_in(alloc, &self.held, keys)?;
         let files = image.manifest.files_of(&Owed::Keys(changed))?;
-        match first_refusing(alloc, &image.templates, &image.model.os, live, &files)? {
+        let live = LiveView::over(&self.held.live, keys);
+        match first_refusing(alloc, &image.templates, &image.model.os, &live, &files)? {
             Some((file, error)) => Ok(Some(Refusal::NotRendered { file, error })),
             None => Ok(None),
         }
@@ -39,44 +42,26 @@ impl Core {
 
     // Why the commit of the transaction is refused, where it is there.
     fn commit_refusal(&self, alloc: Global, tx: &TxName) -> Result<Option<Refusal>, AllocError>
-        requires sound { IsSoundCore self.now }
         ensures there { IfOk result (λ refusal. IsSome (get self.now.held.pending tx.now)
             → Guards self.now (committed self.now.held tx.now).live (changed_keys self.now.held tx.now) refusal) }
         ensures missing { IfOk result (λ refusal. get self.now.held.pending tx.now ≡ None → refusal ≡ None) }
     {
-        match pending_tx::commit(alloc, &self.held, tx) {
-            Ok(
-                Commit {
-                    changed,
-                    change,
-                    ..
-                },
-            ) => {
-                let live = live_after(&self.held, change)?;
-                self.refusal_on(alloc, &live, changed)
-            }
-            Err(CommitError::NoPending) => Ok(None),
-            Err(CommitError::Memory) => Err(AllocError),
+        match self.held.pending.keys(tx) {
+            Some(keys) => self.refusal_over(alloc, keys),
+            None => Ok(None),
         }
     }
 
-    // Why it is refused to set the pairs, none of which the types refuse.
+    // Why it is refused to set the pairs.
     fn set_refusal(
         &self,
         alloc: Global,
         pairs: &[(Key, Pending)],
     ) -> Result<Option<Refusal>, AllocError>
-        requires taken { first_wanted self.now.image.model.types pairs.now ≡ None }
-        requires sound { IsSoundCore self.now }
         ensures { IfOk result (Guards self.now (set_at_once self.now.held pairs.now).live (changed_in self.now.held (last_of pairs.now))) }
     {
-        let Commit {
-            changed,
-            change,
-            ..
-        } = pending_tx::set(alloc, &self.held, pairs)?;
-        let live = live_after(&self.held, change)?;
-        self.refusal_on(alloc, &live, changed)
+        let keys = last_of(alloc, pairs)?;
+        self.refusal_over(alloc, &keys)
     }
 }
 

@@ -1,26 +1,33 @@
 //! What a job would do, and what a configuration file would be.
-ghost use Rattle.std.specs.Prelude.{IfOk, IsSome};
+ghost use Rattle.std.specs.Prelude.{◌≡◌, IfOk, IsSome};
 ghost use Rattle.std.specs.FinMap.{get};
 ghost use Rattle.settings_machine.specs.Requests as machine;
-ghost use Rattle.api_core.specs.Plans.{IsSoundCore, IsReading};
+ghost use Rattle.api_core.specs.Plans.{IsReading};
 ghost use Rattle.api_core.specs.Planning.{PlansOver, RendersOver};
 ghost use Rattle.api_core.specs.Prints.{CanPrint};
 
 use crate::Core;
 use key_names::{Bytes, Text};
 use machine_answers::{Answer, Body};
-use pending_tx::{Commit, CommitError, live_after};
+use pending_tx::{changed_in, owed_with};
 use settings_machine::{Refusal, file_bytes, job_plan};
-use settings_tree::{Content, KeyList, Owed, TxName};
+use settings_tree::{KeyList, LiveView, Owed, TxName};
 use std::alloc::{AllocError, Global};
 use template_eval::RenderError;
+
+// The transaction isn't there.
+fn no_pending(tx: &TxName) -> Result<Answer, AllocError>
+    ensures { IfOk result (λ answer. answer ≡ Answer.Refused (Refusal.NoPending tx.now)) }
+{
+    Ok(Answer::Refused(Refusal::NoPending { tx: tx.copy()? }))
+}
 
 impl Core {
     // The plan of a job over these live values, where this is owed and these keys are changed before.
     fn plan_over(
         &self,
         alloc: Global,
-        live: &Content,
+        live: &LiveView<'_>,
         owed: Owed,
         changed: KeyList,
     ) -> Result<Answer, AllocError>
@@ -42,32 +49,20 @@ impl Core {
 
     // The plan after the commit of the transaction, or that it isn't there.
     fn committed_plan(&self, alloc: Global, tx: &TxName) -> Result<Answer, AllocError>
-        requires sound { IsSoundCore self.now }
         ensures reads { IfOk result (IsReading self.now (machine.Plan (Some tx.now))) }
         ensures prints { IfOk result CanPrint }
     {
-        match pending_tx::commit(alloc, &self.held, tx) {
-            Ok(
-                Commit {
-                    changed,
-                    change,
-                    ..
-                },
-            ) => {
-                let owed = self.held.owed_after(&change).copy()?;
-                let live = live_after(&self.held, change)?;
-                self.plan_over(alloc, &live, owed, changed)
-            }
-            Err(CommitError::NoPending) => Ok(Answer::Refused(Refusal::NoPending {
-                tx: tx.copy()?,
-            })),
-            Err(CommitError::Memory) => Err(AllocError),
-        }
+        let Some(keys) = self.held.pending.keys(tx) else {
+            return no_pending(tx);
+        };
+        let changed = changed_in(alloc, &self.held, keys)?;
+        let owed = owed_with(&self.held.owed, &changed)?;
+        let live = LiveView::over(&self.held.live, keys);
+        self.plan_over(alloc, &live, owed, changed)
     }
 
     /// The plan of a job, now or after the commit of a transaction.
     pub(crate) fn job_plan(&self, alloc: Global, tx: &Option<TxName>) -> Result<Answer, AllocError>
-        requires sound { IsSoundCore self.now }
         ensures reads { IfOk result (IsReading self.now (machine.Plan tx.now)) }
         ensures prints { IfOk result CanPrint }
     {
@@ -75,13 +70,19 @@ impl Core {
             Some(tx) => self.committed_plan(alloc, tx),
             None => {
                 let owed = self.held.owed.copy()?;
-                self.plan_over(alloc, &self.held.live, owed, KeyList::new(alloc))
+                let live = LiveView::of(&self.held.live);
+                self.plan_over(alloc, &live, owed, KeyList::new(alloc))
             }
         }
     }
 
     // The file as it renders over these live values, or why its template refuses.
-    fn rendered(&self, alloc: Global, live: &Content, file: &Text) -> Result<Answer, AllocError>
+    fn rendered(
+        &self,
+        alloc: Global,
+        live: &LiveView<'_>,
+        file: &Text,
+    ) -> Result<Answer, AllocError>
         ensures renders { IfOk result (RendersOver self.now live.now file.now) }
         ensures prints { IfOk result CanPrint }
     {
@@ -103,20 +104,13 @@ impl Core {
 
     // The file after the commit of the transaction, or that this isn't there.
     fn committed_file(&self, alloc: Global, file: &Text, tx: &TxName) -> Result<Answer, AllocError>
-        requires sound { IsSoundCore self.now }
-        requires known { IsSome (get self.now.image.manifest.files file.now) }
+        requires { IsSome (get self.now.image.manifest.files file.now) }
         ensures reads { IfOk result (IsReading self.now (machine.PlanFile file.now (Some tx.now))) }
         ensures prints { IfOk result CanPrint }
     {
-        match pending_tx::commit(alloc, &self.held, tx) {
-            Ok(Commit { change, .. }) => {
-                let live = live_after(&self.held, change)?;
-                self.rendered(alloc, &live, file)
-            }
-            Err(CommitError::NoPending) => Ok(Answer::Refused(Refusal::NoPending {
-                tx: tx.copy()?,
-            })),
-            Err(CommitError::Memory) => Err(AllocError),
+        match self.held.pending.keys(tx) {
+            Some(keys) => self.rendered(alloc, &LiveView::over(&self.held.live, keys), file),
+            None => no_pending(tx),
         }
     }
 
@@ -127,7 +121,6 @@ impl Core {
         file: &Text,
         tx: &Option<TxName>,
     ) -> Result<Answer, AllocError>
-        requires sound { IsSoundCore self.now }
         ensures reads { IfOk result (IsReading self.now (machine.PlanFile file.now tx.now)) }
         ensures prints { IfOk result CanPrint }
     {
@@ -136,7 +129,7 @@ impl Core {
         }
         match tx {
             Some(tx) => self.committed_file(alloc, file, tx),
-            None => self.rendered(alloc, &self.held.live, file),
+            None => self.rendered(alloc, &LiveView::of(&self.held.live), file),
         }
     }
 

@@ -12,6 +12,7 @@ ghost use Rattle.api_core.specs.Prints.{CanPrint};
 use crate::Core;
 use crate::planned::Planned;
 use crate::printable::may_print;
+use opening_step::keep_rule;
 use settings_machine::{Guard, Request};
 use settings_tree::Held;
 use std::alloc::{AllocError, Global};
@@ -23,8 +24,7 @@ fn keep_rules(types: &Types, held: &Held)
     ensures types { IsPrefixFree types.now }
 {
     types.len();
-    held.live.weak();
-    held.pending.next_tx(None);
+    keep_rule(held);
 }
 
 impl Core {

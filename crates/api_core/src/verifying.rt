@@ -11,6 +11,7 @@ use crate::next_job::fail;
 use key_names::Text;
 use outside::{Disk, DiskErr};
 use settings_machine::{VerifiedFile, file_state, marked_files, path_of};
+use settings_tree::LiveView;
 use std::alloc::Global;
 
 impl Core {
@@ -33,7 +34,7 @@ impl Core {
             alloc,
             &image.templates,
             &image.model.os,
-            &self.held.live,
+            &LiveView::of(&self.held.live),
             &file,
             found.as_deref(),
             is_due,

@@ -1,6 +1,5 @@
 //! Turns of the job, each of which is logged.
-ghost use Rattle.std.specs.Prelude.{◌≡◌, ◌≢◌, ◌<◌, ◌≤◌, ◌-◌, IfOk, Some, true, false};
-ghost use Rattle.std.specs.Option.{option_map};
+ghost use Rattle.std.specs.Prelude.{◌≡◌, ◌<◌, ◌≤◌, IfOk, Some, true};
 ghost use Rattle.outside.specs.Told.{Moves};
 ghost use Rattle.settings_machine.specs.World.{is_running};
 ghost use Rattle.affected_apply.specs.Jobs.{job_of, left_to_do};
@@ -12,6 +11,7 @@ ghost use Rattle.api_core.specs.Cores.{IsSound, core_state};
 ghost use Rattle.api_server.specs.Causes.{fault_counts};
 ghost use Rattle.api_server.specs.Turning.{Turns};
 
+use affected_apply::{any_left, one_less};
 use api_core::{Core, JobState};
 use event_lines::{Due, next_due, tell, turn_lines};
 use key_names::Bytes;
@@ -53,25 +53,6 @@ fn turn_and_tell<D: Disk, S: Spawner, L: Sink>(
     let due = next_due(alloc, &core.image().manifest, core.job());
     core.turn(alloc, disk, spawner);
     tell(log, lines_after(alloc, due, core.job()));
-}
-
-// Whether a turn is left.
-fn any_left(left: Option<u32>) -> bool
-    ensures some { result ≡ true → left ≢ Some 0 }
-    ensures none { result ≡ false → left ≡ Some 0 }
-{
-    !matches!(&left, Some(0))
-}
-
-// What is left of a slice after one turn.
-fn one_less(left: Option<u32>) -> Option<u32>
-    requires { left ≢ Some 0 }
-    ensures { result ≡ option_map (λ n. n - 1) left }
-{
-    match left {
-        Some(n) => Some(n - 1),
-        None => None,
-    }
 }
 
 /// Turns of the job as [`Core::turns`] makes them, each of which is logged before the next: until so many were made or no job runs;

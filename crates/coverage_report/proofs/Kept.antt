@@ -14,13 +14,13 @@ use Rattle.metadata_links.specs.declared.manifest.Manifest.{Manifest}
 use Rattle.model_file.specs.declared.model.Model.{Model}
 use Rattle.template_reader.specs.Kept.{source_of}
 use Rattle.template_reader.specs.declared.templates.Templates.{Templates}
-use Rattle.store_image.specs.Image.{IsCrashState, IsMadeOf}
+use Rattle.store_image.specs.Image.{IsImage, IsMadeOf}
 
 lacks : {A : Type 0} (o : Option A) → IsSome o → o ≡ None → ⊥
 lacks None some none = absurd (cc some)
 lacks (Some a) some none = cc none
 
-pub is_kept : (model : Model) (manifest : Manifest) (templates : Templates) (text file : List ℕ) → ∥ IsCrashState model manifest templates text ∥₁
+pub is_kept : (model : Model) (manifest : Manifest) (templates : Templates) (text file : List ℕ) → ∥ IsImage model manifest templates text ∥₁
     → IsSome (get manifest.files file) → source_of templates file ≡ None → ⊥
 is_kept model manifest templates text file whole there none = ∥∥₁_elim whole (λ a b. absurd a) (λ image. made image.text image.sources image.made) where
   made : (text_of : List ℕ) (sources : FinMap path_cmp (List ℕ)) → IsMadeOf text_of sources model manifest templates text → ⊥

@@ -1,14 +1,13 @@
 -- The change that commits a transaction.
 use Rattle.std.proofs.Common.{◌≡◌, ◌≢◌, ◌++◌, ◌⊎◌, inl, inr, ◌&&◌, ◌||◌, ℕ, List, [], ◌∷◌, slice_index_or, Option, Some}
 use Rattle.std.proofs.Common.{None, IsSome, is_some, Bool, true, false, not, cond, map, filter, refl, sym, ◌∙◌, ap, subst, append_assoc}
-use Rattle.std.specs.Prelude.{All, IsTrue, fold}
+use Rattle.std.specs.Prelude.{All, IsTrue}
 use Rattle.std.specs.Ordering.{eq_by_cmp}
 use Rattle.std.specs.Cmp.{eq_by_cmp_equiv}
 use Rattle.std.specs.List.{list_all, list_any}
 use Rattle.std.specs.Option.{option_to_list}
-use Rattle.std.specs.FinMap.{FinMap, get, entries, keys, find, get-insert, get-remove, get-entries, is_sorted, contains_key-keys}
-use Rattle.std.specs.FinMap.Entries.{below_all}
-use Rattle.std.proofs.lemmas.Bool.{both_ways, and_parts, and_from}
+use Rattle.std.specs.FinMap.{FinMap, get, entries, keys, is_sorted, contains_key-keys}
+use Rattle.std.proofs.lemmas.Bool.{both_ways, and_from}
 use Rattle.std.proofs.lemmas.List.Elements.{All-nil, All-cons, All-head, All-tail, All-append}
 use Rattle.std.proofs.lemmas.List.Folds.{list_all-append, list_any_at}
 use Rattle.key_names.specs.Order.{bytes_cmp, key_cmp, key_total}
@@ -30,15 +29,15 @@ use Rattle.settings_tree.proofs.LaidAt.{laid-append, weak_set}
 use Rattle.pending_tx.specs.Changes.{Tells, NamesOnlyChanges}
 use Rattle.pending_tx.specs.Entries.{live_entry, CommitAdds}
 use Rattle.settings_maps.specs.KeyList.{has_key, without_keys}
-use Rattle.pending_tx.specs.Transactions.{changed_in, changes_in, committed, differs, overlaid, owing, pending_of, with_pending, FitOver}
+use Rattle.pending_tx.specs.Transactions.{changed_in, changes_in, committed, differs, overlaid, owing, pending_of, FitOver}
 use Rattle.pending_tx.proofs.Changing.{all_live_change, owed_changes, weak_changes}
 use Rattle.pending_tx.proofs.Effects.{live_laid, owed_laid, weak_laid, changes_suffice}
 use Rattle.pending_tx.proofs.Endings.{EndsBy, ended_none}
 use Rattle.settings_maps.proofs.KeySets.{has_key-without}
 use Rattle.pending_tx.proofs.Named.{are_apart, apart-append1, unnamed-append, once-append, live_once, live_bare, live_other}
 use Rattle.pending_tx.proofs.Named.{live_apart, live_no_weak}
+use Rattle.settings_tree.proofs.Over.{over, get-laid_over}
 use Rattle.settings_tree.proofs.Rising.{entries_rise, sorted_some}
-use Rattle.pending_tx.proofs.Found.{not_found}
 
 abbrev Key : Type 0
 Key = List (List ℕ)
@@ -46,38 +45,9 @@ Key = List (List ℕ)
 abbrev Pendings : Type 0
 Pendings = FinMap bytes_cmp (FinMap key_cmp Pending)
 
--- The value of a key once what is pending for it is laid over it.
-abbrev pub over : Option Pending → Option Scalar → Option Scalar
-over None live = live
-over (Some (Put v)) live = Some v
-over (Some Gone) live = None
-
-one_over : (m : FinMap key_cmp Scalar) (k : Key) (p : Pending) (q : Key) → get (with_pending m k p) q ≡ cond (eq_by_cmp key_cmp q k) (over (Some p) (get m q))
-    (get m q)
-one_over m k (Put v) q = get-insert key_total m k v q
-one_over m k Gone q = get-remove key_total m k q
-
--- What is at a key after rising entries are laid over a map.
-found_over : (m : FinMap key_cmp Scalar) (es : List (Key × Pending)) (q : Key) → is_sorted key_cmp es ≡ true
-    → get (fold (λ n e. with_pending n e.0 e.1) m es) q ≡ over (find key_cmp q es) (get m q)
-found_over m [] q rises = refl
-found_over m (e ∷ es) q rises =
-    let both = and_parts (below_all key_cmp e.0 es) (is_sorted key_cmp es) rises in
-    found_over (with_pending m e.0 e.1) es q both.1 ∙ ap (over (find key_cmp q es)) (one_over m e.0 e.1 q) ∙ by (eq_by_cmp key_cmp q e.0) refl both.0
-  where
-    by : (b : Bool) → eq_by_cmp key_cmp q e.0 ≡ b → below_all key_cmp e.0 es ≡ true → over (find key_cmp q es) (cond b (over (Some e.1) (get m q)) (get m q)) ≡
-        over (cond b (Some e.1) (find key_cmp q es)) (get m q)
-    by true is below = ap (λ (o : Option Pending). over o (over (Some e.1) (get m q))) (not_found q e.0 es is below)
-    by false is below = refl
-
--- The values once values and removals are laid over them.
-pub value-overlaid : (h : Held) (m : FinMap key_cmp Pending) (q : List (List ℕ)) → get (overlaid h m).live.values q ≡ over (get m q) (get h.live.values q)
-value-overlaid h m q = found_over h.live.values (entries m) q (entries_rise m)
-    ∙ ap (λ (o : Option Pending). over o (get h.live.values q)) (sym (get-entries m q))
-
 -- The values after a commit.
 pub value-committed : (h : Held) (tx : List ℕ) (q : List (List ℕ)) → get (committed h tx).live.values q ≡ over (value_at h.pending tx q) (get h.live.values q)
-value-committed h tx q = value-overlaid h (pending_of h tx) q
+value-committed h tx q = get-laid_over h.live (pending_of h tx) q
 
 none_laid : (m : FinMap key_cmp Pending) (q : Key) → has_key (keys m) q ≡ false → get m q ≡ None
 none_laid m q none = by (get m q) (contains_key-keys m q ∙ none) where
@@ -96,7 +66,7 @@ puts_fit h m fit = record { fits = fit.fits; apart = λ k q v w has other begins
 module _ (h : Held) (m : FinMap key_cmp Pending) where
   -- A value that is there afterwards was there before, or was laid there.
   stood : (q : Key) → IsSome (get (overlaid h m).live.values q) → IsSome (get h.live.values q) ⊎ ((v : Scalar) × (get m q ≡ Some (Put v)))
-  stood q has = by (get m q) refl (subst IsSome (value-overlaid h m q) has) where
+  stood q has = by (get m q) refl (subst IsSome (get-laid_over h.live m q) has) where
     by : (o : Option Pending) → get m q ≡ o → IsSome (over o (get h.live.values q))
         → IsSome (get h.live.values q) ⊎ ((v : Scalar) × (get m q ≡ Some (Put v)))
     by None is has = inl has
@@ -122,7 +92,7 @@ module _ (h : Held) (m : FinMap key_cmp Pending) where
             → All (MayBeWeak (overlaid h m).live.values) (cond (not b) (k ∷ without_keys weak (keys m)) (without_keys weak (keys m)))
         by true is here rest = rest
         by false is here rest = All-cons (MayBeWeak (overlaid h m).live.values) k _ (record {
-          stands = subst IsSome (sym (value-overlaid h m k ∙ ap (λ (o : Option Pending). over o (get h.live.values k)) (none_laid m k is))) here.stands;
+          stands = subst IsSome (sym (get-laid_over h.live m k ∙ ap (λ (o : Option Pending). over o (get h.live.values k)) (none_laid m k is))) here.stands;
           setting = here.setting;
         }) rest
 

@@ -24,7 +24,8 @@ use Rattle.settings_tree.specs.declared.entry.Owed.{Owed}
 use Rattle.settings_tree.specs.declared.held.Held.{Held}
 use Rattle.pending_tx.specs.Changes.{Tells}
 use Rattle.pending_tx.specs.Entries.{live_entry, is_pending, is_new}
-use Rattle.pending_tx.specs.Transactions.{differs, with_pending}
+use Rattle.settings_tree.specs.Over.{with_pending}
+use Rattle.pending_tx.specs.Transactions.{differs}
 
 abbrev Key : Type 0
 Key = List (List ℕ)

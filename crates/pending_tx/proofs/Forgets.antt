@@ -13,7 +13,7 @@ use Rattle.settings_maps.specs.KeyList.{has_key}
 use Rattle.settings_maps.proofs.NestedMaps.{tied_by}
 use Rattle.settings_tree.specs.declared.held.Held.{Held}
 use Rattle.pending_tx.specs.Transactions.{removals, last_of, forgotten}
-use Rattle.pending_tx.proofs.Commits.{over, value-overlaid}
+use Rattle.settings_tree.proofs.Over.{over, get-laid_over}
 use Rattle.pending_tx.proofs.Ended.{taken, value_at-taken}
 use Rattle.pending_tx.proofs.Places.{Pendings, without_place, places_of, places_taken}
 
@@ -44,7 +44,7 @@ removed_at ks q = last_removed empty ks q ∙ ap (λ (o : Option Pending). if ha
 -- A key that is named has no live value, and another one has its own.
 pub forgotten_live : (h : Held) (ks : List (List (List ℕ))) (q : List (List ℕ))
     → get (forgotten h ks).live.values q ≡ (if has_key ks q then None else get h.live.values q)
-forgotten_live h ks q = value-overlaid h (last_of (removals ks)) q
+forgotten_live h ks q = get-laid_over h.live (last_of (removals ks)) q
     ∙ ap (λ (o : Option Pending). over o (get h.live.values q)) (removed_at ks q)
     ∙ over_gone (has_key ks q) (get h.live.values q)
 

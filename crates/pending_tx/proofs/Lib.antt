@@ -4,7 +4,6 @@ pub mod Drops
 pub mod Effects
 pub mod Ended
 pub mod Endings
-pub mod Found
 pub mod Named
 pub mod OneChange
 pub mod Patches

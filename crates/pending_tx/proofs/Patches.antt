@@ -30,7 +30,7 @@ use Rattle.settings_maps.specs.Maps.{IsLeastAfter}
 use Rattle.settings_tree.specs.Walks.{entries_past}
 use Rattle.settings_tree.proofs.Walks.{walk_next}
 use Rattle.settings_tree.proofs.Rising.{entries_rise, sorted_some}
-use Rattle.pending_tx.proofs.Found.{not_found}
+use Rattle.settings_tree.proofs.Found.{not_found}
 
 abbrev Key : Type 0
 Key = List (List ℕ)

@@ -13,7 +13,8 @@ use Rattle.settings_tree.specs.Rule.{Fits, IsPrefixFree}
 use Rattle.settings_tree.specs.declared.entry.Owed.{Owed}
 use Rattle.settings_tree.specs.declared.entry.Owed.TheVariants as owed
 use Rattle.settings_tree.specs.declared.held.Held.{Held}
-use Rattle.settings_maps.specs.KeyList.{has_key, joined, without_keys}
+use Rattle.settings_maps.specs.KeyList.{has_key, joined}
+use Rattle.settings_tree.specs.Over.{laid_over}
 
 -- What the transaction has pending, by key; nothing where there is no such transaction.
 abbrev pub pending_of : Held → List ℕ → FinMap key_cmp Pending
@@ -45,11 +46,6 @@ changes_of h tx = changes_in h (pending_of h tx)
 abbrev pub changed_keys : Held → List ℕ → List (List (List ℕ))
 changed_keys h tx = changed_in h (pending_of h tx)
 
--- The values with a pending value laid over them, or a removed key taken from them.
-abbrev pub with_pending : FinMap key_cmp Scalar → List (List ℕ) → Pending → FinMap key_cmp Scalar
-with_pending values k (Put v) = insert values k v
-with_pending values k Gone = remove values k
-
 -- The owed keys with these keys owed too; all stay all.
 abbrev pub owing : Owed → List (List (List ℕ)) → Owed
 owing owed.All keys = owed.All
@@ -58,13 +54,7 @@ owing (owed.Keys before) keys = owed.Keys (joined before keys)
 -- What is held once values and removals are laid over the live values: each value is put there and each removed key taken away,
 -- all their keys are strong, and the keys of what differed are owed.
 abbrev pub overlaid : Held → FinMap key_cmp Pending → Held
-overlaid h m = record h {
-  live = record h.live {
-    values = fold (λ v e. with_pending v e.0 e.1) h.live.values (entries m);
-    weak = without_keys h.live.weak (keys m);
-  };
-  owed = owing h.owed (changed_in h m);
-}
+overlaid h m = record h { live = laid_over h.live m; owed = owing h.owed (changed_in h m) }
 
 -- What is held after a commit: what the transaction has pending is laid over the live values, and the transaction is gone.
 abbrev pub committed : Held → List ℕ → Held

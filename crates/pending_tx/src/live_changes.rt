@@ -1,12 +1,13 @@
 //! What values and removals change in the live values.
-ghost use Rattle.std.specs.Prelude.{◌≡◌, ◌++◌, IfOk, OnOk, filter, map};
+ghost use Rattle.std.specs.Prelude.{◌≡◌, ◌++◌, ◌∷◌, [], IfOk, OnOk, filter, map, if◌then◌else◌};
 ghost use Rattle.std.specs.FinMap.{get};
 ghost use Rattle.std.specs.Option.{option_copied};
 ghost use Rattle.settings_maps.specs.KeyList.{IsRising};
 ghost use Rattle.pending_tx.specs.Entries.{live_entry};
-ghost use Rattle.pending_tx.specs.Transactions.{differs};
+ghost use Rattle.pending_tx.specs.Transactions.{changed_in, differs};
 
 use key_names::Key;
+use settings_maps::KeyMap;
 use settings_tree::{Entry, Held, KeyList, Pending, Scalar};
 use std::alloc::{AllocError, Global};
 
@@ -40,6 +41,41 @@ pub(crate) fn keys_in(alloc: Global, pairs: &[(Key, Pending)]) -> Result<KeyList
     let mut keys = Vec::new(alloc);
     for (key, _) in pairs {
         keys.push(key.copy()?)?;
+    }
+    Ok(KeyList::of(keys))
+}
+
+// Adds the key, where what is pending for it changes its live value.
+fn push_changed(
+    keys: &mut Vec<Key>,
+    held: &Held,
+    key: &Key,
+    pending: &Pending,
+) -> Result<(), AllocError>
+    ensures { OnOk result (keys.new.items ≡ keys.old.items
+        ++ (if differs pending.now (get held.now.live.values key.now) then key.now ∷ [] else [])) }
+{
+    if differs(pending, held.live.value(key)) {
+        keys.push(key.copy()?)?;
+    }
+    Ok(())
+}
+
+/// The keys whose live value these values and removals change, rising: those of values that differ
+/// from the live one or have none, and the removed keys that have a live value. It takes a logarithmic
+/// step for each. The only error is out of memory.
+pub fn changed_in(
+    alloc: Global,
+    held: &Held,
+    pending: &KeyMap<Pending>,
+) -> Result<KeyList, AllocError>
+    ensures { IfOk result (λ changed. changed ≡ changed_in held.now pending.now) }
+{
+    let mut keys = Vec::new(alloc);
+    let mut after = None;
+    while let Some((key, value)) = pending.next_after(after) {
+        push_changed(&mut keys, held, key, value)?;
+        after = Some(key);
     }
     Ok(KeyList::of(keys))
 }

@@ -9,6 +9,16 @@ ghost use Rattle.pending_tx.specs.Transactions.{owing};
 use settings_tree::{Entry, KeyList, Owed};
 use std::alloc::AllocError;
 
+/// What is owed once these keys are owed too. It takes a step for each. The only error is out of memory.
+pub fn owed_with(owed: &Owed, keys: &KeyList) -> Result<Owed, AllocError>
+    ensures { IfOk result (λ more. more ≡ owing owed.now keys.now) }
+{
+    match owed {
+        Owed::All => Ok(Owed::All),
+        Owed::Keys(owed) => Ok(Owed::Keys(owed.joined(keys)?)),
+    }
+}
+
 fn owed_more(owed: &KeyList, keys: &KeyList) -> Result<Option<Entry>, AllocError>
     ensures { IfOk result (λ e. Tells e OwedSet (Owed.Keys owed.now) (owing (Owed.Keys owed.now) keys.now)) }
 {

@@ -10,10 +10,7 @@ use std::alloc::{AllocError, Global};
 
 /// What the last pair of each key gives it. It takes a logarithmic step for each pair. The only error
 /// is out of memory.
-pub(crate) fn last_of(
-    alloc: Global,
-    pairs: &[(Key, Pending)],
-) -> Result<KeyMap<Pending>, AllocError>
+pub fn last_of(alloc: Global, pairs: &[(Key, Pending)]) -> Result<KeyMap<Pending>, AllocError>
     ensures { IfOk result (λ last. last ≡ last_of pairs.now) }
 {
     let mut last = KeyMap::new(alloc);

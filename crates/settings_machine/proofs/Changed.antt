@@ -10,7 +10,7 @@ use Rattle.settings_maps.specs.KeyList.{has_key}
 use Rattle.settings_tree.specs.Content.{Contents}
 use Rattle.settings_tree.specs.declared.held.Held.{Held}
 use Rattle.pending_tx.specs.Transactions.{differs, changes_in, changed_in, changed_keys, last_of, overlaid, pending_of}
-use Rattle.pending_tx.proofs.Commits.{over, value-overlaid}
+use Rattle.settings_tree.proofs.Over.{over, get-laid_over}
 use Rattle.settings_machine.specs.World.{Key, Among, Image, World}
 use Rattle.settings_machine.specs.Typed.{Wanted, first_wanted}
 use Rattle.settings_machine.specs.Requests.{Request, Root, OsNames, Settings, SettingsAt, SettingsBelow}
@@ -42,7 +42,7 @@ module _ (h : Held) (m : FinMap key_cmp Pending) where
   entry_of e q key at is same =
       let found : get m e.0 ≡ Some e.1 = entry_stands key_cmp-IsAntisymmetric m e.0 e.1 (key_itself e.0) at in
       not_kept e.1 (get h.live.values e.0) is
-      (ap (get h.live.values) (sym key) ∙ same ∙ ap (get (overlaid h m).live.values) key ∙ value-overlaid h m e.0
+      (ap (get h.live.values) (sym key) ∙ same ∙ ap (get (overlaid h m).live.values) key ∙ get-laid_over h.live m e.0
       ∙ ap (λ (o : Option Pending). over o (get h.live.values e.0)) found)
 
   -- The values differ at the keys of what differs, and at no others.

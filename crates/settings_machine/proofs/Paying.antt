@@ -15,7 +15,7 @@ use Rattle.settings_tree.specs.declared.held.Held.{Held}
 use Rattle.settings_maps.specs.KeyList.{has_key, joined}
 use Rattle.pending_tx.specs.Transactions.{last_of, changes_in, changed_in, changed_keys, differs, overlaid, dropped}
 use Rattle.pending_tx.specs.Transactions.{patched, owing, pending_of}
-use Rattle.pending_tx.proofs.Commits.{over, value-overlaid}
+use Rattle.settings_tree.proofs.Over.{over, get-laid_over}
 use Rattle.metadata_links.specs.Links.{files_of}
 use Rattle.settings_machine.specs.declared.cause.Cause.{Cause}
 use Rattle.settings_machine.specs.declared.cause.Cause.TheVariants as cause
@@ -42,7 +42,7 @@ use Rattle.settings_machine.proofs.Typing.{patched_typed, dropped_typed, committ
 
 -- A key that values and removals don't change has its old value.
 pub overlaid_differs : (h : Held) (m : FinMap key_cmp Pending) → DifferOnlyAt (changed_in h m) h.live (overlaid h m).live
-overlaid_differs h m = record { same = λ q none. by q none (get m q) refl ∙ sym (value-overlaid h m q) } where
+overlaid_differs h m = record { same = λ q none. by q none (get m q) refl ∙ sym (get-laid_over h.live m q) } where
   changed : (q : Key) (p : Pending) → get m q ≡ Some p → differs p (get h.live.values q) ≡ true → has_key (changed_in h m) q ≡ true
   changed q p is d = among_key (changed_in h m) q (among_map (λ (x : Key × Pending). x.0) (changes_in h m) (q, p)
       (filter_among (λ (x : Key × Pending). differs x.1 (get h.live.values x.0)) (entries m) (q, p)

@@ -15,7 +15,7 @@ use Rattle.settings_maps.specs.Maps.{inner, value_at, with_value}
 use Rattle.settings_tree.specs.Content.{settings_key}
 use Rattle.settings_tree.specs.declared.held.Held.{Held}
 use Rattle.pending_tx.specs.Transactions.{pending_of, last_of, overlaid, committed, dropped, patched, set_at_once}
-use Rattle.pending_tx.proofs.Commits.{over, value-overlaid}
+use Rattle.settings_tree.proofs.Over.{over, get-laid_over}
 use Rattle.pending_tx.proofs.Ended.{inner-remove}
 use Rattle.typed_settings.specs.Pattern.{Fits, Matches}
 use Rattle.typed_settings.specs.Row.{HasRow, IsTyped}
@@ -172,7 +172,7 @@ module _ (table : List Row) (h : Held) (typed : IsTypedHeld table h) where
   overlaid_settings : (m : FinMap key_cmp Pending) → ((key : Key) (p : Pending) → get m key ≡ Some p → MayPend table key p)
       → HasTypedSettings table (overlaid h m).live
   overlaid_settings m may = record {
-    typed = λ key value e not_image. by key value not_image (get m key) refl (sym (value-overlaid h m key) ∙ e);
+    typed = λ key value e not_image. by key value not_image (get m key) refl (sym (get-laid_over h.live m key) ∙ e);
   } where
     by : (key : Key) (value : Scalar) → is_of_image key ≡ false → (o : Option Pending) → get m key ≡ o
         → over o (get h.live.values key) ≡ Some value → IsTyped table key value

@@ -4,7 +4,7 @@ ghost use Rattle.template_eval.specs.declared.render_error.RenderError.TheVarian
 ghost use Rattle.settings_machine.specs.Seen.{IsRenderedAs};
 
 use key_names::Text;
-use settings_tree::{Content, Os};
+use settings_tree::{LiveView, Os};
 use std::alloc::Global;
 use template_eval::{RenderError, render};
 use template_reader::Templates;
@@ -16,7 +16,7 @@ pub fn file_bytes(
     alloc: Global,
     templates: &Templates,
     os: &Os,
-    live: &Content,
+    live: &LiveView<'_>,
     file: &Text,
 ) -> Result<Vec<u8>, RenderError>
     ensures ok { IfOk result (λ bytes. IsRenderedAs templates.now os.now file.now live.now (Ok bytes.items)) }

@@ -8,7 +8,7 @@ use crate::file::file_bytes;
 use key_names::Text;
 use metadata_links::{Command, Manifest};
 use outside::Path;
-use settings_tree::{Content, KeyList, Os, Owed};
+use settings_tree::{KeyList, LiveView, Os, Owed};
 use std::alloc::{AllocError, Global};
 use template_eval::RenderError;
 use template_reader::Templates;
@@ -33,7 +33,7 @@ fn refusal_of(
     alloc: Global,
     templates: &Templates,
     os: &Os,
-    live: &Content,
+    live: &LiveView<'_>,
     file: &Text,
 ) -> Result<Option<RenderError>, AllocError>
     ensures { IfOk result (AddsRefusal templates.now os.now live.now file.now) }
@@ -51,7 +51,7 @@ pub fn first_refusing(
     alloc: Global,
     templates: &Templates,
     os: &Os,
-    live: &Content,
+    live: &LiveView<'_>,
     files: &[Text],
 ) -> Result<Option<(Text, RenderError)>, AllocError>
     ensures { IfOk result (IsFirstRefusing templates.now os.now live.now files.now) }
@@ -70,7 +70,7 @@ pub fn refusing(
     alloc: Global,
     templates: &Templates,
     os: &Os,
-    live: &Content,
+    live: &LiveView<'_>,
     files: &[Text],
 ) -> Result<Vec<(Text, RenderError)>, AllocError>
     ensures { IfOk result (λ refused. AreRefusing templates.now os.now live.now files.now refused.items) }
@@ -118,7 +118,7 @@ pub fn job_plan(
     manifest: &Manifest,
     templates: &Templates,
     os: &Os,
-    live: &Content,
+    live: &LiveView<'_>,
     owed: Owed,
     changed: KeyList,
 ) -> Result<Plan, AllocError>

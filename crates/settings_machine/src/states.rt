@@ -8,7 +8,7 @@ use crate::file::file_bytes;
 use key_names::Text;
 use metadata_links::Manifest;
 use outside::Path;
-use settings_tree::{Content, Os, Owed};
+use settings_tree::{LiveView, Os, Owed};
 use std::alloc::{AllocError, Global};
 use std::collections::BTreeSet;
 use template_eval::RenderError;
@@ -70,7 +70,7 @@ pub fn file_state(
     alloc: Global,
     templates: &Templates,
     os: &Os,
-    live: &Content,
+    live: &LiveView<'_>,
     file: &Text,
     found: Option<&[u8]>,
     is_due: bool,

@@ -2,7 +2,7 @@
 use Rattle.std.proofs.Common.{arith, ◌≡◌, ℕ, List, Option, Some, None, true, false, ◌⊎◌, inl, inr, refl, sym, ◌∙◌, ap, IsSome, IsTrue}
 use Rattle.std.specs.declared.cmp.Ordering.{Ordering}
 use Rattle.std.specs.declared.cmp.Ordering.TheVariants.{Less, Equal, Greater}
-use Rattle.std.specs.Ordering.{is_gt, ordering_reverse}
+use Rattle.std.specs.Ordering.{is_gt, is_lt, ordering_reverse}
 use Rattle.std.specs.BTreeMap.Range.{IsLeBy}
 use Rattle.std.specs.FinMap.{FinMap, get}
 use Rattle.std.proofs.lemmas.Bool.{both_ways}
@@ -10,10 +10,10 @@ use Rattle.std.proofs.lemmas.Cmp.{tied_itself}
 use Rattle.key_names.specs.Order.{key_cmp, key_total, key_cmp-IsAntisymmetric}
 use Rattle.key_names.specs.Key.{is_prefix}
 use Rattle.settings_maps.specs.Maps.{IsLeastAfter, HasNoneAfter, IsLeastFrom, HasNoneFrom}
-use Rattle.settings_tree.specs.Walks.{IsLeastBelow, HasNoneBelow}
+use Rattle.settings_tree.specs.Walks.{IsLeastBelow, HasNoneBelow, HasNoneUntil}
 use Rattle.settings_tree.proofs.KeyOrder.{between, prefix_order}
 
-not_gt : (r : Ordering) → r ≡ Less → is_gt r ≡ false
+pub not_gt : (r : Ordering) → r ≡ Less → is_gt r ≡ false
 not_gt Less e = refl
 not_gt Equal e = refl
 not_gt Greater e = grind arith
@@ -37,14 +37,14 @@ le_lt a b c low less = by (key_cmp a b) refl where
   by Equal is = key_total.congr a b c is ∙ less
   by Greater is = absurd (both_ways _ low (ap is_gt is))
 
-lt_le : (a b c : List (List ℕ)) → key_cmp a b ≡ Less → IsLeBy key_cmp b c → key_cmp a c ≡ Less
+pub lt_le : (a b c : List (List ℕ)) → key_cmp a b ≡ Less → IsLeBy key_cmp b c → key_cmp a c ≡ Less
 lt_le a b c less low = by (key_cmp b c) refl where
   by : (r : Ordering) → key_cmp b c ≡ r → key_cmp a c ≡ Less
   by Less is = key_total.trans a b c less is
   by Equal is = ap (key_cmp a) (sym (key_cmp-IsAntisymmetric b c is)) ∙ less
   by Greater is = absurd (both_ways _ low (ap is_gt is))
 
-missing : {X : Type 0} (o : Option X) → (IsSome o → ⊥) → o ≡ None
+pub missing : {X : Type 0} (o : Option X) → (IsSome o → ⊥) → o ≡ None
 missing None not = refl
 missing (Some x) not = absurd (not refl)
 
@@ -84,5 +84,15 @@ module _ {X : Type 0} (m : FinMap key_cmp X) (p : List (List ℕ)) where
 
   pub none_later : (a : List (List ℕ)) → HasNoneAfter m (Some a) → HasNoneBelow m p (Some a)
   none_later a end = record { none = λ q past longer. end.none q past }
+
+module _ {X : Type 0} (m : FinMap key_cmp X) (p : List (List ℕ)) (a : Option (List (List ℕ))) (end : List (List ℕ)) where
+  -- Where the next one is not below the end, there is none below it.
+  pub none_until : (k : List (List ℕ)) (x : X) → IsLeastBelow m p a k x → is_lt (key_cmp k end) ≡ false → HasNoneUntil m p a end
+  none_until k x next far = record {
+    none = λ q past less begins. missing (get m q) (λ has. both_ways _ far (ap is_lt (le_lt k q end (next.least q past begins has) less)));
+  }
+
+  pub no_more_until : HasNoneBelow m p a → HasNoneUntil m p a end
+  no_more_until none = record { none = λ q past less begins. none.none q past begins }
 
 pub ruleset below_prefix = (first_least, first_none, later_least, later_none, none_from_prefix, none_later)

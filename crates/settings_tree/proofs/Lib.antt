@@ -15,3 +15,5 @@ pub mod Stores
 pub mod Walks
 pub mod Firsts
 pub mod Walked
+pub mod Found
+pub mod Over

@@ -33,7 +33,8 @@ pub past_fact : {K : Type 0} (R : K → K → Ordering) (after : Option K) (k : 
 past_fact R None k past = tt
 past_fact R (Some a) k past = less (R a k) past
 
-past_trans : {K : Type 0} {R : K → K → Ordering} → IsTotalOrder R → (after : Option K) (k z : K) → IsPast R after k → R k z ≡ Less → IsPast R after z
+-- What is above a key that is past another is past that one too.
+pub past_trans : {K : Type 0} {R : K → K → Ordering} → IsTotalOrder R → (after : Option K) (k z : K) → IsPast R after k → R k z ≡ Less → IsPast R after z
 past_trans o None k z past l = tt
 past_trans o (Some a) k z past l = o.trans a k z past l
 

@@ -7,3 +7,4 @@ pub mod Rooms
 pub mod Rule
 pub mod Walks
 pub mod Below
+pub mod Over

@@ -1,6 +1,7 @@
 -- Walks through the entries of a map, in the order of its keys.
 use Rattle.std.specs.Prelude.{◌≡◌, ◌&&◌, ℕ, Bool, true, List, Option, Some, None, IsSome, IsTrue, filter}
 use Rattle.std.specs.declared.cmp.Ordering.{Ordering}
+use Rattle.std.specs.declared.cmp.Ordering.TheVariants.{Less}
 use Rattle.std.specs.Ordering.{is_lt}
 use Rattle.std.specs.BTreeMap.Range.{IsLeBy}
 use Rattle.std.specs.FinMap.{FinMap, get, entries}
@@ -35,3 +36,7 @@ pub record IsLeastBelow {X : Type 0} (m : FinMap key_cmp X) (prefix : List (List
 -- There is nothing past the given key at a key that begins with the prefix.
 pub record HasNoneBelow {X : Type 0} (m : FinMap key_cmp X) (prefix : List (List ℕ)) (after : Option (List (List ℕ))) : Type 0 where
   pub none : (q : List (List ℕ)) → IsPast key_cmp after q → IsTrue (is_prefix prefix q) → get m q ≡ None
+
+-- There is nothing past the given key and below the end at a key that begins with the prefix.
+pub record HasNoneUntil {X : Type 0} (m : FinMap key_cmp X) (prefix : List (List ℕ)) (after : Option (List (List ℕ))) (end : List (List ℕ)) : Type 0 where
+  pub none : (q : List (List ℕ)) → IsPast key_cmp after q → key_cmp q end ≡ Less → IsTrue (is_prefix prefix q) → get m q ≡ None

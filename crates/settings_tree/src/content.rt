@@ -1,8 +1,6 @@
 //! Contents.
 ghost use Rattle.std.specs.Prelude.{◌≡◌, ◌↔◌, ◌<◌, ℕ, take, length, IfOk, OnOk, OnErr, IsTrue, IfSome, IfNone, All, Some, None, false};
-ghost use Rattle.std.specs.BTreeMap.Range.{IsLeBy};
 ghost use Rattle.std.specs.Map.{keys_of};
-ghost use Rattle.key_names.specs.Order.{key_cmp};
 ghost use Rattle.json_trees.specs.Apart.{AreApart};
 ghost use Rattle.json_trees.specs.Nested.{ShareFirst};
 ghost use Rattle.settings_tree.specs.Walks.{IsLeastBelow, HasNoneBelow, entries_below};
@@ -16,6 +14,7 @@ ghost use Rattle.settings_maps.specs.TxName.{is_meta_name};
 
 use crate::rule::fits;
 use crate::setting::may_be_weak;
+use crate::steps;
 use json_trees::Scalar;
 use key_names::{Key, Text};
 use settings_maps::{Copied, KeyList, KeyMap, Metadata};
@@ -44,7 +43,7 @@ impl Model for Content {
     ghost invariant = { λ c. IsContent (record { values = c.values; metadata = c.metadata; weak = c.weak }) };
 }
 
-#[tactic(auto, using(crate::proofs::Contents::contents, crate::proofs::Below::below_prefix))]
+#[tactic(auto, using(crate::proofs::Contents::contents))]
 impl Content {
     /// The content with nothing in it. It takes no memory.
     pub fn new(alloc: Global) -> Content
@@ -189,50 +188,6 @@ impl Content {
         self.metadata.next_name(key, after)
     }
 
-    fn first_below(&self, prefix: &Key) -> Option<(&Key, &Scalar)>
-        ensures least { IfSome result (λ e. IsLeastBelow self.now.values prefix.now None e.0.now e.1.now) }
-        ensures none { IfNone result (HasNoneBelow self.now.values prefix.now None) }
-    {
-        match self.values.next_from(prefix) {
-            Some((key, value)) => {
-                if prefix.is_prefix(key) {
-                    Some((key, value))
-                } else {
-                    None
-                }
-            }
-            None => None,
-        }
-    }
-
-    fn later_below(&self, prefix: &Key, after: &Key) -> Option<(&Key, &Scalar)>
-        requires { IsLeBy key_cmp prefix.now after.now }
-        ensures least { IfSome result (λ e. IsLeastBelow self.now.values prefix.now (Some after.now) e.0.now e.1.now) }
-        ensures none { IfNone result (HasNoneBelow self.now.values prefix.now (Some after.now)) }
-    {
-        match self.values.next_after(Some(after)) {
-            Some((key, value)) => {
-                if prefix.is_prefix(key) {
-                    Some((key, value))
-                } else {
-                    None
-                }
-            }
-            None => None,
-        }
-    }
-
-    fn below_past(&self, prefix: &Key, after: &Key) -> Option<(&Key, &Scalar)>
-        ensures least { IfSome result (λ e. IsLeastBelow self.now.values prefix.now (Some after.now) e.0.now e.1.now) }
-        ensures none { IfNone result (HasNoneBelow self.now.values prefix.now (Some after.now)) }
-    {
-        if prefix.cmp(after).is_gt() {
-            self.first_below(prefix)
-        } else {
-            self.later_below(prefix, after)
-        }
-    }
-
     /// The entry of the least key that begins with the prefix, as the prefix itself does, and that is
     /// greater than `after` where it is given; None exactly where there is no such key. It is
     /// logarithmic and takes no memory.
@@ -240,10 +195,7 @@ impl Content {
         ensures least { IfSome result (λ e. IsLeastBelow self.now.values prefix.now (option_copied after.entry) e.0.now e.1.now) }
         ensures none { IfNone result (HasNoneBelow self.now.values prefix.now (option_copied after.entry)) }
     {
-        match after {
-            Some(after) => self.below_past(prefix, after),
-            None => self.first_below(prefix),
-        }
+        steps::next_below(&self.values, prefix, after)
     }
 
     fn allocator(&self) -> Global

@@ -7,12 +7,14 @@ mod content;
 mod entry;
 mod held;
 mod live_trees;
+mod live_view;
 mod made_of_parts;
 mod os;
 mod parts;
 mod pend_maps;
 mod rule;
 mod setting;
+mod steps;
 
 pub use change::Change;
 pub use content::Content;
@@ -23,6 +25,7 @@ pub use json_trees::{
     nest_pending,
 };
 pub use live_trees::{first_without, tree_below};
+pub use live_view::LiveView;
 pub use os::{Os, OsName};
 pub use pend_maps::PendMaps;
 pub use rule::fits;

@@ -9,7 +9,7 @@ ghost use Rattle.settings_tree.specs.Rule.{Fits, Clashes};
 use crate::rule::fits;
 use json_trees::Pending;
 use key_names::Key;
-use settings_maps::{Copied, Transactions, TxName};
+use settings_maps::{Copied, KeyMap, Transactions, TxName};
 use std::alloc::{AllocError, Global};
 use std::marker::Model;
 
@@ -55,6 +55,15 @@ impl PendMaps {
         ensures valid { IsPending self.now }
     {
         self.transactions.value(tx, key)
+    }
+
+    /// What the transaction has pending by key, None exactly where there is no such transaction. It is
+    /// logarithmic and takes no memory.
+    pub fn keys(&self, tx: &TxName) -> Option<&KeyMap<Pending>>
+        ensures keys { option_copied result ≡ map.get self.now tx.now }
+        ensures valid { IsPending self.now }
+    {
+        self.transactions.keys(tx)
     }
 
     /// Whether no other key of the transaction is a proper prefix of this key or has it as one. It is

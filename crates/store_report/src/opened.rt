@@ -9,7 +9,7 @@ ghost use Rattle.store_report.specs.Report.{IsOpenedBy, AreRefusedBy};
 use key_names::Text;
 use opening_step::opening_change;
 use settings_machine::refusing;
-use settings_tree::Held;
+use settings_tree::{Held, LiveView};
 use std::alloc::{AllocError, Global};
 use store_image::Image;
 use template_eval::RenderError;
@@ -46,7 +46,7 @@ fn refused_when_opened(
         alloc,
         &image.templates,
         &image.model.os,
-        &opened.live,
+        &LiveView::of(&opened.live),
         &files,
     )
 }

@@ -7,7 +7,7 @@ ghost use Rattle.template_eval.specs.Children.{name_below, names_below};
 ghost use Rattle.template_eval.specs.Steps.{IsNextChild};
 
 use key_names::Key;
-use settings_tree::{Content, Scalar};
+use settings_tree::{LiveView, Scalar};
 
 /// The segment at the index, if the key has so many. It takes no memory.
 pub fn segment_at(key: &Key, index: usize) -> Option<&[u8]>
@@ -32,7 +32,7 @@ fn is_same_name(a: &Key, b: &Key, index: usize) -> bool
 /// is the parent itself or begins with it. It takes a logarithmic step for each value that it
 /// passes, and no memory.
 pub fn next_child<'a>(
-    content: &'a Content,
+    content: &'a LiveView<'_>,
     parent: &Key,
     after: &'a Key,
 ) -> Option<(&'a Key, &'a Scalar)>

@@ -1,5 +1,5 @@
 //! What a template is rendered with.
-use settings_tree::{Content, Os};
+use settings_tree::{LiveView, Os};
 use std::alloc::Global;
 
 /// What a template is rendered with: its source, the live values and the names of the operating
@@ -8,6 +8,6 @@ use std::alloc::Global;
 pub struct Inputs<'a> {
     pub alloc: Global,
     pub source: &'a [u8],
-    pub content: &'a Content,
+    pub content: &'a LiveView<'a>,
     pub os: &'a Os,
 }

@@ -17,7 +17,7 @@ use crate::node::{Atom, Node};
 use crate::place::Place;
 use crate::places::Places;
 use key_names::Key;
-use settings_tree::{Content, Item, Os, OsName, Scalar};
+use settings_tree::{Item, LiveView, Os, OsName, Scalar};
 
 fn item_node(item: &Item) -> Node<'_>
     ensures { (content : Contents) → node_of content result ≡ nodes.scalar item.now }
@@ -41,7 +41,7 @@ fn scalar_node(scalar: &Scalar) -> Node<'_>
 }
 
 // What is at a key of the values, by one look-up.
-fn value_node<'a>(content: &'a Content, key: &'a Key) -> Node<'a>
+fn value_node<'a>(content: &'a LiveView<'_>, key: &'a Key) -> Node<'a>
     requires { is_prefix os_path key.now ≡ false }
     ensures { node_of content.now result
         ≡ value_node (get content.now.values key.now) (children_below content.now.values key.now) }
@@ -100,7 +100,7 @@ fn begins_with_os(key: &Key) -> bool
     }
 }
 
-fn tree_node<'a>(content: &'a Content, os: &'a Os, key: &'a Key) -> Node<'a>
+fn tree_node<'a>(content: &'a LiveView<'_>, os: &'a Os, key: &'a Key) -> Node<'a>
     ensures { node_of content.now result ≡ tree_node content.now os.now key.now }
 {
     if begins_with_os(key) {
@@ -112,7 +112,7 @@ fn tree_node<'a>(content: &'a Content, os: &'a Os, key: &'a Key) -> Node<'a>
 
 /// What is at the place. It is logarithmic in the values, but constant where the place keeps a
 /// value, and takes no memory.
-pub fn node<'a>(content: &'a Content, os: &'a Os, place: &'a Place<'a>) -> Node<'a>
+pub fn node<'a>(content: &'a LiveView<'_>, os: &'a Os, place: &'a Place<'a>) -> Node<'a>
     requires { Keeps content.now place.now }
     ensures { node_of content.now result ≡ nodes.node content.now os.now (place_of place.now) }
 {

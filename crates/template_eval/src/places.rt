@@ -13,7 +13,7 @@ use crate::children::Children;
 use crate::keys::child_key;
 use crate::place::Place;
 use key_names::Key;
-use settings_tree::{Content, Item, OsName, Scalar};
+use settings_tree::{Item, LiveView, OsName, Scalar};
 use std::alloc::AllocError;
 
 /// The places of items or children that are still to come.
@@ -50,7 +50,7 @@ fn child_at<'a>(parent: &Key, key: &'a Key, scalar: &'a Scalar) -> Result<Place<
 }
 
 fn split_children<'a>(
-    content: &'a Content,
+    content: &'a LiveView<'_>,
     children: Children<'a>,
 ) -> Result<Option<Split<'a>>, AllocError>
     ensures parts { IfOk result (λ o. MatchOption o (children_of content.now children.entry ≡ [])
@@ -104,7 +104,7 @@ impl<'a> Places<'a> {
     /// The first place and those after it, None exactly where there is none. It is constant for
     /// items and names, and takes a logarithmic step for each value that it passes. The only error
     /// is out of memory.
-    pub fn split_first(self, content: &'a Content) -> Result<Option<Split<'a>>, AllocError>
+    pub fn split_first(self, content: &'a LiveView<'_>) -> Result<Option<Split<'a>>, AllocError>
         ensures parts { IfOk result (λ o. MatchOption o (places_of content.now self.entry ≡ [])
             (λ s. places_of content.now self.entry
             ≡ place_of s.first ∷ places_of content.now s.rest)) }
@@ -118,7 +118,7 @@ impl<'a> Places<'a> {
     }
 
     /// Whether there is none. It takes no memory.
-    pub fn is_empty(self, content: &Content) -> bool
+    pub fn is_empty(self, content: &LiveView<'_>) -> bool
         ensures { result ≡ (length (places_of content.now self.entry) == 0) }
     {
         match self {

@@ -23,7 +23,7 @@ use crate::place::{Here, Place, place_at};
 use crate::places::Places;
 use crate::refusals::{missing, not_list};
 use crate::scalars::is_true;
-use settings_tree::{Content, Os};
+use settings_tree::{LiveView, Os};
 use std::alloc::{AllocError, Global};
 use template_reader::{Node, Nodes, Template, Walk, piece};
 
@@ -233,7 +233,7 @@ pub fn render(
     alloc: Global,
     template: &Template,
     source: &[u8],
-    content: &Content,
+    content: &LiveView<'_>,
     os: &Os,
 ) -> Result<Vec<u8>, RenderError>
     requires { RiseWithin 0 (spans_of (tree_in template.now.nodes)) (length source.now) }

@@ -7,7 +7,7 @@ ghost use Rattle.template_eval.specs.Views.{atom_text, atom_node, node_of};
 
 use crate::node::{Atom, Node};
 use itoa::Buffer;
-use settings_tree::{Content, Item};
+use settings_tree::{Item, LiveView};
 use std::alloc::AllocError;
 use template_reader::Literal;
 
@@ -68,7 +68,7 @@ pub fn push_literal(out: &mut Vec<u8>, literal: &Literal) -> Result<(), AllocErr
 }
 
 /// Whether what is there counts as true.
-pub fn is_true(content: &Content, node: Node<'_>) -> bool
+pub fn is_true(content: &LiveView<'_>, node: Node<'_>) -> bool
     ensures { result ≡ is_true (node_of content.now node.entry) }
 {
     match node {
