@@ -19,5 +19,6 @@ pub mod OneAnswer
 pub mod Stays
 pub mod Begins
 pub mod Waiting
+pub mod Messages
 pub mod Said
 pub mod Sent

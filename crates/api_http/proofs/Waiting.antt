@@ -1,5 +1,5 @@
 -- How many bytes are waited for.
-use Rattle.std.proofs.Common.{◌≡◌, ◌≤◌, ◌<◌, ◌+◌, ◌++◌, ℕ, List, [], ◌∷◌, length, take, drop, map}
+use Rattle.std.proofs.Common.{◌≡◌, ◌≤◌, ◌<◌, ◌+◌, ◌++◌, ℕ, List, [], ◌∷◌, length, take, drop, map, codes}
 use Rattle.std.proofs.Common.{Bool, true, false, ◌⊎◌, inl, inr, refl, sym, ap, ◌∙◌, subst, arith, length-append, append-nil}
 use Rattle.std.proofs.lemmas.Bool.{cases_lt}
 use Rattle.httparse.specs.Grammar.{RequestHead, print_request}
@@ -7,25 +7,35 @@ use Rattle.httparse.specs.declared.spans.HeaderSpan.{HeaderSpan}
 use Rattle.httparse.specs.declared.spans.RequestSpans.{RequestSpans}
 use Rattle.httparse.specs.Spans.{header_bytes, IsRequestOf}
 use Rattle.api_http.specs.Heads.{HoldsNoHead, shown}
-use Rattle.api_http.specs.Fields.{Field, body_length, has_bad_length}
-use Rattle.api_http.specs.Requests.{Told, told, IsClean, IsCleanHead, bad_length, long_body, Waits, for_head, for_body, WaitsUntil}
+use Rattle.api_http.specs.Fields.{Field, body_length, has_bad_length, has_field}
+use Rattle.api_http.specs.Requests.{Told, told, IsClean, IsCleanHead, bad_length, long_body, transfer_coded, Waits, for_head, for_body, WaitsUntil}
 use Rattle.api_http.proofs.OneAnswer.{same_head}
 use Rattle.api_http.proofs.Readings.{found_head}
 use Rattle.api_http.proofs.Stays.{clean_stays}
 
-sound_fields : (t : Told) → IsClean t → has_bad_length t.fields ≡ false
+-- of a clean head the length is sound
+pub sound_fields : (t : Told) → IsClean t → has_bad_length t.fields ≡ false
 sound_fields t clean = by (has_bad_length t.fields) refl
   where
     by : (b : Bool) → has_bad_length t.fields ≡ b → has_bad_length t.fields ≡ false
     by true e = absurd (clean _ (bad_length e))
     by false e = e
 
-short_body : (t : Told) → IsClean t → body_length t.fields ≤ 1048576
+-- and within the limit
+pub short_body : (t : Told) → IsClean t → body_length t.fields ≤ 1048576
 short_body t clean = by (cases_lt 1048576 (body_length t.fields))
   where
     by : ((1048576 < body_length t.fields) ⊎ (body_length t.fields ≤ 1048576)) → body_length t.fields ≤ 1048576
     by (inl over) = absurd (clean _ (long_body over))
     by (inr within) = within
+
+-- and the only one
+pub plain_fields : (t : Told) → IsClean t → has_field (codes "Transfer-Encoding") t.fields ≡ false
+plain_fields t clean = by (has_field (codes "Transfer-Encoding") t.fields) refl
+  where
+    by : (b : Bool) → has_field (codes "Transfer-Encoding") t.fields ≡ b → has_field (codes "Transfer-Encoding") t.fields ≡ false
+    by true e = absurd (clean _ (transfer_coded e))
+    by false e = e
 
 -- the head that the parser found, with the length of its body
 pub found_size : (bytes part : List ℕ) (headers fields : List HeaderSpan) (r : RequestSpans) (size : ℕ) → part ≡ shown bytes → IsRequestOf part headers r

@@ -12,7 +12,7 @@ use Rattle.api_http.specs.declared.refusal.Refusal.{Refusal}
 use Rattle.api_http.specs.declared.refusal.Refusal.TheVariants.{HeadTooLong, Head, NoPath, Method, Query, Length, BodyTooLong, Body}
 use Rattle.api_http.specs.declared.route.Route.{Route}
 use Rattle.api_http.specs.Heads.{IsWholeHead, HoldsNoHead, HasManyLines, HasFewLines, IsHopeless}
-use Rattle.api_http.specs.Fields.{Field, has_field, has_bad_length, body_length}
+use Rattle.api_http.specs.Fields.{Field, has_field, has_bad_length, body_length, IsBodyWithin}
 use Rattle.api_http.specs.Routes.{has_path, route_of, has_tree}
 use Rattle.api_http.specs.Query.{Pair, query_pairs, HasQueryFault}
 use Rattle.settings_machine.specs.Requests as machine
@@ -83,6 +83,13 @@ HasBody head rest = body_length (told head).fields ≤ length rest
 -- The body.
 abbrev pub body_of : RequestHead → List ℕ → List ℕ
 body_of head rest = take (body_length (told head).fields) rest
+
+-- The bytes begin with a whole message, whether or not it is refused: a whole head that says how long its body is, and all of that body.
+pub record HoldsMessage (bytes : List ℕ) : Type 0 where
+  pub head : RequestHead
+  pub rest : List ℕ
+  pub whole : IsWholeHead bytes head rest
+  pub body : IsBodyWithin (told head).fields (length rest)
 
 -- The first n bytes are a whole head and its body, no refusal holds, and they spell the request of the machine.
 pub record Asks (bytes : List ℕ) (q : machine.Request) (n : ℕ) : Type 0 where

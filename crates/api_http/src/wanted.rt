@@ -1,12 +1,12 @@
-//! How many bytes of a request are waited for.
-ghost use Rattle.std.specs.Prelude.{◌≡◌, ◌≤◌, ◌<◌, ◌+◌, List, ℕ, All, false, length, map};
+//! How many bytes of a request are waited for, and whether all of them are there.
+ghost use Rattle.std.specs.Prelude.{◌≡◌, ◌≤◌, ◌<◌, ◌+◌, ◌↔◌, List, ℕ, All, IsTrue, false, length, map};
 ghost use Rattle.httparse.specs.Grammar.{RequestHead, print_request};
 ghost use Rattle.httparse.specs.Spans.{IsHeaderWithin, header_bytes};
 ghost use Rattle.api_http.specs.Heads.{HoldsNoHead};
 ghost use Rattle.api_http.specs.Fields.{body_length, has_bad_length};
-ghost use Rattle.api_http.specs.Requests.{told, IsCleanHead, Waits, WaitsUntil};
+ghost use Rattle.api_http.specs.Requests.{told, IsCleanHead, HoldsMessage, Waits, WaitsUntil};
 
-use crate::fields::{BodyLength, body_length};
+use crate::fields::{BodyLength, body_length, is_body_within};
 use crate::head::{head_of, shown_of};
 use httparse::spans::{EMPTY_HEADER_SPAN, HeaderSpan};
 
@@ -59,4 +59,23 @@ pub fn bytes_wanted(bytes: &[u8]) -> usize
     ensures waits { Waits bytes.now → WaitsUntil bytes.now result }
 {
     wanted_of(bytes)
+}
+
+/// Whether all bytes of the message are there at which these begin: a whole head and, as its fields say, all of its body. They may be refused. It is false
+/// where nobody can say where the message ends, as its head is not whole or too long, or has a bad length, one over the limit, or a Transfer-Encoding.
+///
+/// It takes no memory, and time linear in the head.
+pub(crate) fn holds_message(bytes: &[u8]) -> bool
+    ensures { IsTrue result ↔ HoldsMessage bytes.now }
+{
+    let mut headers = [EMPTY_HEADER_SPAN; 64];
+    let (part, full) = shown_of(bytes);
+    match head_of(bytes, part, full, &mut headers) {
+        Ok(head) => {
+            let (fields, _) = headers.split_at(head.headers);
+            let (_, rest) = bytes.split_at(head.len);
+            is_body_within(part, fields, rest.len())
+        }
+        Err(_) => false,
+    }
 }

@@ -1,8 +1,19 @@
-//! Where the request of a client ends, for a door that watches many clients and hands on whole requests.
+//! Where the request of a client ends, for a door that watches many clients and hands on those that can be heard.
 #![tactic(auto)]
 
-/// Says how many bytes of a client are to be there before it is heard.
+/// What is wanted of a client, by the bytes that it has sent so far, before it is heard.
+#[derive(Clone, Copy, Debug, PartialEq, Eq)]
+pub enum Wanted {
+    /// More: with fewer bytes than so many in all, these can't be enough.
+    More(usize),
+    /// Nothing, as all of its request is there. What it sends from now on is no part of it.
+    Whole,
+    /// Nothing, as it is answered before all of its request is there, or before it is known where that ends. It may still send the rest.
+    Early,
+}
+
+/// Says what is wanted of a client before it is heard.
 pub trait Framing {
-    /// How many bytes there are to be in all before these can be enough: 0 where they are.
-    fn wanted(&self, bytes: &[u8]) -> usize;
+    /// What is wanted where these bytes are there.
+    fn wanted(&self, bytes: &[u8]) -> Wanted;
 }

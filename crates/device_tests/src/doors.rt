@@ -1,8 +1,8 @@
 //! The real door and the real link.
-ghost use Rattle.std.specs.Prelude.{◌≡◌, ◌<◌, ◌-◌, ◌^◌, false, IfOk};
+ghost use Rattle.std.specs.Prelude.{◌≡◌, ◌<◌, ◌-◌, ◌^◌, true, false, IfOk};
 ghost use Rattle.outside_real.specs.Door.{state_of, unused};
 
-use client_framing::Framing;
+use client_framing::{Framing, Wanted};
 use outside::{Door, Link};
 use outside_real::{RealDoor, RealLink};
 use std::alloc::{AllocError, Global};
@@ -13,16 +13,18 @@ use std::test::Fail;
 use std::time::{Clock, Instant};
 use test_support::{new_folder, remove_folder};
 
-// A client is heard once its bytes end in a full stop.
+// A request is whole once it ends in a full stop. One that ends in an exclamation mark is heard before it is whole.
 #[derive(Drop)]
 struct Sentences;
 
 impl Framing for Sentences {
-    fn wanted(&self, bytes: &[u8]) -> usize {
+    fn wanted(&self, bytes: &[u8]) -> Wanted {
         if bytes.ends_with(b".") {
-            0
+            Wanted::Whole
+        } else if bytes.ends_with(b"!") {
+            Wanted::Early
         } else {
-            bytes.len().saturating_add(1)
+            Wanted::More(bytes.len().saturating_add(1))
         }
     }
 }
@@ -112,6 +114,73 @@ fn a_client_gets_its_whole_answer(rt: HostRuntime) -> Result<(), Fail> {
     assert!(rt; door.listen().is_ok());
     answer(&rt, &mut door, &mut link)?;
     remove_folder(&rt, folder.as_str())
+}
+
+// The client gets a short answer and the end of it.
+fn take_answer<L: Link>(rt: &impl Abort, link: &mut L) -> Result<(), Fail>
+    requires { L.connected link.old ≡ true }
+{
+    let mut room = [0u8; 4];
+    assert!(rt; link.read(&mut room) == Ok(2) && room.starts_with(b"ok"));
+    assert!(rt; link.read(&mut room) == Ok(0));
+    Ok(())
+}
+
+// The client says its text and, once it is heard, more. Once it is answered it can't say more exactly where the connection was closed. It gets the
+// answer and the end of it both times.
+fn answer_then_hear<N: Door, L: Link>(
+    rt: &impl Abort,
+    door: &mut N,
+    link: &mut L,
+    text: &[u8],
+    more: &[u8],
+    closed: bool,
+) -> Result<(), Fail>
+    requires { N.state door.old ≡ unused }
+{
+    link.connect()?;
+    assert!(rt; link.write(text) == Ok(text.len()));
+    assert!(rt; door.accept()?);
+    assert!(rt; more.is_empty() || link.write(more) == Ok(more.len()));
+    assert!(rt; door.write(b"ok") == Ok(2));
+    door.finish();
+    assert!(rt; link.write(b"and this").is_err() == closed);
+    take_answer(rt, link)
+}
+
+// A door at a socket of its own answers a client that says this, and closes the connection at once or not.
+fn try_close(
+    rt: &HostRuntime,
+    judge: &impl Abort,
+    name: &str,
+    text: &[u8],
+    more: &[u8],
+    closed: bool,
+) -> Result<(), Fail> {
+    let folder = new_folder(rt, name)?;
+    let mut link = link_at(rt, folder.as_str())?;
+    let mut door = door_at(rt, folder.as_str())?;
+    door.listen()?;
+    answer_then_hear(judge, &mut door, &mut link, text, more, closed)?;
+    remove_folder(rt, folder.as_str())
+}
+
+// It has nothing more to send.
+#[test]
+fn a_client_whose_request_is_whole_is_closed_at_once(rt: HostRuntime) -> Result<(), Fail> {
+    try_close(&rt, &rt, "whole", b"now.", b"", true)
+}
+
+// It may still send the rest of its request.
+#[test]
+fn a_client_that_is_answered_early_is_read_on(rt: HostRuntime) -> Result<(), Fail> {
+    try_close(&rt, &rt, "early", b"no!", b"", false)
+}
+
+// Else its answer would end in an error.
+#[test]
+fn a_client_that_sent_more_is_read_on(rt: HostRuntime) -> Result<(), Fail> {
+    try_close(&rt, &rt, "more", b"now.", b"and more", false)
 }
 
 // A client is awaited from when its request is whole until it is accepted.

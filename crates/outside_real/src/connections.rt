@@ -169,10 +169,10 @@ impl Connections {
         });
     }
 
-    // Drops the client that has been there longest, of those whose request isn't whole, or else of those that were answered. False where
+    // Drops the client that has been there longest, of those of which more is wanted, or else of those that were answered. False where
     // there is none.
     fn evict(&mut self) -> bool {
-        if let Some(at) = self.reading.iter().position(|client| !client.is_whole()) {
+        if let Some(at) = self.reading.iter().position(|client| !client.is_servable()) {
             self.reading.remove(at);
             return true;
         }
@@ -267,17 +267,17 @@ impl Connections {
         Ok(())
     }
 
-    // The first client whose request is whole, if there is one and no poll is due.
-    fn take_whole(&mut self, alloc: Global) -> Option<Serving> {
+    // The first client that can be served, if there is one and no poll is due.
+    fn take_servable(&mut self, alloc: Global) -> Option<Serving> {
         if self.batch == 0 {
             return None;
         }
-        let at = self.reading.iter().position(|client| client.is_whole())?;
+        let at = self.reading.iter().position(|client| client.is_servable())?;
         self.batch -= 1;
         Some(self.reading.remove(at).into_serving(alloc))
     }
 
-    /// The next client whose request is whole, which is waited for. The system's error where polling or accepting failed.
+    /// The next client that can be served, which is waited for. The system's error where polling or accepting failed.
     pub fn next(
         &mut self,
         clock: &impl Clock,
@@ -285,7 +285,7 @@ impl Connections {
         framing: &impl Framing,
     ) -> io::Result<Serving> {
         for _ in 0..u64::MAX {
-            if let Some(client) = self.take_whole(alloc) {
+            if let Some(client) = self.take_servable(alloc) {
                 return Ok(client);
             }
             let timeout = self.timeout();
@@ -295,9 +295,14 @@ impl Connections {
         Err(io::Error::from(ErrorKind::Other))
     }
 
-    /// Whether the request of a client is whole, after a look at all of them that waits for none. Also where that look failed, so that the
+    /// Whether a client can be served, after a look at all of them that waits for none. Also where that look failed, so that the
     /// next call of `next` finds out.
-    pub fn has_whole(&mut self, clock: &impl Clock, alloc: Global, framing: &impl Framing) -> bool {
+    pub fn has_servable(
+        &mut self,
+        clock: &impl Clock,
+        alloc: Global,
+        framing: &impl Framing,
+    ) -> bool {
         if self
             .round(clock, alloc, framing, Some(Duration::ZERO))
             .is_err()
@@ -305,7 +310,7 @@ impl Connections {
             return true;
         }
         self.batch = BATCH;
-        self.reading.iter().any(|client| client.is_whole())
+        self.reading.iter().any(|client| client.is_servable())
     }
 
     // Drops those that have taken nothing for longest, while too much is kept of answers.

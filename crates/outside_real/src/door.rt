@@ -25,7 +25,7 @@ const LOOKS: u32 = 5;
 /// A door over the Unix socket `api.sock` in a folder, to which its owner and its group may connect. It is never at its
 /// end.
 ///
-/// All clients are watched at once, and an accept hands on the next one whose request is whole, as its framing says. One that
+/// All clients are watched at once, and an accept hands on the next one that can be heard, as its framing says. One that
 /// sends nothing, sends slowly or takes nothing of its answer costs only itself: it has ten seconds for its whole request, and ten
 /// for each next piece of its answer, and is then closed. At most 256 clients are there; where one more comes, the oldest goes whose
 /// request isn't whole.
@@ -33,8 +33,9 @@ const LOOKS: u32 = 5;
 /// A client that vanishes before its request is whole is never handed on; after that it is a fault of the calls of its own
 /// connection, and of no accept. Each other error of the system is a fault.
 ///
-/// `finish` lets the client take the rest of its answer while others are served; then writing is shut down, and up to 4 MB of what it
-/// still sends are read for a second at most, so that it reads its whole answer.
+/// `finish` lets the client take the rest of its answer while others are served, and then closes the connection: at once where its whole request
+/// was received and it has sent nothing more. Else writing is shut down, and up to 4 MB of what it still sends are read for a second at most,
+/// so that it reads its whole answer and the end of it.
 ///
 /// One door at a time is open in a folder: where another program's door is bound there, binding is a fault and changes
 /// nothing.
@@ -128,7 +129,7 @@ where
         }
     }
 
-    // The next client whose request is whole. The socket is bound first, where it wasn't.
+    // The next client that can be heard. The socket is bound first, where it wasn't.
     fn client(&mut self) -> io::Result<Serving>
         ensures same { state_of self.new.clients ≡ state_of self.old.clients }
         ensures faults { self.new.faults ≡ self.old.faults }
@@ -201,7 +202,7 @@ where
 
     fn is_awaited(&mut self) -> bool {
         match &mut self.connections {
-            Some(connections) => connections.has_whole(&self.rt, self.rt.alloc(), &self.framing),
+            Some(connections) => connections.has_servable(&self.rt, self.rt.alloc(), &self.framing),
             None => true,
         }
     }

@@ -26,6 +26,8 @@ pub struct Draining {
     rest: Vec<u8>,
     /// How many of these it has taken.
     sent: usize,
+    /// Whether all of its request was received.
+    is_whole: bool,
     /// How many pieces may still be read, once it has taken its answer and writing was shut down.
     pieces: Option<u32>,
     /// Whether a call may go on.
@@ -35,13 +37,14 @@ pub struct Draining {
 }
 
 impl Draining {
-    /// One that has still to take these bytes.
-    pub fn new(stream: UnixStream, token: Token, rest: Vec<u8>) -> Draining {
+    /// One that has still to take these bytes, and whether all of its request was received.
+    pub fn new(stream: UnixStream, token: Token, rest: Vec<u8>, is_whole: bool) -> Draining {
         Draining {
             stream,
             token,
             rest,
             sent: 0,
+            is_whole,
             pieces: None,
             ready: true,
             left: Duration::from_secs(PATIENCE),
@@ -73,12 +76,28 @@ impl Draining {
         self.rest.len()
     }
 
-    // One call for it: a piece of its answer, the shutdown after it, or a piece of what it still sends. Whether there is more to do.
+    // Whether it can be closed now that its answer was written: its request is whole, and it has sent nothing after it. Else it is read on, as a client
+    // whose socket is closed over unread bytes gets an error in place of the end of its answer, and one that is still sending gets one at once.
+    fn is_done(&mut self) -> io::Result<bool> {
+        if !self.is_whole {
+            return Ok(false);
+        }
+        match self.stream.read(&mut [0u8; 1]) {
+            Ok(count) => Ok(count == 0),
+            Err(e) if e.kind() == ErrorKind::WouldBlock => Ok(true),
+            Err(e) => Err(e),
+        }
+    }
+
+    // One step for it: a piece of its answer, the shutdown after it, or a piece of what it still sends. Whether there is more to do.
     fn call(&mut self) -> io::Result<bool> {
         match self.pieces {
             None => {
                 let more = self.rest.get(self.sent..).unwrap_or(&[]);
                 if more.is_empty() {
+                    if self.is_done()? {
+                        return Ok(false);
+                    }
                     self.stream.shutdown(Shutdown::Write)?;
                     self.pieces = Some(MOST_PIECES);
                     self.left = Duration::from_secs(LINGERING);

@@ -1,6 +1,6 @@
 //! A client whose request is read.
 use crate::serving::Serving;
-use client_framing::Framing;
+use client_framing::{Framing, Wanted};
 use mio::Token;
 use mio::net::UnixStream;
 use std::alloc::Global;
@@ -19,10 +19,12 @@ const MOST_BYTES: usize = 1_064_960;
 /// How far the request of a client is.
 #[derive(Clone, Copy, Debug, PartialEq, Eq)]
 enum Stage {
-    /// It isn't whole.
+    /// More of it is wanted.
     Waits,
-    /// It is whole, or what is there is refused: the client can be served.
+    /// It is whole: the client can be served.
     Whole,
+    /// The client can be served, though it may still send more of it.
+    Early,
     /// The client went before it was whole, or there was no memory for it.
     Gone,
 }
@@ -68,13 +70,13 @@ impl Reading {
     }
 
     /// Whether it can be served.
-    pub fn is_whole(&self) -> bool {
-        self.stage == Stage::Whole
+    pub fn is_servable(&self) -> bool {
+        matches!(self.stage, Stage::Whole | Stage::Early)
     }
 
     /// Whether something can be done for it without waiting.
     pub fn is_pressing(&self) -> bool {
-        self.ready || self.is_whole()
+        self.ready || self.is_servable()
     }
 
     /// How many received bytes are kept.
@@ -84,7 +86,8 @@ impl Reading {
 
     /// As the one that is served.
     pub fn into_serving(self, alloc: Global) -> Serving {
-        Serving::new(alloc, self.stream, self.token, self.bytes)
+        let is_whole = self.stage == Stage::Whole;
+        Serving::new(alloc, self.stream, self.token, self.bytes, is_whole)
     }
 
     // Asks whether the bytes are enough, once they may be.
@@ -92,9 +95,12 @@ impl Reading {
         if self.bytes.len() < self.wanted {
             return;
         }
-        self.wanted = framing.wanted(&self.bytes);
-        if self.wanted <= self.bytes.len() || MOST_BYTES <= self.bytes.len() {
-            self.stage = Stage::Whole;
+        match framing.wanted(&self.bytes) {
+            Wanted::Whole => self.stage = Stage::Whole,
+            Wanted::More(count) if self.bytes.len() < MOST_BYTES => {
+                self.wanted = count.min(MOST_BYTES);
+            }
+            Wanted::More(_) | Wanted::Early => self.stage = Stage::Early,
         }
     }
 
@@ -124,7 +130,7 @@ impl Reading {
         self.left = self.left.saturating_sub(elapsed);
         match self.stage {
             Stage::Waits => !self.left.is_zero(),
-            Stage::Whole => true,
+            Stage::Whole | Stage::Early => true,
             Stage::Gone => false,
         }
     }

@@ -18,17 +18,26 @@ pub struct Serving {
     taken: usize,
     /// What of its answer the socket didn't take.
     rest: Vec<u8>,
+    /// Whether all of its request was received.
+    is_whole: bool,
 }
 
 impl Serving {
-    /// One of which these bytes were received.
-    pub fn new(alloc: Global, stream: UnixStream, token: Token, bytes: Vec<u8>) -> Serving {
+    /// One of which these bytes were received, and whether they are all of its request.
+    pub fn new(
+        alloc: Global,
+        stream: UnixStream,
+        token: Token,
+        bytes: Vec<u8>,
+        is_whole: bool,
+    ) -> Serving {
         Serving {
             stream,
             token,
             bytes,
             taken: 0,
             rest: Vec::new(alloc),
+            is_whole,
         }
     }
 
@@ -81,6 +90,6 @@ impl Serving {
             let both = Interest::READABLE | Interest::WRITABLE;
             let _ = registry.reregister(&mut self.stream, self.token, both);
         }
-        Draining::new(self.stream, self.token, self.rest)
+        Draining::new(self.stream, self.token, self.rest, self.is_whole)
     }
 }

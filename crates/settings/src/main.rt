@@ -12,12 +12,17 @@ use api_http::WholeRequests;
 use command_words::Command;
 use event_lines::Discard;
 use outside::{Asker, Disk, Door, Sink};
-use outside_real::{LimitedWriter, RealDisk, RealDoor, RealSink, RealSpawner, Stream, words_of};
+use outside_real::{
+    LimitedWriter, RealDisk, RealDoor, RealSink, RealSpawner, Stream, tell, tell_misuse, words_of,
+};
 use program_version::VERSION;
 use settings_run::run;
 use std::alloc::{AllocError, Global};
 use std::io::{self, Stderr, Write};
 use std::process::ExitCode;
+
+/// What standard error calls the program.
+const PROGRAM: &str = "settings";
 
 /// The exit status of a program that ran out of memory in making its devices, as that of a command.
 const OUT_OF_MEMORY: u8 = 1;
@@ -61,23 +66,6 @@ fn asked_of(alloc: Global, words: &[String]) -> Result<Option<String>, AllocErro
     }
 }
 
-// Writes the text to standard error, as far as that takes it.
-fn say(rt: &HostRuntime, text: &str) {
-    if let Ok(files) = rt.clone() {
-        let _ = LimitedWriter::new(files, Stream::Error, rt.stderr()).write_all(text.as_bytes());
-    }
-}
-
-// Tells on standard error what failed, where a device did.
-fn tell(rt: &HostRuntime, failure: Result<Option<String>, AllocError>) {
-    if let Ok(Some(line)) = failure {
-        let line = line.as_str();
-        if let Ok(line) = format!(in rt.alloc(); "settings: {line}\n") {
-            say(rt, line.as_str());
-        }
-    }
-}
-
 // Whether the command reads the image alone, which no program writes: it needs no lock.
 fn reads_alone(words: &[String]) -> bool {
     matches!(words, [word] if word.as_str() == "check")
@@ -92,23 +80,6 @@ fn disk_for(rt: &HostRuntime, words: &[String]) -> io::Result<RealDisk<HostRunti
         disk.wait_for_lock();
     }
     Ok(disk)
-}
-
-// The line that tells which word is at fault; None where there is no word. Or out of memory.
-fn misuse_line(alloc: Global, words: &[String]) -> Result<Option<String>, AllocError> {
-    match misuse::fault_of(alloc, words)? {
-        Some(fault) => {
-            let fault = fault.as_str();
-            Ok(Some(format!(in alloc; "usage: {fault}")?))
-        }
-        None => Ok(None),
-    }
-}
-
-// Tells on standard error which word is at fault, and then the words of all commands.
-fn tell_misuse(rt: &HostRuntime, words: &[String]) {
-    tell(rt, misuse_line(rt.alloc(), words));
-    say(rt, PAGE);
 }
 
 // Whether the words are those of a server.
@@ -190,13 +161,13 @@ fn carried_out<W: Write + Drop>(
     disk.tidy();
     door.drain();
     if status == MISUSED {
-        tell_misuse(rt, words);
+        tell_misuse(rt, PROGRAM, misuse::fault_of(alloc, words), PAGE);
     }
     let failure = match status {
         BAD_IMAGE | USER_DATA => faults::fault_of(alloc, &mut disk, words, out.first_bytes()),
         _ => failure_of(status, &disk, &door, &spawner, out),
     };
-    tell(rt, failure);
+    tell(rt, PROGRAM, failure);
     Ok(status)
 }
 

@@ -9,13 +9,16 @@ mod usage;
 use crate::paced::PacedLink;
 use crate::usage::PAGE;
 use host_client::{Pace, is_verb, pace_in, run_client};
-use outside_real::{LimitedWriter, RealLink, RealSink, Stream, words_of};
+use outside_real::{LimitedWriter, RealLink, RealSink, Stream, tell, tell_misuse, words_of};
 use program_version::VERSION;
 use std::alloc::{AllocError, Global};
 use std::fs;
 use std::io::{self, Write};
 use std::process::ExitCode;
 use std::time::Duration;
+
+/// What standard error calls the program.
+const PROGRAM: &str = "settingsctl";
 
 /// The exit status of a program that ran out of memory in making its devices, as that of a run.
 const OUT_OF_MEMORY: u8 = 1;
@@ -54,40 +57,6 @@ fn asked_of(alloc: Global, words: &[String]) -> Result<Option<String>, AllocErro
         "--version" => Ok(Some(format!(in alloc; "settingsctl {VERSION}\n")?)),
         _ => Ok(None),
     }
-}
-
-// Writes the text to standard error, as far as that takes it.
-fn say(rt: &HostRuntime, text: &str) {
-    if let Ok(files) = rt.clone() {
-        let _ = LimitedWriter::new(files, Stream::Error, rt.stderr()).write_all(text.as_bytes());
-    }
-}
-
-// Tells on standard error what failed, where a device did.
-fn tell(rt: &HostRuntime, failure: Result<Option<String>, AllocError>) {
-    if let Ok(Some(line)) = failure {
-        let line = line.as_str();
-        if let Ok(line) = format!(in rt.alloc(); "settingsctl: {line}\n") {
-            say(rt, line.as_str());
-        }
-    }
-}
-
-// The line that tells which word is at fault; None where there is no word. Or out of memory.
-fn misuse_line(alloc: Global, words: &[String]) -> Result<Option<String>, AllocError> {
-    match misuse::fault_of(alloc, words)? {
-        Some(fault) => {
-            let fault = fault.as_str();
-            Ok(Some(format!(in alloc; "usage: {fault}")?))
-        }
-        None => Ok(None),
-    }
-}
-
-// Tells on standard error which word is at fault, and then how the words are spelled.
-fn tell_misuse(rt: &HostRuntime, words: &[String]) {
-    tell(rt, misuse_line(rt.alloc(), words));
-    say(rt, PAGE);
 }
 
 // The folder that is asked, and the words after it: DIR where the words begin with `-C DIR`. By default it is the working folder;
@@ -133,13 +102,13 @@ fn answered<W: Write + Drop>(
     let mut links = links_of(rt, folder, pace_in(alloc, words)?)?;
     let status = run_client(alloc, words, &mut links, out);
     match status {
-        MISUSED => tell_misuse(rt, words),
+        MISUSED => tell_misuse(rt, PROGRAM, misuse::fault_of(alloc, words), PAGE),
         LINK => {
             for paced in &links {
-                tell(rt, paced.link().last_failure());
+                tell(rt, PROGRAM, paced.link().last_failure());
             }
         }
-        OUTPUT => tell(rt, out.last_failure()),
+        OUTPUT => tell(rt, PROGRAM, out.last_failure()),
         _ => {}
     }
     Ok(status)
