@@ -12,6 +12,7 @@ use crate::View;
 use key_names::Text;
 use outside::Disk;
 use settings_machine::{Cause, file_bytes};
+use settings_tree::LiveView;
 use std::alloc::Global;
 use template_eval::RenderError;
 
@@ -61,7 +62,13 @@ pub(crate) fn write_file<D: Disk>(
         (λ old new. (I : Image) → Sees I view.now → WritesOne I view.now.live.now file.now result old new) }
     ensures faults { HasCause (D.faults disk.old) (D.faults disk.new) (disk_answer result) }
 {
-    match file_bytes(alloc, view.templates, view.os, view.live, file) {
+    match file_bytes(
+        alloc,
+        view.templates,
+        view.os,
+        &LiveView::of(view.live),
+        file,
+    ) {
         Ok(bytes) => put(view, file, bytes.as_slice(), disk),
         Err(error) => Err(refused(file, error)),
     }

@@ -12,8 +12,8 @@ use outside::{Disk, Spawner};
 use settings_tree::Held;
 use std::alloc::Global;
 
-// Whether a turn is left.
-fn any_left(left: Option<u32>) -> bool
+/// Whether a turn is left of a slice: without a number one always is.
+pub fn any_left(left: Option<u32>) -> bool
     ensures some { result ≡ true → left ≢ Some 0 }
     ensures none { result ≡ false → left ≡ Some 0 }
 {
@@ -27,8 +27,8 @@ fn has_failed(ran: bool, job: &JobState) -> bool
     ran && job.failed_with_disk()
 }
 
-// What is left of a slice after one turn.
-fn one_less(left: Option<u32>) -> Option<u32>
+/// What is left of a slice after one turn, where one was left.
+pub fn one_less(left: Option<u32>) -> Option<u32>
     requires { left ≢ Some 0 }
     ensures { result ≡ option_map (λ n. n - 1) left }
 {

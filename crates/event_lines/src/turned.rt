@@ -8,9 +8,10 @@ ghost use Rattle.event_lines.specs.Lines as lines;
 use crate::Due;
 use crate::job_lines::{with_began, with_ended, with_failed, with_failure};
 use crate::logfmt::Lines;
-use crate::values::{path_text, words_text};
+use crate::values::words_text;
 use affected_apply::{Cause, JobState};
 use key_names::{Bytes, Text};
+use machine_answers::path_text;
 use outside::Path;
 use std::alloc::{AllocError, Global};
 

@@ -1,13 +1,12 @@
 //! The values of pairs. The only error of each function is out of memory.
-ghost use Rattle.std.specs.Prelude.{◌≡◌, ◌++◌, OnOk, IfOk, codes, decimal, map, string_bytes};
+ghost use Rattle.std.specs.Prelude.{◌≡◌, ◌++◌, OnOk, IfOk, codes, map, string_bytes};
 ghost use Rattle.std.specs.List.{flat_map};
 ghost use Rattle.key_names.specs.Key.{printed};
 ghost use Rattle.version_links.specs.Versions.{version_text};
-ghost use Rattle.event_lines.specs.Lines.{separated, listed, owed_text, path_text, cause_text};
+ghost use Rattle.event_lines.specs.Lines.{separated, listed, owed_text, cause_text};
 
 use key_names::{Key, Text};
-use machine_answers::{render_path, render_word};
-use outside::Path;
+use machine_answers::{cause_words, render_path, render_word};
 use settings_machine::Cause;
 use settings_tree::{Owed, Pending};
 use std::alloc::{AllocError, Global};
@@ -75,29 +74,11 @@ pub fn version_text(alloc: Global, version: Version) -> Result<Text, AllocError>
     Ok(Text::of(text))
 }
 
-/// The path, with a slash at its front. The names of a path are ASCII, so they are text.
-pub fn path_text(alloc: Global, path: &Path) -> Result<Text, AllocError>
-    ensures { IfOk result (λ text. text ≡ path_text path.now) }
-{
-    let Ok(names) = String::from_utf8(path.print()?) else {
-        return Err(AllocError);
-    };
-    let text = format!(in alloc; "/{names}")?;
-    Ok(Text::of(text))
-}
-
 /// The words, with spaces between.
 pub fn words_text(alloc: Global, words: &[String]) -> Result<Text, AllocError>
     ensures { IfOk result (λ text. text ≡ separated (codes " ") (map (λ w. string_bytes w) words.now)) }
 {
     let text = words.join(alloc, " ")?;
-    Ok(Text::of(text))
-}
-
-fn spawn_text(alloc: Global, service: &str) -> Result<Text, AllocError>
-    ensures { IfOk result (λ text. text ≡ codes "spawn " ++ service.now) }
-{
-    let text = format!(in alloc; "spawn {service}")?;
     Ok(Text::of(text))
 }
 
@@ -108,24 +89,14 @@ fn refusal_text(alloc: Global, file: &str, word: &str, path: &str) -> Result<Tex
     Ok(Text::of(text))
 }
 
-fn status_text(alloc: Global, service: &str, number: u16) -> Result<Text, AllocError>
-    ensures { IfOk result (λ text. text ≡ codes "status " ++ service.now ++ codes " " ++ decimal number) }
-{
-    let text = format!(in alloc; "status {service} {number}")?;
-    Ok(Text::of(text))
-}
-
 /// Why a job failed: `disk`, `spawn SERVICE`, `render FILE WORD PATH`, `status SERVICE NUMBER` or `memory`.
 pub fn cause_text(alloc: Global, cause: &Cause) -> Result<Text, AllocError>
     ensures { IfOk result (λ text. text ≡ cause_text cause.now) }
 {
     match cause {
-        Cause::Disk => Text::from_str(alloc, "disk"),
-        Cause::Spawn { service } => spawn_text(alloc, service.as_str()),
         Cause::Render { file, error } => {
             refusal_text(alloc, file.as_str(), render_word(error), render_path(error))
         }
-        Cause::Status { service, number } => status_text(alloc, service.as_str(), *number),
-        Cause::Memory => Text::from_str(alloc, "memory"),
+        _ => cause_words(alloc, cause),
     }
 }

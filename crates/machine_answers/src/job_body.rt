@@ -34,7 +34,9 @@ fn status_words(alloc: Global, service: &str, number: u16) -> Result<Text, Alloc
     Ok(Text::of(text))
 }
 
-fn cause_words(alloc: Global, cause: &Cause) -> Result<Text, AllocError>
+/// Why a job failed, as the body of the job tells it: `disk`, `spawn SERVICE`, `render FILE`, `status SERVICE NUMBER` or `memory`. The
+/// only error is out of memory.
+pub fn cause_words(alloc: Global, cause: &Cause) -> Result<Text, AllocError>
     ensures { IfOk result (λ text. text ≡ cause_words cause.now) }
 {
     match cause {

@@ -12,7 +12,9 @@ mod state_lines;
 mod states_body;
 
 pub use answer::{Answer, Body};
-pub use job_body::job_text;
+pub use job_body::{cause_words, job_text};
+pub use objects::object_text;
+pub use plan_body::path_text;
 pub use refusal_body::refusal_text;
 pub use render_words::{render_path, render_word};
 pub use state_lines::states_text;

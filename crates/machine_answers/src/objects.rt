@@ -1,6 +1,7 @@
 //! The texts of objects: texts by name, and lists of names by key.
-ghost use Rattle.std.specs.Prelude.{IfOk, OnOk, map};
+ghost use Rattle.std.specs.Prelude.{◌≡◌, IfOk, OnOk, map};
 ghost use Rattle.serde_json.specs.Data.{object};
+ghost use Rattle.serde_json.specs.Written.{compact_text};
 ghost use Rattle.held_text.specs.HeldRules.{Wrote};
 ghost use Rattle.settings_machine.specs.Requests.{TextsByName, ListsByKey};
 ghost use Rattle.machine_answers.specs.Bodies.{text_entry, list_entry, members_of, IsTextOf, WroteEntry};
@@ -39,6 +40,30 @@ fn write_lists(writer: &mut Writer, lists: &[(Key, Vec<Text>)]) -> Result<(), Al
         write_list(writer, key, names.as_slice())?;
     }
     writer.end_object()
+}
+
+// Writes an object whose members are texts.
+fn write_members(writer: &mut Writer, members: &[(&str, &str)]) -> Result<(), AllocError>
+    ensures { OnOk result (Wrote
+        (object (members_of (map (λ m. text_entry (m.0.now, m.1.now)) members.now))) writer.old writer.new) }
+{
+    writer.begin_object()?;
+    for (name, text) in members {
+        writer.key(*name)?;
+        writer.string(*text)?;
+    }
+    writer.end_object()
+}
+
+/// The text of an object of compact JSON (RFC 8259) whose members are texts: each name with its text, in this order. The only error is
+/// out of memory. It takes time linear in the texts.
+pub fn object_text(alloc: Global, members: &[(&str, &str)]) -> Result<Text, AllocError>
+    ensures { IfOk result (λ text. text
+        ≡ compact_text (object (members_of (map (λ m. text_entry (m.0.now, m.1.now)) members.now)))) }
+{
+    let mut writer = Writer::new(Vec::new(alloc));
+    write_members(&mut writer, members)?;
+    Ok(text_of(writer))
 }
 
 /// Texts by name, in their order. The only error is out of memory.

@@ -20,8 +20,8 @@ use settings_machine::Plan;
 use std::alloc::{AllocError, Global};
 use template_eval::RenderError;
 
-// The text of a path, with a slash at its front. The names of a path are ASCII, so they are text.
-pub(crate) fn path_text(alloc: Global, path: &Path) -> Result<Text, AllocError>
+/// The text of a path, with a slash at its front. The names of a path are ASCII, so they are text. The only error is out of memory.
+pub fn path_text(alloc: Global, path: &Path) -> Result<Text, AllocError>
     ensures { IfOk result (λ text. text ≡ 47 ∷ joined path.now) }
 {
     let Ok(names) = String::from_utf8(path.print()?) else {

@@ -6,8 +6,9 @@ use Rattle.json_trees.proofs.Parting.{AllByRecursion-append}
 use Rattle.model_file.specs.Rows.{RowTexts}
 use Rattle.model_file.specs.Checks.{Check, Holds, kind_of, path_of, IsFirstFailing}
 use Rattle.model_file.specs.Refused.{Passes, Refuses, IsAt}
-use Rattle.model_file.specs.declared.located_fault.LocatedFault.{LocatedFault}
-use Rattle.model_file.specs.declared.located_fault.LocatedFault.TheVariants.{Fault, Memory}
+use Rattle.toml_values.specs.declared.located_fault.LocatedFault.{LocatedFault}
+use Rattle.toml_values.specs.declared.located_fault.LocatedFault.TheVariants.{Fault, Memory}
+use Rattle.model_file.specs.declared.model_error.ModelKind.{ModelKind}
 
 -- All of two lists hold.
 pub passes_both : (rows : RowTexts) (xs ys : List Check) → Passes rows xs → Passes rows ys → Passes rows (xs ++ ys)
@@ -34,23 +35,24 @@ failing_after rows xs ys c front first = record {
 }
 
 -- A refusal of some checks is one with others after them.
-pub refuses_before : (rows : RowTexts) (xs ys : List Check) (e : LocatedFault) → Refuses rows xs e → Refuses rows (xs ++ ys) e
+pub refuses_before : (rows : RowTexts) (xs ys : List Check) (e : LocatedFault ModelKind) → Refuses rows xs e → Refuses rows (xs ++ ys) e
 refuses_before rows xs ys Memory refused = tt
 refuses_before rows xs ys (Fault kind at) refused = (refused.0, failing_before rows xs ys refused.0 refused.1, refused.2, refused.3)
 
 -- And with others before them that hold.
-pub refuses_after : (rows : RowTexts) (xs ys : List Check) (e : LocatedFault) → Passes rows xs → Refuses rows ys e → Refuses rows (xs ++ ys) e
+pub refuses_after : (rows : RowTexts) (xs ys : List Check) (e : LocatedFault ModelKind) → Passes rows xs → Refuses rows ys e → Refuses rows (xs ++ ys) e
 refuses_after rows xs ys Memory front refused = tt
 refuses_after rows xs ys (Fault kind at) front refused = (refused.0, failing_after rows xs ys refused.0 front refused.1, refused.2, refused.3)
 
 -- The first check fails, and the refusal is of its kind and at its path.
-pub refuses_first : (rows : RowTexts) (c : Check) (rest : List Check) (e : LocatedFault) → (Holds rows c → ⊥) → IsAt (kind_of c) (path_of c) e
+pub refuses_first : (rows : RowTexts) (c : Check) (rest : List Check) (e : LocatedFault ModelKind) → (Holds rows c → ⊥) → IsAt (kind_of c) (path_of c) e
     → Refuses rows (c ∷ rest) e
 refuses_first rows c rest Memory fails at = tt
 refuses_first rows c rest (Fault kind text) fails at = (c, record { before = []; after = rest; split = refl; hold = tt; fails = fails }, at.0, at.1)
 
 -- Unless it ran out of memory, the first check fails, and the refusal is of its kind and at its path.
-pub refuses_unless : (rows : RowTexts) (c : Check) (rest : List Check) (e : LocatedFault) → (e ≢ Memory → Holds rows c → ⊥) → IsAt (kind_of c) (path_of c) e
+pub refuses_unless : (rows : RowTexts) (c : Check) (rest : List Check) (e : LocatedFault ModelKind) → (e ≢ Memory → Holds rows c → ⊥)
+    → IsAt (kind_of c) (path_of c) e
     → Refuses rows (c ∷ rest) e
 refuses_unless rows c rest Memory fails at = tt
 refuses_unless rows c rest (Fault kind text) fails at = refuses_first rows c rest (Fault kind text) (fails (λ same. absurd (cc))) at
@@ -78,7 +80,8 @@ one_fails rows all c d one two = by one.before two.before one.after two.after (s
 -- ---- results of calls
 
 -- What two clauses say of an error.
-pub both_err : {T : Type 0} (r : Result T LocatedFault) (P Q R : LocatedFault → Type 0) → ((e : LocatedFault) → P e → Q e → R e) → IfErr r P
+pub both_err : {T : Type 0} (r : Result T (LocatedFault ModelKind)) (P Q R : LocatedFault ModelKind → Type 0)
+    → ((e : LocatedFault ModelKind) → P e → Q e → R e) → IfErr r P
     → IfErr r Q → IfErr r R
 both_err (Ok x) P Q R by p q = tt
 both_err (Err e) P Q R by p q = by e p q

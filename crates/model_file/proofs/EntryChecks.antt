@@ -10,7 +10,8 @@ use Rattle.model_file.specs.Document.{section_members}
 use Rattle.model_file.specs.Entries.{Path, members_entries}
 use Rattle.model_file.specs.Refused.{Passes, Refuses}
 use Rattle.model_file.specs.declared.found.Found.{Found}
-use Rattle.model_file.specs.declared.located_fault.LocatedFault.{LocatedFault}
+use Rattle.toml_values.specs.declared.located_fault.LocatedFault.{LocatedFault}
+use Rattle.model_file.specs.declared.model_error.ModelKind.{ModelKind}
 use Rattle.model_file.proofs.Checking.{passes_both, refuses_before, refuses_after}
 
 -- One element more of a list.
@@ -34,7 +35,8 @@ module _ {X : Type 0} (f : X → List Check) where
   passes_all rows xs i done all = subst (λ (l : List X). Passes rows (flat_map f l)) (take_all i xs done) all
 
   -- A refusal of one entry is one of all of them, where those before hold.
-  pub refuses_at : (rows : RowTexts) (xs : List X) (i : ℕ) (x : X) (e : LocatedFault) → i < length xs → x ≡ get_or xs i x → Passes rows (flat_map f (take i xs))
+  pub refuses_at : (rows : RowTexts) (xs : List X) (i : ℕ) (x : X) (e : LocatedFault ModelKind) → i < length xs → x ≡ get_or xs i x
+      → Passes rows (flat_map f (take i xs))
       → Refuses rows (f x) e → Refuses rows (flat_map f xs) e
   refuses_at rows xs i x e within is front refused =
       let upto : Refuses rows (flat_map f (take (i + 1) xs)) e = subst (λ (l : List Check). Refuses rows l e) (sym (flat_more xs i x within is))
@@ -49,13 +51,13 @@ module _ (f : Path × Found → List Check) (rows : RowTexts) (name : List ℕ) 
   section_passes table each = (table.0, subst (λ (m : Members). Passes rows (flat_map f (members_entries [] m))) (sym are) each)
 
   -- A section is refused where it is a table and its entries are refused.
-  pub section_refuses : (e : LocatedFault) → Passes rows (table_check name document ∷ []) → Refuses rows (flat_map f (members_entries [] below)) e
+  pub section_refuses : (e : LocatedFault ModelKind) → Passes rows (table_check name document ∷ []) → Refuses rows (flat_map f (members_entries [] below)) e
       → Refuses rows (table_check name document ∷ flat_map f (section_entries name document)) e
   section_refuses e table refused =
       refuses_after rows (table_check name document ∷ []) (flat_map f (section_entries name document)) e table
       (subst (λ (m : Members). Refuses rows (flat_map f (members_entries [] m)) e) (sym are) refused)
 
 -- Or where it is no table.
-pub table_refuses : (f : Path × Found → List Check) (rows : RowTexts) (name : List ℕ) (document : Members) (e : LocatedFault)
+pub table_refuses : (f : Path × Found → List Check) (rows : RowTexts) (name : List ℕ) (document : Members) (e : LocatedFault ModelKind)
     → Refuses rows (table_check name document ∷ []) e → Refuses rows (table_check name document ∷ flat_map f (section_entries name document)) e
 table_refuses f rows name document e refused = refuses_before rows (table_check name document ∷ []) (flat_map f (section_entries name document)) e refused

@@ -2,13 +2,14 @@
 use Rattle.std.proofs.Common.{◌≡◌, ℕ, List, [], ◌∷◌}
 use Rattle.model_file.specs.Checks.{Check}
 use Rattle.model_file.specs.Refused.{Passes, Refuses}
-use Rattle.model_file.specs.declared.located_fault.LocatedFault.{LocatedFault}
+use Rattle.toml_values.specs.declared.located_fault.LocatedFault.{LocatedFault}
+use Rattle.model_file.specs.declared.model_error.ModelKind.{ModelKind}
 use Rattle.model_file.proofs.Checking.{refuses_before, refuses_after}
 
 -- What is left decides on all.
 pub record Decides (left all : List Check) : Type 0 where
   pub passes : (rows : List (List ℕ × List ℕ)) → Passes rows left → Passes rows all
-  pub refuses : (rows : List (List ℕ × List ℕ)) (e : LocatedFault) → Refuses rows left e → Refuses rows all e
+  pub refuses : (rows : List (List ℕ × List ℕ)) (e : LocatedFault ModelKind) → Refuses rows left e → Refuses rows all e
 
 -- At first all are left.
 pub all_left : (all : List Check) → Decides all all
@@ -23,7 +24,7 @@ one_holds left all rest c so_far is holds = record {
 }
 
 -- The next check fails.
-pub one_refused : (left all rest : List Check) (c : Check) (e : LocatedFault) → Decides left all → left ≡ c ∷ rest
+pub one_refused : (left all rest : List Check) (c : Check) (e : LocatedFault ModelKind) → Decides left all → left ≡ c ∷ rest
     → ((rows : List (List ℕ × List ℕ)) → Refuses rows (c ∷ []) e)
     → (rows : List (List ℕ × List ℕ)) → Refuses rows all e
 one_refused left all rest c e so_far is refused rows = so_far.refuses rows e (rw is (refuses_before rows (c ∷ []) rest e (refused rows)))

@@ -16,8 +16,9 @@ use Rattle.model_file.specs.Refused.{Passes, Refuses, IsAt}
 use Rattle.model_file.specs.declared.found.Found.{Found}
 use Rattle.model_file.specs.declared.found.Found.TheVariants as found
 use Rattle.model_file.specs.declared.model_error.ModelKind.TheVariants.{BadMetadata, BadKey, BadValue}
-use Rattle.model_file.specs.declared.located_fault.LocatedFault.{LocatedFault}
-use Rattle.model_file.specs.declared.located_fault.LocatedFault.TheVariants.{Memory}
+use Rattle.toml_values.specs.declared.located_fault.LocatedFault.{LocatedFault}
+use Rattle.toml_values.specs.declared.located_fault.LocatedFault.TheVariants.{Memory}
+use Rattle.model_file.specs.declared.model_error.ModelKind.{ModelKind}
 use Rattle.model_file.proofs.Checking.{passes_both, refuses_before, refuses_after, refuses_first, refuses_unless}
 
 -- ---- the last name of a path
@@ -55,13 +56,13 @@ begins rest = ap is_eq (tied_itself bytes_total (codes "settings"))
 
 module _ (rows : RowTexts) (entry : Path × Found) where
   -- It begins with another name.
-  pub other_refuses : (e : LocatedFault) → is_prefix settings_key (meta_key entry) ≡ false → IsAt BadMetadata (codes "metadata" ∷ entry.0) e
+  pub other_refuses : (e : LocatedFault ModelKind) → is_prefix settings_key (meta_key entry) ≡ false → IsAt BadMetadata (codes "metadata" ∷ entry.0) e
       → Refuses rows (key_checks entry) e
   other_refuses e other at = refuses_first rows (test (is_prefix settings_key (meta_key entry)) BadMetadata (codes "metadata" ∷ entry.0))
       (test (is_key (meta_key entry)) BadKey (codes "metadata" ∷ entry.0) ∷ []) e (λ is. both_ways (is_prefix settings_key (meta_key entry)) other is) at
 
   -- It is no key.
-  pub key_refuses : (e : LocatedFault) (rest : Path) → meta_key entry ≡ codes "settings" ∷ rest → is_key (codes "settings" ∷ rest) ≡ false
+  pub key_refuses : (e : LocatedFault ModelKind) (rest : Path) → meta_key entry ≡ codes "settings" ∷ rest → is_key (codes "settings" ∷ rest) ≡ false
       → IsAt BadKey (codes "metadata" ∷ entry.0) e → Refuses rows (key_checks entry) e
   key_refuses e rest is no_key at =
       let none : is_key (meta_key entry) ≡ false = ap is_key is ∙ no_key in
@@ -78,7 +79,7 @@ module _ (rows : RowTexts) (entry : Path × Found) where
       (codes "metadata" ∷ entry.0) ∷ []
 
   -- A refusal of the key.
-  pub by_key : (e : LocatedFault) → Refuses rows (key_checks entry) e → Refuses rows (meta_checks entry) e
+  pub by_key : (e : LocatedFault ModelKind) → Refuses rows (key_checks entry) e → Refuses rows (meta_checks entry) e
   by_key e refused = refuses_before rows (key_checks entry) value_tests e refused
 
   -- A table passes.
@@ -93,7 +94,7 @@ module _ (rows : RowTexts) (entry : Path × Found) where
       (ap is_fit is, (ap (λ (f : Found). has_table f || is_meta_name (last_name entry.0)) is ∙ named, tt))
 
   -- A scalar under another name is refused.
-  pub name_refuses : (value : Scalar) (e : LocatedFault) → entry.1 ≡ found.Value value → Passes rows (key_checks entry)
+  pub name_refuses : (value : Scalar) (e : LocatedFault ModelKind) → entry.1 ≡ found.Value value → Passes rows (key_checks entry)
       → (e ≢ Memory → is_meta_name (last_name entry.0) ≡ false) → IsAt BadMetadata (codes "metadata" ∷ entry.0) e → Refuses rows (meta_checks entry) e
   name_refuses value e is key other at =
       let no_table : (has_table entry.1 || is_meta_name (last_name entry.0)) ≡ is_meta_name (last_name entry.0) =
@@ -105,7 +106,7 @@ module _ (rows : RowTexts) (entry : Path × Found) where
       (λ some holds. both_ways (is_meta_name (last_name entry.0)) (other some) (sym no_table ∙ holds)) at))
 
   -- Another value is refused.
-  pub other_value_refuses : (e : LocatedFault) → entry.1 ≡ found.Other → Passes rows (key_checks entry) → IsAt BadValue (codes "metadata" ∷ entry.0) e
+  pub other_value_refuses : (e : LocatedFault ModelKind) → entry.1 ≡ found.Other → Passes rows (key_checks entry) → IsAt BadValue (codes "metadata" ∷ entry.0) e
       → Refuses rows (meta_checks entry) e
   other_value_refuses e is key at =
       refuses_after rows (key_checks entry) value_tests e key

@@ -8,7 +8,8 @@ use Rattle.model_file.specs.Checks.{Check, test}
 use Rattle.model_file.specs.Document.{sections}
 use Rattle.model_file.specs.Refused.{Passes, Refuses, IsAt}
 use Rattle.model_file.specs.declared.model_error.ModelKind.TheVariants.{UnknownSection}
-use Rattle.model_file.specs.declared.located_fault.LocatedFault.{LocatedFault}
+use Rattle.toml_values.specs.declared.located_fault.LocatedFault.{LocatedFault}
+use Rattle.model_file.specs.declared.model_error.ModelKind.{ModelKind}
 use Rattle.model_file.proofs.Checking.{refuses_first}
 
 -- The check of a top-level name.
@@ -21,7 +22,8 @@ pub name_holds : (name bytes : List ℕ) → bytes ≡ name → true ≡ list_an
 name_holds name bytes same found rows = (ap (λ (n : List ℕ). list_any (eq_by_cmp bytes_cmp n) sections) (sym same) ∙ sym found, tt)
 
 -- And one that is not.
-pub name_refused : (name bytes printed : List ℕ) (e : LocatedFault) → bytes ≡ name → printed ≡ name → false ≡ list_any (eq_by_cmp bytes_cmp bytes) sections
+pub name_refused : (name bytes printed : List ℕ) (e : LocatedFault ModelKind) → bytes ≡ name → printed ≡ name
+    → false ≡ list_any (eq_by_cmp bytes_cmp bytes) sections
     → IsAt UnknownSection (printed ∷ []) e
     → (rows : List (List ℕ × List ℕ)) → Refuses rows (name_check name ∷ []) e
 name_refused name bytes printed e same also none at rows =

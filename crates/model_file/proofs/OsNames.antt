@@ -20,7 +20,8 @@ use Rattle.model_file.specs.Document.{section_members}
 use Rattle.model_file.specs.Refused.{Passes, Refuses, IsAt}
 use Rattle.toml_values.specs.Values.{text_of}
 use Rattle.model_file.specs.declared.model_error.ModelKind.TheVariants.{BadOs}
-use Rattle.model_file.specs.declared.located_fault.LocatedFault.{LocatedFault}
+use Rattle.toml_values.specs.declared.located_fault.LocatedFault.{LocatedFault}
+use Rattle.model_file.specs.declared.model_error.ModelKind.{ModelKind}
 use Rattle.model_file.proofs.Checking.{refuses_first, refuses_after}
 
 neither : (b : Bool) (o : Option (List ℕ)) → None ≡ (if b then o else None) → (b && is_some o) ≡ true → ⊥
@@ -29,7 +30,7 @@ neither true (Some s) none holds = cc none
 neither false o none holds = cc holds
 
 -- An entry with no bare name, or with no text.
-pub os_refused : (name : List ℕ) (d : Data) (e : LocatedFault) → None ≡ (if nat_lt 0 (length name) && list_all is_bare name then text_of d else None)
+pub os_refused : (name : List ℕ) (d : Data) (e : LocatedFault ModelKind) → None ≡ (if nat_lt 0 (length name) && list_all is_bare name then text_of d else None)
     → IsAt BadOs (codes "os" ∷ name ∷ []) e
     → (rows : List (List ℕ × List ℕ)) → Refuses rows (os_check (name, d) ∷ []) e
 os_refused name d e none at rows = refuses_first rows (os_check (name, d)) [] e (neither _ (text_of d) none) at
@@ -85,7 +86,7 @@ pub passes_at : (name bytes : List ℕ) (d : Data) → bytes ≡ name → ((rows
 passes_at name bytes d same holds rows = subst (λ (n : List ℕ). Passes rows (os_check (n, d) ∷ [])) same (holds rows)
 
 -- And what is refused.
-pub refuses_at : (name bytes : List ℕ) (d : Data) (e : LocatedFault) → bytes ≡ name → ((rows : List (List ℕ × List ℕ))
+pub refuses_at : (name bytes : List ℕ) (d : Data) (e : LocatedFault ModelKind) → bytes ≡ name → ((rows : List (List ℕ × List ℕ))
     → Refuses rows (os_check (bytes, d) ∷ []) e)
     → (rows : List (List ℕ × List ℕ)) → Refuses rows (os_check (name, d) ∷ []) e
 refuses_at name bytes d e same refused rows = subst (λ (n : List ℕ). Refuses rows (os_check (n, d) ∷ []) e) same (refused rows)
@@ -96,7 +97,7 @@ pub section_passes : (rows : List (List ℕ × List ℕ)) (document ms : Members
 section_passes rows document ms is holds all = (holds.0, subst (λ (m : Members). Passes rows (map os_check (named m))) (sym is) all)
 
 -- The section is a table, and the first of its entries that fails is refused.
-pub section_refuses : (rows : List (List ℕ × List ℕ)) (document ms : Members) (e : LocatedFault) → section_members (codes "os") document ≡ ms
+pub section_refuses : (rows : List (List ℕ × List ℕ)) (document ms : Members) (e : LocatedFault ModelKind) → section_members (codes "os") document ≡ ms
     → Passes rows (table_check (codes "os") document ∷ []) → Refuses rows (map os_check (named ms)) e
     → Refuses rows (os_checks document) e
 section_refuses rows document ms e is holds refused =

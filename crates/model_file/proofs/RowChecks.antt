@@ -11,7 +11,8 @@ use Rattle.model_file.specs.Checks.{Check, row, apart, row_path, apart_checks, r
 use Rattle.model_file.specs.Refused.{Passes, Refuses, IsAt}
 use Rattle.model_file.specs.Rows.{RowTexts, row_texts}
 use Rattle.model_file.specs.declared.model_error.ModelKind.TheVariants.{BadRow, RowsMeet}
-use Rattle.model_file.specs.declared.located_fault.LocatedFault.{LocatedFault}
+use Rattle.toml_values.specs.declared.located_fault.LocatedFault.{LocatedFault}
+use Rattle.model_file.specs.declared.model_error.ModelKind.{ModelKind}
 use Rattle.model_file.proofs.Checking.{passes_both, refuses_before, refuses_after, refuses_first}
 use Rattle.model_file.proofs.EntryChecks.{refuses_at}
 use Rattle.std.specs.Prelude.{codes}
@@ -68,7 +69,7 @@ apart_pass rows before (t ∷ ts) front (x ∷ xs) b a parted =
     ((front ++ x ∷ [], pushed, apart_first (front ++ x ∷ []) xs next), apart_pass rows (before ++ t ∷ []) ts (front ++ x ∷ []) xs pushed a.1 next)
 
 -- The first row that meets one before it is refused.
-meet_refuses : (rows before texts : RowTexts) (front given : List Row) (k : ℕ) (e : LocatedFault) → AreSpelled before front → AreSpelled texts given
+meet_refuses : (rows before texts : RowTexts) (front given : List Row) (k : ℕ) (e : LocatedFault ModelKind) → AreSpelled before front → AreSpelled texts given
     → k < length texts → AreApart (front ++ take k given) → (AreApart (front ++ take (suc k) given) → ⊥) → IsAt RowsMeet (row_path (get_or texts k ([], []))) e
     → Refuses rows (apart_checks before texts) e
 meet_refuses rows before [] front given k e b a within parted meets at = absurd (omega (arith, within))
@@ -101,7 +102,8 @@ table_passes rows texts table is = passes_both rows (map row_check texts) (apart
     (apart_pass rows [] texts [] is.given tt is.spelled is.apart)
 
 -- The first row that is none is refused.
-pub bad_refuses : (rows texts : RowTexts) (index : ℕ) (e : LocatedFault) → IsFirstBad texts index → IsAt BadRow (row_path (get_or texts index ([], []))) e
+pub bad_refuses : (rows texts : RowTexts) (index : ℕ) (e : LocatedFault ModelKind) → IsFirstBad texts index
+    → IsAt BadRow (row_path (get_or texts index ([], []))) e
     → Refuses rows (row_checks texts) e
 bad_refuses rows texts index e bad at =
     let here = get_or texts index ([], []) in
@@ -114,7 +116,8 @@ bad_refuses rows texts index e bad at =
     (subst (Passes rows) (sym (flat_map_single row_check (take index texts))) front) one))
 
 -- The first row that meets another is refused, after all of these.
-pub meeting_refuses : (rows texts : RowTexts) (i j : ℕ) (e : LocatedFault) → IsLeastMeeting texts i j → IsAt RowsMeet (row_path (get_or texts j ([], []))) e
+pub meeting_refuses : (rows texts : RowTexts) (i j : ℕ) (e : LocatedFault ModelKind) → IsLeastMeeting texts i j
+    → IsAt RowsMeet (row_path (get_or texts j ([], []))) e
     → Refuses rows (row_checks texts) e
 meeting_refuses rows texts i j e meeting at =
     refuses_after rows (map row_check texts) (apart_checks [] texts) e (rows_pass rows texts meeting.given meeting.spelled)
@@ -126,6 +129,6 @@ pub meeting_within : (texts : RowTexts) (i j : ℕ) → IsLeastMeeting texts i j
 meeting_within texts i j meeting = omega (arith, same_length texts meeting.given meeting.spelled, meeting.least.within)
 
 -- After the check that the section is a table.
-pub types_refuses : (rows : RowTexts) (document : Members) (e : LocatedFault) → Passes rows (table_check (codes "types") document ∷ [])
+pub types_refuses : (rows : RowTexts) (document : Members) (e : LocatedFault ModelKind) → Passes rows (table_check (codes "types") document ∷ [])
     → Refuses rows (row_checks (row_texts document)) e → Refuses rows (types_checks document) e
 types_refuses rows document e table refused = refuses_after rows (table_check (codes "types") document ∷ []) (row_checks (row_texts document)) e table refused

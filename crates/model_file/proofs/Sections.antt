@@ -12,7 +12,8 @@ use Rattle.model_file.specs.Checks.{table_check}
 use Rattle.model_file.specs.Document.{section, section_members, members_of, is_table}
 use Rattle.model_file.specs.Refused.{Passes, Refuses, IsAt}
 use Rattle.model_file.specs.declared.model_error.ModelKind.TheVariants.{NotTable}
-use Rattle.model_file.specs.declared.located_fault.LocatedFault.{LocatedFault}
+use Rattle.toml_values.specs.declared.located_fault.LocatedFault.{LocatedFault}
+use Rattle.model_file.specs.declared.model_error.ModelKind.{ModelKind}
 use Rattle.model_file.proofs.Checking.{refuses_first}
 
 -- The name of an entry of the map is at the bytes.
@@ -53,7 +54,7 @@ pub members_table : (name : List ℕ) (document : Members) (d : Data) (ms : Memb
 members_table name document d ms is found = ap members_of (is ∙ table_from d ms found)
 
 -- A section that is another value.
-pub refuses_table : (rows : List (List ℕ × List ℕ)) (name : List ℕ) (document : Members) (d : Data) (e : LocatedFault) → section name document ≡ d
+pub refuses_table : (rows : List (List ℕ × List ℕ)) (name : List ℕ) (document : Members) (d : Data) (e : LocatedFault ModelKind) → section name document ≡ d
     → None ≡ as_table d → IsAt NotTable (name ∷ []) e → Refuses rows (table_check name document ∷ []) e
 refuses_table rows name document d e is none at = refuses_first rows (table_check name document) [] e (λ holds. none_from d none (ap is_table (sym is) ∙ holds))
     at

@@ -12,19 +12,20 @@ use Rattle.model_file.specs.Refused.{Passes, Refuses, IsAt}
 use Rattle.model_file.specs.declared.found.Found.{Found}
 use Rattle.model_file.specs.declared.found.Found.TheVariants as found
 use Rattle.model_file.specs.declared.model_error.ModelKind.TheVariants.{BadKey, BadValue, IllTyped}
-use Rattle.model_file.specs.declared.located_fault.LocatedFault.{LocatedFault}
-use Rattle.model_file.specs.declared.located_fault.LocatedFault.TheVariants.{Memory}
+use Rattle.toml_values.specs.declared.located_fault.LocatedFault.{LocatedFault}
+use Rattle.toml_values.specs.declared.located_fault.LocatedFault.TheVariants.{Memory}
+use Rattle.model_file.specs.declared.model_error.ModelKind.{ModelKind}
 use Rattle.model_file.proofs.Checking.{refuses_after, refuses_first, refuses_unless}
 use Rattle.model_file.proofs.KnownKeys.{same_taken}
 
 module _ (rows : RowTexts) (name : List ℕ) (entry : Path × Found) where
   -- Names that are no key are refused.
-  pub key_refuses : (e : LocatedFault) → is_key (name ∷ entry.0) ≡ false → IsAt BadKey (name ∷ entry.0) e → Refuses rows (value_checks name entry) e
+  pub key_refuses : (e : LocatedFault ModelKind) → is_key (name ∷ entry.0) ≡ false → IsAt BadKey (name ∷ entry.0) e → Refuses rows (value_checks name entry) e
   key_refuses e no_key at = refuses_first rows (test (is_key (name ∷ entry.0)) BadKey (name ∷ entry.0))
       (test (is_fit entry.1) BadValue (name ∷ entry.0) ∷ typed (name ∷ entry.0) entry.1 ∷ []) e (λ is. both_ways (is_key (name ∷ entry.0)) no_key is) at
 
   -- A value that is no scalar is refused.
-  pub other_refuses : (e : LocatedFault) → is_key (name ∷ entry.0) ≡ true → entry.1 ≡ found.Other → IsAt BadValue (name ∷ entry.0) e
+  pub other_refuses : (e : LocatedFault ModelKind) → is_key (name ∷ entry.0) ≡ true → entry.1 ≡ found.Other → IsAt BadValue (name ∷ entry.0) e
       → Refuses rows (value_checks name entry) e
   other_refuses e key is at =
       refuses_after rows (test (is_key (name ∷ entry.0)) BadKey (name ∷ entry.0) ∷ [])
@@ -48,7 +49,8 @@ module _ (rows : RowTexts) (name : List ℕ) (entry : Path × Found) where
     )
 
     -- A scalar that the types don't take is refused.
-    pub value_refuses : (e : LocatedFault) (k : Path) → k ≡ name ∷ entry.0 → (e ≢ Memory → IsTyped table k value → ⊥) → IsAt IllTyped (name ∷ entry.0) e
+    pub value_refuses : (e : LocatedFault ModelKind) (k : Path) → k ≡ name ∷ entry.0 → (e ≢ Memory → IsTyped table k value → ⊥)
+        → IsAt IllTyped (name ∷ entry.0) e
         → Refuses rows (value_checks name entry) e
     value_refuses e k same fails at =
         refuses_after rows (test (is_key (name ∷ entry.0)) BadKey (name ∷ entry.0) ∷ test (is_fit entry.1) BadValue (name ∷ entry.0) ∷ [])

@@ -12,9 +12,10 @@ ghost use Rattle.model_file.specs.Rows.{RowTexts};
 ghost use Rattle.model_file.specs.Refused.{Passes, Refuses};
 
 use crate::ModelKind;
-use crate::located_fault::{LocatedFault, refused};
+use crate::located_fault::refused;
 use std::alloc::Global;
 use toml::Table;
+use toml_values::LocatedFault;
 
 // The name is that of a section.
 fn is_section(name: &str) -> bool
@@ -27,7 +28,7 @@ fn is_section(name: &str) -> bool
 }
 
 /// Checks that each top-level name is that of a section.
-pub fn check_names(alloc: Global, document: &Table) -> Result<(), LocatedFault>
+pub fn check_names(alloc: Global, document: &Table) -> Result<(), LocatedFault<ModelKind>>
     ensures passes { (rows : RowTexts) → OnOk result (Passes rows (name_checks (table_view document.now))) }
     ensures refused { (rows : RowTexts)
         → IfErr result (Refuses rows (name_checks (table_view document.now))) }
@@ -45,7 +46,7 @@ pub fn section<'a>(
     alloc: Global,
     document: &'a Table,
     name: &str,
-) -> Result<Option<&'a Table>, LocatedFault>
+) -> Result<Option<&'a Table>, LocatedFault<ModelKind>>
     ensures passes { (rows : RowTexts)
         → OnOk result (Passes rows (table_check name.now (table_view document.now) ∷ [])) }
     ensures members { IfOk result

@@ -6,41 +6,16 @@ ghost use Rattle.model_file.specs.Refused.{IsAt};
 
 use crate::ModelKind;
 use key_names::Text;
-use std::alloc::{AllocError, AllocFailed, Global};
-
-/// A fault and where it is, or out of memory.
-#[derive(Debug, Drop)]
-pub enum LocatedFault {
-    /// The fault of this kind, at this path.
-    Fault(ModelKind, Text),
-    /// Out of memory.
-    Memory,
-}
-
-impl From<AllocError> for LocatedFault {
-    ghost use Rattle.std.specs.Prelude.{◌≡◌};
-    ghost use Rattle.model_file.specs.declared.located_fault.LocatedFault.TheVariants.{Memory};
-
-    ghost from_gives = { λ _ e. e ≡ Memory };
-
-    fn from(_: AllocError) -> Self {
-        LocatedFault::Memory
-    }
-}
-
-impl<T: Drop> From<AllocFailed<T>> for LocatedFault {
-    ghost use Rattle.std.specs.Prelude.{◌≡◌};
-    ghost use Rattle.model_file.specs.declared.located_fault.LocatedFault.TheVariants.{Memory};
-
-    ghost from_gives = { λ _ e. e ≡ Memory };
-
-    fn from(_: AllocFailed<T>) -> Self {
-        LocatedFault::Memory
-    }
-}
+use std::alloc::{AllocError, Global};
+use toml_values::LocatedFault;
 
 /// The refusal of this kind, at a path that begins with the name of a section.
-pub fn refused(alloc: Global, kind: ModelKind, section: &str, path: &[Text]) -> LocatedFault
+pub fn refused(
+    alloc: Global,
+    kind: ModelKind,
+    section: &str,
+    path: &[Text],
+) -> LocatedFault<ModelKind>
     ensures { IsAt kind (section.now ∷ path.now) result }
 {
     match printed(alloc, section, path) {

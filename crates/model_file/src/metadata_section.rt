@@ -9,7 +9,7 @@ ghost use Rattle.model_file.specs.Contents.{with_metadata, scalars};
 ghost use Rattle.settings_maps.specs.Maps.{with_value};
 ghost use Rattle.settings_maps.specs.TxName.{is_meta_name};
 ghost use Rattle.model_file.specs.declared.model_error.ModelKind.TheVariants.{BadMetadata};
-ghost use Rattle.model_file.specs.declared.located_fault.LocatedFault.TheVariants.{Memory};
+ghost use Rattle.toml_values.specs.declared.located_fault.LocatedFault.TheVariants.{Memory};
 ghost use Rattle.model_file.specs.Rows.{RowTexts};
 ghost use Rattle.model_file.specs.Refused.{Passes, Refuses, IsAt};
 
@@ -18,7 +18,7 @@ use crate::document::section;
 use crate::entry::Entry;
 use crate::found::Found;
 use crate::key_path::key_of;
-use crate::located_fault::{LocatedFault, refused};
+use crate::located_fault::refused;
 use crate::walk::entries_of;
 use json_trees::Scalar;
 use key_names::{Key, Text};
@@ -26,13 +26,14 @@ use settings_maps::is_meta_name;
 use settings_tree::Content;
 use std::alloc::Global;
 use toml::Table;
+use toml_values::LocatedFault;
 
 /// Puts the metadata of the document into the content.
 pub fn put_metadata(
     alloc: Global,
     document: &Table,
     content: &mut Content,
-) -> Result<(), LocatedFault>
+) -> Result<(), LocatedFault<ModelKind>>
     ensures passes { (rows : RowTexts)
         → OnOk result (Passes rows (metadata_checks (table_view document.now))) }
     ensures put { OnOk result
@@ -49,7 +50,11 @@ pub fn put_metadata(
     }
 }
 
-fn put_table(alloc: Global, table: &Table, content: &mut Content) -> Result<(), LocatedFault>
+fn put_table(
+    alloc: Global,
+    table: &Table,
+    content: &mut Content,
+) -> Result<(), LocatedFault<ModelKind>>
     ensures passes { (rows : RowTexts)
         → OnOk result (Passes rows (flat_map meta_checks (members_entries [] (table_view table.now)))) }
     ensures put { OnOk result
@@ -61,7 +66,11 @@ fn put_table(alloc: Global, table: &Table, content: &mut Content) -> Result<(), 
     put_entries(alloc, &entries, content)
 }
 
-fn put_entries(alloc: Global, entries: &[Entry], content: &mut Content) -> Result<(), LocatedFault>
+fn put_entries(
+    alloc: Global,
+    entries: &[Entry],
+    content: &mut Content,
+) -> Result<(), LocatedFault<ModelKind>>
     ensures passes { (rows : RowTexts) → OnOk result (Passes rows (flat_map meta_checks entries.now)) }
     ensures put { OnOk result
         (content.new ≡ record content.old { metadata = with_metadata (scalars entries.now) content.old.metadata }) }
@@ -73,7 +82,11 @@ fn put_entries(alloc: Global, entries: &[Entry], content: &mut Content) -> Resul
     Ok(())
 }
 
-fn put_entry(alloc: Global, entry: &Entry, content: &mut Content) -> Result<(), LocatedFault>
+fn put_entry(
+    alloc: Global,
+    entry: &Entry,
+    content: &mut Content,
+) -> Result<(), LocatedFault<ModelKind>>
     ensures passes { (rows : RowTexts) → OnOk result (Passes rows (meta_checks entry.now)) }
     ensures put { OnOk result
         (content.new ≡ record content.old { metadata = with_metadata (scalars (entry.now ∷ [])) content.old.metadata }) }
@@ -94,7 +107,7 @@ fn put_value(
     path: &[Text],
     value: &Scalar,
     content: &mut Content,
-) -> Result<(), LocatedFault>
+) -> Result<(), LocatedFault<ModelKind>>
     ensures named { OnOk result (IsTrue (is_meta_name (last_name path.now))) }
     ensures put { OnOk result
         (content.new ≡ record content.old { metadata = with_value content.old.metadata key (last_name path.now) value.now }) }
@@ -128,7 +141,7 @@ fn meta_name_of(path: &[Text]) -> Option<&Text>
 }
 
 // The key that the entry's path is, or that leads to its value.
-fn key_at(alloc: Global, entry: &Entry) -> Result<Key, LocatedFault>
+fn key_at(alloc: Global, entry: &Entry) -> Result<Key, LocatedFault<ModelKind>>
     ensures key { IfOk result (λ key. key ≡ meta_key entry.now) }
     ensures passes { (rows : RowTexts) → OnOk result (Passes rows (key_checks entry.now)) }
     ensures refused { (rows : RowTexts) → IfErr result (Refuses rows (key_checks entry.now)) }

@@ -12,7 +12,6 @@ ghost use Rattle.model_file.specs.declared.model_error.ModelKind.TheVariants.{Me
 ghost use Rattle.typed_settings.specs.Row.{IsTableOf, IsPrefixFree};
 
 use crate::document::check_names;
-use crate::located_fault::LocatedFault;
 use crate::metadata_section::put_metadata;
 use crate::os_section::os_of;
 use crate::types_section::types_of;
@@ -22,7 +21,7 @@ use key_names::Text;
 use settings_tree::{Content, Os};
 use std::alloc::Global;
 use toml::Table;
-use toml_values::table_of;
+use toml_values::{LocatedFault, table_of};
 use typed_settings::Types;
 
 /// What a model file says.
@@ -73,7 +72,7 @@ impl Model {
     }
 }
 
-fn model_of(alloc: Global, text: &[u8]) -> Result<Model, LocatedFault>
+fn model_of(alloc: Global, text: &[u8]) -> Result<Model, LocatedFault<ModelKind>>
     ensures ok { IfOk result (Spells text.now) }
     ensures fault { IfErr result (RefusesText text.now) }
     ensures free { IfOk result (λ model. IsPrefixFree model.types) }
@@ -86,7 +85,7 @@ fn model_of(alloc: Global, text: &[u8]) -> Result<Model, LocatedFault>
     sections_of(alloc, &document)
 }
 
-fn sections_of(alloc: Global, document: &Table) -> Result<Model, LocatedFault>
+fn sections_of(alloc: Global, document: &Table) -> Result<Model, LocatedFault<ModelKind>>
     ensures passes { OnOk result (Passes (row_texts (table_view document.now)) (checks (table_view document.now))) }
     ensures model { IfOk result (IsModelOf (table_view document.now)) }
     ensures free { IfOk result (λ model. IsPrefixFree model.types) }
@@ -100,7 +99,11 @@ fn sections_of(alloc: Global, document: &Table) -> Result<Model, LocatedFault>
     Ok(Model { types, os, content })
 }
 
-fn content_of(alloc: Global, document: &Table, types: &Types) -> Result<Content, LocatedFault>
+fn content_of(
+    alloc: Global,
+    document: &Table,
+    types: &Types,
+) -> Result<Content, LocatedFault<ModelKind>>
     requires { IsTableOf (row_texts (table_view document.now)) types.now }
     ensures passes { OnOk result (Passes (row_texts (table_view document.now)) (content_checks (table_view document.now))) }
     ensures content { IfOk result (λ content. content ≡ contents_of (table_view document.now)) }

@@ -14,14 +14,15 @@ ghost use Rattle.model_file.specs.declared.model_error.ModelKind.TheVariants.{Ba
 
 use crate::ModelKind;
 use crate::document::section;
-use crate::located_fault::{LocatedFault, refused};
+use crate::located_fault::refused;
 use key_names::{Text, are_bare};
 use settings_tree::{Os, OsName};
 use std::alloc::{AllocError, Global};
 use toml::{Table, Value};
+use toml_values::LocatedFault;
 
 /// The names of the operating system, with their texts.
-pub fn os_of(alloc: Global, document: &Table) -> Result<Os, LocatedFault>
+pub fn os_of(alloc: Global, document: &Table) -> Result<Os, LocatedFault<ModelKind>>
     ensures passes { (rows : RowTexts) → OnOk result (Passes rows (os_checks (table_view document.now))) }
     ensures names { IfOk result
         (λ os. map (λ n. (n.name, n.text)) os ≡ os_names (table_view document.now)) }
@@ -41,7 +42,7 @@ fn is_os_name(name: &str) -> bool
 }
 
 // The entries of the section. They rise by name, as a table's entries do.
-fn names_of(alloc: Global, table: &Table) -> Result<Os, LocatedFault>
+fn names_of(alloc: Global, table: &Table) -> Result<Os, LocatedFault<ModelKind>>
     ensures passes { (rows : RowTexts)
         → OnOk result (Passes rows (map os_check (named (table_view table.now)))) }
     ensures names { IfOk result
@@ -56,7 +57,7 @@ fn names_of(alloc: Global, table: &Table) -> Result<Os, LocatedFault>
     Ok(Os::of(names))
 }
 
-fn name_of(alloc: Global, name: &str, value: &Value) -> Result<OsName, LocatedFault>
+fn name_of(alloc: Global, name: &str, value: &Value) -> Result<OsName, LocatedFault<ModelKind>>
     ensures passes { (rows : RowTexts)
         → OnOk result (Passes rows (os_check (name.now, view value.now) ∷ [])) }
     ensures name { IfOk result (λ os. (os.name ≡ name.now) × (Some os.text ≡ text_of (view value.now))) }
@@ -83,7 +84,7 @@ fn os_text<'a>(name: &str, value: &'a Value) -> Option<&'a str>
     }
 }
 
-fn bad_os(alloc: Global, name: &str) -> LocatedFault
+fn bad_os(alloc: Global, name: &str) -> LocatedFault<ModelKind>
     ensures { IsAt BadOs (codes "os" ∷ name.now ∷ []) result }
 {
     match String::from_str(alloc, name) {

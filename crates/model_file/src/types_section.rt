@@ -10,15 +10,15 @@ ghost use Rattle.model_file.specs.Refused.{Passes, Refuses, IsAt};
 
 use crate::ModelKind;
 use crate::document::section;
-use crate::located_fault::{LocatedFault, refused};
+use crate::located_fault::refused;
 use key_names::Text;
 use std::alloc::{AllocError, Global};
 use toml::{Table, Value};
-use toml_values::text_of;
+use toml_values::{LocatedFault, text_of};
 use typed_settings::{RowsError, Types};
 
 /// The table of the rows.
-pub fn types_of(alloc: Global, document: &Table) -> Result<Types, LocatedFault>
+pub fn types_of(alloc: Global, document: &Table) -> Result<Types, LocatedFault<ModelKind>>
     ensures passes { (rows : RowTexts) → OnOk result (Passes rows (types_checks (table_view document.now))) }
     ensures table { IfOk result (IsTableOf (row_texts (table_view document.now))) }
     ensures refused { (rows : RowTexts)
@@ -39,7 +39,12 @@ pub fn types_of(alloc: Global, document: &Table) -> Result<Types, LocatedFault>
 }
 
 // The refusal of the row at this index.
-fn at_row(alloc: Global, kind: ModelKind, texts: &[(Text, Text)], index: usize) -> LocatedFault
+fn at_row(
+    alloc: Global,
+    kind: ModelKind,
+    texts: &[(Text, Text)],
+    index: usize,
+) -> LocatedFault<ModelKind>
     requires { index < length texts.now }
     ensures { IsAt kind (row_path (slice_index_or texts.now index ([], []))) result }
 {
@@ -50,7 +55,7 @@ fn at_row(alloc: Global, kind: ModelKind, texts: &[(Text, Text)], index: usize) 
 }
 
 // The texts of the rows.
-fn texts_of(alloc: Global, document: &Table) -> Result<Vec<(Text, Text)>, LocatedFault>
+fn texts_of(alloc: Global, document: &Table) -> Result<Vec<(Text, Text)>, LocatedFault<ModelKind>>
     ensures passes { (rows : RowTexts)
         → OnOk result (Passes rows (table_check (codes "types") (table_view document.now) ∷ [])) }
     ensures texts { IfOk result (λ texts. texts.items ≡ row_texts (table_view document.now)) }

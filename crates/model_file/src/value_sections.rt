@@ -9,20 +9,21 @@ ghost use Rattle.model_file.specs.Rows.{RowTexts};
 ghost use Rattle.model_file.specs.Model.{AreTyped};
 ghost use Rattle.model_file.specs.Refused.{Passes, Refuses, IsAt};
 ghost use Rattle.model_file.specs.declared.model_error.ModelKind.TheVariants.{IllTyped};
-ghost use Rattle.model_file.specs.declared.located_fault.LocatedFault.TheVariants.{Memory};
+ghost use Rattle.toml_values.specs.declared.located_fault.LocatedFault.TheVariants.{Memory};
 
 use crate::ModelKind;
 use crate::document::section;
 use crate::entry::Entry;
 use crate::found::Found;
 use crate::key_path::key_of;
-use crate::located_fault::{LocatedFault, refused};
+use crate::located_fault::refused;
 use crate::walk::entries_of;
 use json_trees::Scalar;
 use key_names::{Key, Text};
 use settings_tree::Content;
 use std::alloc::Global;
 use toml::Table;
+use toml_values::LocatedFault;
 use typed_settings::{TypeError, Types};
 
 /// Puts the values of the section of this name into the content, whose values the types take.
@@ -32,7 +33,7 @@ pub fn put_section(
     name: &str,
     types: &Types,
     content: &mut Content,
-) -> Result<(), LocatedFault>
+) -> Result<(), LocatedFault<ModelKind>>
     requires free { IsPrefixFree types.now }
     requires typed { AreTyped types.now content.old.values }
     requires strong { content.old.weak ≡ [] }
@@ -56,7 +57,7 @@ fn put_table(
     table: &Table,
     types: &Types,
     content: &mut Content,
-) -> Result<(), LocatedFault>
+) -> Result<(), LocatedFault<ModelKind>>
     requires free { IsPrefixFree types.now }
     requires typed { AreTyped types.now content.old.values }
     requires strong { content.old.weak ≡ [] }
@@ -78,7 +79,7 @@ fn put_entries(
     entries: &[Entry],
     types: &Types,
     content: &mut Content,
-) -> Result<(), LocatedFault>
+) -> Result<(), LocatedFault<ModelKind>>
     requires free { IsPrefixFree types.now }
     requires typed { AreTyped types.now content.old.values }
     requires strong { content.old.weak ≡ [] }
@@ -103,7 +104,7 @@ fn put_entry(
     entry: &Entry,
     types: &Types,
     content: &mut Content,
-) -> Result<(), LocatedFault>
+) -> Result<(), LocatedFault<ModelKind>>
     requires free { IsPrefixFree types.now }
     requires typed { AreTyped types.now content.old.values }
     requires strong { content.old.weak ≡ [] }
@@ -137,7 +138,7 @@ fn check(
     key: &Key,
     value: &Scalar,
     types: &Types,
-) -> Result<(), LocatedFault>
+) -> Result<(), LocatedFault<ModelKind>>
     ensures taken { OnOk result (IsTyped types.now key.now value.now) }
     ensures refused { IfErr result (λ e. IsAt IllTyped (name.now ∷ path.now) e) }
     ensures cause { IfErr result (λ e. e ≢ Memory → IsTyped types.now key.now value.now → ⊥) }

@@ -1,6 +1,6 @@
 -- Entries that name no place twice, and lists of them.
-use Rattle.std.proofs.Common.{◌≡◌, ◌++◌, List, [], ◌∷◌, Some, None, Bool, true, false, cond}
-use Rattle.std.proofs.Common.{refl, sym, ◌∙◌, ap}
+use Rattle.std.proofs.Common.{◌≡◌, ◌++◌, List, [], ◌∷◌, Some, true, false}
+use Rattle.std.proofs.Common.{refl}
 use Rattle.std.specs.List.{flat_map}
 use Rattle.std.specs.declared.cmp.Ordering.{Ordering}
 use Rattle.std.specs.Ordering.{eq_by_cmp, is_lt}
@@ -10,7 +10,8 @@ use Rattle.std.proofs.lemmas.Bool.{and_parts, and_from}
 use Rattle.pending_tx.proofs.Named.{unnamed-append, are_apart, apart-append1, once-append}
 use Rattle.settings_tree.specs.Change.{place, is_unnamed, is_once}
 use Rattle.settings_tree.specs.declared.entry.Entry.{Entry}
-use Rattle.opening_step.proofs.InOrder.{less, behind}
+use Rattle.opening_step.proofs.InOrder.{less}
+use Rattle.opening_step.proofs.Parts.{flat_all, known_all}
 
 -- ---- apart
 
@@ -27,13 +28,11 @@ apart-nil (e ∷ es) = apart-nil es
 
 pub apart-flat1 : {X : Type 0} (f : X → List Entry) (gs : List Entry) (xs : List X) → ((x : X) → are_apart (f x) gs ≡ true)
     → are_apart (flat_map f xs) gs ≡ true
-apart-flat1 f gs [] each = refl
-apart-flat1 f gs (x ∷ xs) each = apart-append1 (f x) (flat_map f xs) gs (each x) (apart-flat1 f gs xs each)
+apart-flat1 f gs xs each = flat_all (λ (es : List Entry). are_apart es gs ≡ true) refl (λ es fs. apart-append1 es fs gs) f xs each
 
 pub apart-flat2 : {X : Type 0} (es : List Entry) (f : X → List Entry) (xs : List X) → ((x : X) → are_apart es (f x) ≡ true)
     → are_apart es (flat_map f xs) ≡ true
-apart-flat2 es f [] each = apart-nil es
-apart-flat2 es f (x ∷ xs) each = apart-append2 es (f x) (flat_map f xs) (each x) (apart-flat2 es f xs each)
+apart-flat2 es f xs each = flat_all (λ (fs : List Entry). are_apart es fs ≡ true) (apart-nil es) (apart-append2 es) f xs each
 
 -- ---- lists that are made of a map, key by key
 
@@ -54,12 +53,5 @@ module _ {K X : Type 0} (R : K → K → Ordering) (own : (k : K) → eq_by_cmp 
     (f : K × X → List Entry) (gs : List Entry) (P : K → X → Type 0)
     (each : (e : K × X) → P e.0 e.1 → are_apart (f e) gs ≡ true) where
   pub known_apart : (es : List (K × X)) → is_sorted R es ≡ true → ((k : K) (x : X) → find R k es ≡ Some x → P k x) → are_apart (flat_map f es) gs ≡ true
-  known_apart [] rises there = refl
-  known_apart (e ∷ es) rises there = let both = and_parts (below_all R e.0 es) (is_sorted R es) rises in
-      apart-append1 (f e) (flat_map f es) gs
-      (each e (there e.0 e.1 (ap (λ (b : Bool). cond b (Some e.1) (find R e.0 es)) (own e.0))))
-      (known_apart es both.1 (λ k x is. there k x (by k x is (behind R e.0 es both.0) (eq_by_cmp R k e.0) refl)))
-    where
-      by : (k : K) (x : X) → find R k es ≡ Some x → find R e.0 es ≡ None → (b : Bool) → eq_by_cmp R k e.0 ≡ b → cond b (Some e.1) (find R k es) ≡ Some x
-      by k x is none false other = is
-      by k x is none true same = absurd (cc (sym is ∙ ap (λ (q : K). find R q es) (alike k e.0 same) ∙ none))
+  known_apart es rises there =
+      known_all R own alike f (λ (ls : List Entry). are_apart ls gs ≡ true) refl (λ ls rs. apart-append1 ls rs gs) P each es rises there

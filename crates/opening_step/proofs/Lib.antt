@@ -2,6 +2,7 @@ pub mod Begins
 pub mod WalkedLists
 pub mod AddedKeys
 pub mod InOrder
+pub mod Parts
 pub mod Apart
 pub mod OfStore
 pub mod ValuesOpened

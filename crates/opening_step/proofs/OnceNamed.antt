@@ -1,5 +1,5 @@
 -- The entries of the opening step name no place twice, and bare names alone.
-use Rattle.std.proofs.Common.{◌≡◌, ◌&&◌, ◌||◌, ◌++◌, ℕ, List, [], ◌∷◌, Option, Some, None, IsSome, is_some, Bool, true, false, cond, not}
+use Rattle.std.proofs.Common.{◌≡◌, ◌&&◌, ◌++◌, ℕ, List, [], ◌∷◌, Option, Some, None, IsSome, is_some, Bool, true, false, cond, not}
 use Rattle.std.proofs.Common.{append_assoc, refl, sym, ◌∙◌, ap, subst}
 use Rattle.std.specs.List.{flat_map, list_all}
 use Rattle.std.specs.Prelude.{unwrap_or}
@@ -20,11 +20,12 @@ use Rattle.settings_tree.specs.declared.entry.Owed.{Owed}
 use Rattle.settings_tree.specs.declared.entry.Owed.TheVariants as owed
 use Rattle.settings_tree.specs.declared.held.Held.{Held}
 use Rattle.opening_step.specs.Entries.{is_wanted, is_absent, differs, value_entries, gone_entries}
-use Rattle.opening_step.specs.Entries.{name_entries, key_entries, gone_name_entries, gone_key_entries, added_key}
+use Rattle.opening_step.specs.Entries.{name_entries, key_entries, gone_name_entries, gone_key_entries}
 use Rattle.opening_step.specs.Entries.{owed_entries, image_entries, weak_entries, opening_entries}
 use Rattle.settings_machine.specs.Opening.{is_of_store}
 use Rattle.settings_tree.proofs.Rising.{entries_rise}
 use Rattle.settings_machine.proofs.Elements.{key_tied, key_itself, name_tied, name_itself}
+use Rattle.opening_step.proofs.Parts.{parts_of}
 use Rattle.opening_step.proofs.Apart.{apart-append2, apart-flat1, apart-flat2, flat_once, known_apart}
 
 abbrev Key : Type 0
@@ -241,7 +242,8 @@ module _ (all : Bool) (added : List Key) (o : Owed) (before text : List ℕ) (we
   un_weak p other [] = refl
   un_weak p other (k ∷ ks) = ap (λ (c : Bool). not c && true) other
 
-  un_singles : (p : Place) → IsNotSingle p → is_unnamed p singles ≡ true
+  -- None of them names another place.
+  pub un_singles : (p : Place) → IsNotSingle p → is_unnamed p singles ≡ true
   un_singles p other = unnamed-append p (owed_entries all added o) (image_entries before text ++ weak_entries weak added) (un_owed p other.owed o)
       (unnamed-append p (image_entries before text) (weak_entries weak added) (un_image p other.image) (un_weak p other.weak added))
 
@@ -304,23 +306,7 @@ module _ (all : Bool) (added : List Key) (o : Owed) (before text : List ℕ) (we
 -- ---- all together
 
 module _ (boot : Bool) (image : Contents) (text : List ℕ) (h : Held) where
-  abbrev added : List Key
-  added = flat_map (λ e. added_key h.live.values e.0) (entries image.values)
-
-  abbrev all : Bool
-  all = boot || not (bytes_eq h.image text)
-
-  abbrev vs : List Entry
-  vs = flat_map (value_entries h.live.values) (entries image.values)
-
-  abbrev gs : List Entry
-  gs = flat_map (λ e. gone_entries image.values e.0) (entries h.live.values)
-
-  abbrev ms : List Entry
-  ms = flat_map (key_entries h.live.metadata) (entries image.metadata)
-
-  abbrev ds : List Entry
-  ds = flat_map (gone_key_entries image.metadata) (entries h.live.metadata)
+  open (parts_of boot image text h) use {added, all, vs, gs, ms, ds}
 
   abbrev ss : List Entry
   ss = singles all added h.owed h.image text h.live.weak

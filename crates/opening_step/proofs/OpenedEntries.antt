@@ -1,10 +1,10 @@
 -- What the entries of the opening step make of what is held.
-use Rattle.std.proofs.Common.{◌≡◌, ◌||◌, ◌++◌, ℕ, List, [], ◌∷◌, Bool, true, false, cond, not, append_assoc, refl, sym, ◌∙◌, ap, subst}
+use Rattle.std.proofs.Common.{◌≡◌, ◌++◌, ℕ, List, [], ◌∷◌, Bool, true, false, cond, append_assoc, refl, sym, ◌∙◌, ap, subst}
 use Rattle.std.specs.Str.{bytes_eq}
 use Rattle.std.specs.Ordering.{eq_by_cmp}
 use Rattle.std.proofs.lemmas.Slice.Eq.{bytes_eq-Decides}
 use Rattle.std.proofs.lemmas.Map.Text.{is_eq-slice_cmp}
-use Rattle.std.specs.List.{flat_map, list_all}
+use Rattle.std.specs.List.{list_all}
 use Rattle.std.specs.FinMap.{entries}
 use Rattle.key_names.specs.Order.{bytes_cmp}
 use Rattle.settings_maps.specs.KeyList.{IsRising}
@@ -19,13 +19,13 @@ use Rattle.settings_tree.specs.declared.held.Held.{Held}
 use Rattle.settings_tree.proofs.LaidAt.{laid-append}
 use Rattle.settings_maps.specs.KeyList.{has_key, joined}
 use Rattle.settings_maps.proofs.KeySets.{joined_same}
-use Rattle.opening_step.specs.Entries.{value_entries, gone_entries, key_entries, gone_key_entries}
-use Rattle.opening_step.specs.Entries.{added_key, OwesRising, owed_entries, image_entries, weak_entries}
+use Rattle.opening_step.specs.Entries.{OwesRising, owed_entries, image_entries, weak_entries}
 use Rattle.opening_step.specs.Entries.{opening_entries}
 use Rattle.pending_tx.specs.Transactions.{owing}
 use Rattle.settings_machine.specs.Opening.{opened_values, added_keys}
 use Rattle.opening_step.specs.Step.{MakesStep}
 use Rattle.opening_step.proofs.AddedKeys.{added_flat, added_rise}
+use Rattle.opening_step.proofs.Parts.{parts_of}
 use Rattle.opening_step.proofs.ValuesOpened.{values_laid}
 use Rattle.opening_step.proofs.MetadataOpened.{metadata_laid}
 
@@ -70,32 +70,7 @@ weak_laid h weak [] is rises = ap (λ (w : Keys). record h { live = record h.liv
 weak_laid h weak (k ∷ ks) is rises = refl
 
 module _ (boot : Bool) (image : Contents) (text : List ℕ) (h : Held) where
-  abbrev added : Keys
-  added = flat_map (λ e. added_key h.live.values e.0) (entries image.values)
-
-  abbrev all : Bool
-  all = boot || not (bytes_eq h.image text)
-
-  abbrev vs : List Entry
-  vs = flat_map (value_entries h.live.values) (entries image.values)
-
-  abbrev gs : List Entry
-  gs = flat_map (λ e. gone_entries image.values e.0) (entries h.live.values)
-
-  abbrev ms : List Entry
-  ms = flat_map (key_entries h.live.metadata) (entries image.metadata)
-
-  abbrev ds : List Entry
-  ds = flat_map (gone_key_entries image.metadata) (entries h.live.metadata)
-
-  abbrev os : List Entry
-  os = owed_entries all added h.owed
-
-  abbrev ts : List Entry
-  ts = image_entries h.image text
-
-  abbrev ws : List Entry
-  ws = weak_entries h.live.weak added
+  open (parts_of boot image text h) use {added, all, vs, gs, ms, ds, os, ts, ws}
 
   abbrev parts : List Entry
   parts = ((vs ++ gs) ++ ms) ++ ds

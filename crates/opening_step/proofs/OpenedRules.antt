@@ -1,15 +1,14 @@
 -- The opening step keeps the prefix rule, names weak keys that may be weak, and names metadata by bare names.
-use Rattle.std.proofs.Common.{◌≡◌, ◌&&◌, ◌||◌, ◌++◌, ℕ, List, [], ◌∷◌, Option, Some, None, IsSome, is_some, Bool, true, false}
+use Rattle.std.proofs.Common.{◌≡◌, ◌&&◌, ◌++◌, ℕ, List, [], ◌∷◌, Option, Some, None, IsSome, is_some, Bool, true, false}
 use Rattle.std.proofs.Common.{cond, not, refl, sym, ◌∙◌, ap, subst}
 use Rattle.std.specs.Prelude.{unwrap_or, All, IsTrue}
 use Rattle.std.specs.List.{flat_map, list_all}
 use Rattle.std.specs.Str.{bytes_eq}
 use Rattle.std.specs.declared.cmp.Ordering.{Ordering}
 use Rattle.std.specs.declared.cmp.Ordering.TheVariants.{Less, Equal, Greater}
-use Rattle.std.specs.Ordering.{eq_by_cmp, match_ordering}
-use Rattle.std.specs.FinMap.{FinMap, find, get, empty, entries, get-entries, is_sorted}
-use Rattle.std.specs.FinMap.Entries.{below_all}
-use Rattle.std.proofs.lemmas.Bool.{and_parts, and_from}
+use Rattle.std.specs.Ordering.{match_ordering}
+use Rattle.std.specs.FinMap.{FinMap, find, get, empty, entries, get-entries}
+use Rattle.std.proofs.lemmas.Bool.{and_from}
 use Rattle.std.proofs.lemmas.List.Elements.{All-nil, All-cons, All-head, All-tail, All-append}
 use Rattle.std.proofs.lemmas.List.Folds.{list_all-append}
 use Rattle.key_names.specs.Order.{bytes_cmp, key_cmp}
@@ -42,28 +41,13 @@ use Rattle.opening_step.proofs.AddedKeys.{added_flat}
 use Rattle.opening_step.proofs.OfStore.{setting_of_store, store_not_image}
 use Rattle.settings_tree.proofs.Rising.{entries_rise}
 use Rattle.settings_machine.proofs.Elements.{key_tied, key_itself, name_tied, name_itself}
-use Rattle.opening_step.proofs.InOrder.{behind}
+use Rattle.opening_step.proofs.Parts.{flat_all, known_all, parts_of, all_parts}
 
 abbrev Key : Type 0
 Key = List (List ℕ)
 
 abbrev Names : Type 0
 Names = FinMap bytes_cmp Scalar
-
--- ---- lists that are made of a map, entry by entry, where something is known of each
-
-module _ {K X A : Type 0} (R : K → K → Ordering) (own : (k : K) → eq_by_cmp R k k ≡ true) (alike : (a b : K) → eq_by_cmp R a b ≡ true → a ≡ b)
-    (f : K × X → List A) (Q : List A → Type 0) (none : Q [])
-    (more : (ls rs : List A) → Q ls → Q rs → Q (ls ++ rs)) (P : K → X → Type 0) (each : (e : K × X) → P e.0 e.1 → Q (f e)) where
-  known_all : (es : List (K × X)) → is_sorted R es ≡ true → ((k : K) (x : X) → find R k es ≡ Some x → P k x) → Q (flat_map f es)
-  known_all [] rises there = none
-  known_all (e ∷ es) rises there = let both = and_parts (below_all R e.0 es) (is_sorted R es) rises in
-      more (f e) (flat_map f es) (each e (there e.0 e.1 (ap (λ (b : Bool). cond b (Some e.1) (find R e.0 es)) (own e.0))))
-      (known_all es both.1 (λ k x is. there k x (by k x is (behind R e.0 es both.0) (eq_by_cmp R k e.0) refl)))
-    where
-      by : (k : K) (x : X) → find R k es ≡ Some x → find R e.0 es ≡ None → (b : Bool) → eq_by_cmp R k e.0 ≡ b → cond b (Some e.1) (find R k es) ≡ Some x
-      by k x is none false other = is
-      by k x is none true same = absurd (cc (sym is ∙ ap (λ (q : K). find R q es) (alike k e.0 same) ∙ none))
 
 -- ---- names
 
@@ -72,10 +56,6 @@ Bare es = list_all has_bare_name es ≡ true
 
 bare-append : (es fs : List Entry) → Bare es → Bare fs → Bare (es ++ fs)
 bare-append es fs one two = list_all-append has_bare_name es fs ∙ and_from _ _ one two
-
-bare-flat : {X : Type 0} (f : X → List Entry) (xs : List X) → ((x : X) → Bare (f x)) → Bare (flat_map f xs)
-bare-flat f [] each = refl
-bare-flat f (x ∷ xs) each = bare-append (f x) (flat_map f xs) (each x) (bare-flat f xs each)
 
 bare_value : (b : Bool) (k : Key) (v : Scalar) → Bare (cond b (LiveSet k v ∷ []) [])
 bare_value true k v = refl
@@ -116,32 +96,7 @@ inner_value : (metadata : FinMap key_cmp Names) (key : Key) (names : Names) (n :
 inner_value metadata key names n v is at = subst IsSome (sym (ap (λ (o : Option Names). get (unwrap_or o empty) n) is)) (ap is_some (get-entries names n ∙ at))
 
 module _ (boot : Bool) (image : Contents) (text : List ℕ) (h : Held) where
-  abbrev added : List Key
-  added = flat_map (λ e. added_key h.live.values e.0) (entries image.values)
-
-  abbrev all : Bool
-  all = boot || not (bytes_eq h.image text)
-
-  abbrev vs : List Entry
-  vs = flat_map (value_entries h.live.values) (entries image.values)
-
-  abbrev gs : List Entry
-  gs = flat_map (λ e. gone_entries image.values e.0) (entries h.live.values)
-
-  abbrev ms : List Entry
-  ms = flat_map (key_entries h.live.metadata) (entries image.metadata)
-
-  abbrev ds : List Entry
-  ds = flat_map (gone_key_entries image.metadata) (entries h.live.metadata)
-
-  abbrev os : List Entry
-  os = owed_entries all added h.owed
-
-  abbrev ts : List Entry
-  ts = image_entries h.image text
-
-  abbrev ws : List Entry
-  ws = weak_entries h.live.weak added
+  open (parts_of boot image text h) use {added, all, ms, ds, os, ts, ws}
 
   ms_bare : IsContent image → Bare ms
   ms_bare is_image = known_all key_cmp key_itself key_tied (key_entries h.live.metadata) Bare refl bare-append (λ k x. get image.metadata k ≡ Some x)
@@ -162,11 +117,12 @@ module _ (boot : Bool) (image : Contents) (text : List ℕ) (h : Held) where
   -- Each name is bare.
   pub opening_names : IsContent image → IsContent h.live → list_all has_bare_name (opening_entries boot image text h) ≡ true
   opening_names is_image is_live =
-      bare-append (((vs ++ gs) ++ ms) ++ ds) (os ++ (ts ++ ws))
-      (bare-append ((vs ++ gs) ++ ms) ds (bare-append (vs ++ gs) ms (bare-append vs gs
-      (bare-flat (value_entries h.live.values) (entries image.values) (λ e. bare_value (is_wanted (is_of_store e.0) e.1 (get h.live.values e.0)) e.0 e.1))
-      (bare-flat (λ e. gone_entries image.values e.0) (entries h.live.values) (λ e. bare_gone (not (is_of_store e.0) && is_absent (get image.values e.0)) e.0)))
-      (ms_bare is_image)) (ds_bare is_live))
+      all_parts Bare bare-append boot image text h
+      (flat_all Bare refl bare-append (value_entries h.live.values) (entries image.values)
+      (λ e. bare_value (is_wanted (is_of_store e.0) e.1 (get h.live.values e.0)) e.0 e.1))
+      (flat_all Bare refl bare-append (λ e. gone_entries image.values e.0) (entries h.live.values)
+      (λ e. bare_gone (not (is_of_store e.0) && is_absent (get image.values e.0)) e.0))
+      (ms_bare is_image) (ds_bare is_live)
       (bare-append os (ts ++ ws) (bare_owed all added h.owed) (bare-append ts ws (bare_image h.image text) (bare_weak h.live.weak added)))
 
 -- ---- weak keys

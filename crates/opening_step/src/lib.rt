@@ -2,7 +2,9 @@
 #![tactic(auto)]
 
 mod entries;
+mod rule;
 mod sections;
 
 pub use entries::{added_keys, opening_change};
+pub use rule::keep_rule;
 pub use sections::{is_of_image, is_of_store};

@@ -2,9 +2,11 @@
 use Rattle.std.proofs.Common.{◌≡◌, ◌≢◌, List, [], ◌∷◌, ◌++◌, append_assoc, refl, sym, ap, ◌∙◌, subst}
 use Rattle.json_trees.proofs.Parting.{AllByRecursion-append}
 use Rattle.release_file.specs.Checks.{Check, Holds, fault_of, name_of, IsFirstFailing}
-use Rattle.release_file.specs.Refused.{Passes, Refuses, IsAt}
-use Rattle.release_file.specs.declared.located_fault.LocatedFault.{LocatedFault}
-use Rattle.release_file.specs.declared.located_fault.LocatedFault.TheVariants.{Fault, Memory}
+use Rattle.release_file.specs.Refused.{Passes, Refuses}
+use Rattle.toml_values.specs.Refused.{IsAt}
+use Rattle.toml_values.specs.declared.located_fault.LocatedFault.{LocatedFault}
+use Rattle.toml_values.specs.declared.located_fault.LocatedFault.TheVariants.{Fault, Memory}
+use Rattle.release_file.specs.declared.release_error.ReleaseKind.{ReleaseKind}
 
 -- All of two lists hold.
 pub passes_both : (xs ys : List Check) → Passes xs → Passes ys → Passes (xs ++ ys)
@@ -36,22 +38,23 @@ failing_after xs ys c front first = record {
 }
 
 -- A refusal of some checks is one with others after them.
-pub refuses_before : (xs ys : List Check) (e : LocatedFault) → Refuses xs e → Refuses (xs ++ ys) e
+pub refuses_before : (xs ys : List Check) (e : LocatedFault ReleaseKind) → Refuses xs e → Refuses (xs ++ ys) e
 refuses_before xs ys Memory refused = tt
 refuses_before xs ys (Fault kind at) refused = (refused.0, failing_before xs ys refused.0 refused.1, refused.2, refused.3)
 
 -- And with others before them that hold.
-pub refuses_after : (xs ys : List Check) (e : LocatedFault) → Passes xs → Refuses ys e → Refuses (xs ++ ys) e
+pub refuses_after : (xs ys : List Check) (e : LocatedFault ReleaseKind) → Passes xs → Refuses ys e → Refuses (xs ++ ys) e
 refuses_after xs ys Memory front refused = tt
 refuses_after xs ys (Fault kind at) front refused = (refused.0, failing_after xs ys refused.0 front refused.1, refused.2, refused.3)
 
 -- The first check fails, and the refusal is of its kind and at its path.
-pub refuses_first : (c : Check) (rest : List Check) (e : LocatedFault) → (Holds c → ⊥) → IsAt (fault_of c) (name_of c) e → Refuses (c ∷ rest) e
+pub refuses_first : (c : Check) (rest : List Check) (e : LocatedFault ReleaseKind) → (Holds c → ⊥) → IsAt (fault_of c) (name_of c) e → Refuses (c ∷ rest) e
 refuses_first c rest Memory fails at = tt
 refuses_first c rest (Fault kind text) fails at = (c, record { before = []; after = rest; split = refl; hold = tt; fails = fails }, at.0, at.1)
 
 -- Unless it ran out of memory, the first check fails, and the refusal is of its kind and at its path.
-pub refuses_unless : (c : Check) (rest : List Check) (e : LocatedFault) → (e ≢ Memory → Holds c → ⊥) → IsAt (fault_of c) (name_of c) e → Refuses (c ∷ rest) e
+pub refuses_unless : (c : Check) (rest : List Check) (e : LocatedFault ReleaseKind) → (e ≢ Memory → Holds c → ⊥) → IsAt (fault_of c) (name_of c) e
+    → Refuses (c ∷ rest) e
 refuses_unless c rest Memory fails at = tt
 refuses_unless c rest (Fault kind text) fails at = refuses_first c rest (Fault kind text) (fails (λ same. absurd (cc))) at
 

@@ -15,8 +15,10 @@ use Rattle.toml_values.specs.Document.{named}
 use Rattle.release_file.specs.Checks.{is_defined, known_check}
 use Rattle.release_file.specs.Fields.{texts_of}
 use Rattle.release_file.specs.Reading.{AreNamed, AreTransitions}
-use Rattle.release_file.specs.Refused.{Passes, Refuses, IsAt}
-use Rattle.release_file.specs.declared.located_fault.LocatedFault.{LocatedFault}
+use Rattle.release_file.specs.Refused.{Passes, Refuses}
+use Rattle.toml_values.specs.Refused.{IsAt}
+use Rattle.toml_values.specs.declared.located_fault.LocatedFault.{LocatedFault}
+use Rattle.release_file.specs.declared.release_error.ReleaseKind.{ReleaseKind}
 use Rattle.release_file.specs.declared.release_error.ReleaseKind.TheVariants.{UnknownMigration}
 use Rattle.release_file.proofs.Checking.{refuses_first}
 use Rattle.release_file.specs.Release.{leads_on, are_named_rising, is_known, names_known}
@@ -76,7 +78,7 @@ names_are_known ms ns (e ∷ es) (t ∷ ts) all are hold =
     (names_are_known ms ns es ts all are.1 hold.1)
 
 -- A name that is that of no migration is refused.
-pub known_refused : (ms : Members) (entry : List ℕ × Data) (names : List (List ℕ)) (e : LocatedFault) → Some names ≡ texts_of entry.1
+pub known_refused : (ms : Members) (entry : List ℕ × Data) (names : List (List ℕ)) (e : LocatedFault ReleaseKind) → Some names ≡ texts_of entry.1
     → list_all (is_defined ms) names ≡ false → IsAt UnknownMigration entry.0 e → Refuses (known_check ms entry ∷ []) e
 known_refused ms entry names e is none at =
     refuses_first (known_check ms entry) [] e (λ holds. false≢true (sym none ∙ ap (λ (o : Option (List (List ℕ))). list_all (is_defined ms) (unwrap_or o [])) is

@@ -8,8 +8,9 @@ use Rattle.key_names.specs.Order.{bytes_cmp}
 use Rattle.toml.specs.Data.{Data, as_table, Members, no_members, get_member}
 use Rattle.release_file.specs.Checks.{Check, test, sections, is_section, section_check, section_members}
 use Rattle.release_file.specs.Fields.{read_by}
-use Rattle.release_file.specs.Refused.{Passes, Refuses, IsAt}
-use Rattle.release_file.specs.declared.located_fault.LocatedFault.{LocatedFault}
+use Rattle.release_file.specs.Refused.{Passes, Refuses}
+use Rattle.toml_values.specs.Refused.{IsAt}
+use Rattle.toml_values.specs.declared.located_fault.LocatedFault.{LocatedFault}
 use Rattle.release_file.specs.declared.release_error.ReleaseKind.{ReleaseKind}
 use Rattle.release_file.specs.declared.release_error.ReleaseKind.TheVariants.{UnknownSection}
 use Rattle.toml_values.specs.Document.{named}
@@ -29,7 +30,8 @@ pub name_holds : (name bytes : List ℕ) → bytes ≡ name → true ≡ list_an
 name_holds name bytes same found = (ap (λ (n : List ℕ). list_any (eq_by_cmp bytes_cmp n) sections) (sym same) ∙ sym found, tt)
 
 -- And one that is not.
-pub name_refused : (name bytes printed : List ℕ) (e : LocatedFault) → bytes ≡ name → printed ≡ name → false ≡ list_any (eq_by_cmp bytes_cmp bytes) sections
+pub name_refused : (name bytes printed : List ℕ) (e : LocatedFault ReleaseKind) → bytes ≡ name → printed ≡ name
+    → false ≡ list_any (eq_by_cmp bytes_cmp bytes) sections
     → IsAt UnknownSection printed e → Refuses (name_check name ∷ []) e
 name_refused name bytes printed e same also none at =
     refuses_first (name_check name) [] e (both_ways _ (ap (λ (n : List ℕ). list_any (eq_by_cmp bytes_cmp n) sections) (sym same) ∙ sym none)) (rw (← also) at)
@@ -53,7 +55,7 @@ module _ (kind : ReleaseKind) (name : List ℕ) (document : Members) where
       ∙ ap (λ (o : Option Members). unwrap_or o no_members) found
 
   -- One that is another value.
-  pub other_refuses : (d : Data) (e : LocatedFault) → get_member name document ≡ Some d → as_table d ≡ None → IsAt kind name e
+  pub other_refuses : (d : Data) (e : LocatedFault ReleaseKind) → get_member name document ≡ Some d → as_table d ≡ None → IsAt kind name e
       → Refuses (section_check kind name document ∷ []) e
   other_refuses d e there none at = refuses_first (section_check kind name document) [] e
       (λ holds. false≢true (sym (ap is_section there ∙ ap is_some none) ∙ holds)) at
@@ -67,7 +69,7 @@ module _ (check : List ℕ × Data → Check) (kind : ReleaseKind) (name : List 
   entries_pass all = (table.0, subst (λ (m : Members). Passes (map check (named m))) (sym is) all)
 
   -- The section is a table, and the first of its entries that fails is refused.
-  pub entries_refuse : (e : LocatedFault) → Refuses (map check (named ms)) e
+  pub entries_refuse : (e : LocatedFault ReleaseKind) → Refuses (map check (named ms)) e
       → Refuses (section_check kind name document ∷ map check (named (section_members name document))) e
   entries_refuse e refused = refuses_after (section_check kind name document ∷ []) _ e table
       (subst (λ (m : Members). Refuses (map check (named m)) e) (sym is) refused)

@@ -13,11 +13,10 @@ ghost use Rattle.toml_values.specs.Document.{members_in};
 ghost use Rattle.std.specs.Option.{option_copied};
 
 use crate::field::field;
-use crate::located_fault::{LocatedFault, refused};
 use crate::release_error::ReleaseKind;
 use std::alloc::{AllocError, Global};
 use toml::{Table, Value};
-use toml_values::text_of;
+use toml_values::{LocatedFault, refused, text_of};
 use version_links::Version;
 
 // The name is that of a section.
@@ -28,7 +27,7 @@ fn is_section(name: &str) -> bool
 }
 
 /// Checks that each top-level name is that of a section.
-pub fn check_names(alloc: Global, document: &Table) -> Result<(), LocatedFault>
+pub fn check_names(alloc: Global, document: &Table) -> Result<(), LocatedFault<ReleaseKind>>
     ensures passes { OnOk result (Passes (name_checks (table_view document.now))) }
     ensures refused { IfErr result (Refuses (name_checks (table_view document.now))) }
 {
@@ -54,7 +53,7 @@ fn is_version(alloc: Global, value: &Value) -> Result<bool, AllocError>
 }
 
 /// Checks that the version, where there is one, is a text of three numbers.
-pub fn check_version(alloc: Global, document: &Table) -> Result<(), LocatedFault>
+pub fn check_version(alloc: Global, document: &Table) -> Result<(), LocatedFault<ReleaseKind>>
     ensures passes { OnOk result (Passes (version_check (table_view document.now) ∷ [])) }
     ensures refused { IfErr result (Refuses (version_check (table_view document.now) ∷ [])) }
 {
@@ -84,7 +83,7 @@ pub fn section<'a>(
     document: &'a Table,
     name: &str,
     kind: ReleaseKind,
-) -> Result<Option<&'a Table>, LocatedFault>
+) -> Result<Option<&'a Table>, LocatedFault<ReleaseKind>>
     ensures passes { OnOk result (Passes (section_check kind name.now (table_view document.now) ∷ [])) }
     ensures members { IfOk result (λ found. section_members name.now (table_view document.now) ≡ members_in (option_copied found)) }
     ensures refused { IfErr result (Refuses (section_check kind name.now (table_view document.now) ∷ [])) }

@@ -9,7 +9,6 @@ mod key_field;
 mod kind;
 mod kinds;
 mod law;
-mod located_fault;
 mod migration;
 mod migrations;
 mod order;

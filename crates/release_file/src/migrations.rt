@@ -9,16 +9,16 @@ ghost use Rattle.release_file.specs.Reading.{AreNamed, IsNamed};
 ghost use Rattle.release_file.specs.Refused.{Passes, Refuses};
 
 use crate::document::section;
-use crate::located_fault::{LocatedFault, refused};
 use crate::migration::migration_of;
 use crate::release_error::ReleaseKind;
 use crate::work::Named;
 use key_names::Text;
 use std::alloc::Global;
 use toml::{Table, Value};
+use toml_values::{LocatedFault, refused};
 
 // The migration that an entry spells.
-fn named_at(alloc: Global, name: &str, value: &Value) -> Result<Named, LocatedFault>
+fn named_at(alloc: Global, name: &str, value: &Value) -> Result<Named, LocatedFault<ReleaseKind>>
     ensures passes { OnOk result (Passes (migration (name.now, view value.now) ∷ [])) }
     ensures named { IfOk result (IsNamed (name.now, view value.now)) }
     ensures refused { IfErr result (Refuses (migration (name.now, view value.now) ∷ [])) }
@@ -31,7 +31,7 @@ fn named_at(alloc: Global, name: &str, value: &Value) -> Result<Named, LocatedFa
 }
 
 // The migrations of a table.
-fn migrations_in(alloc: Global, table: &Table) -> Result<Vec<Named>, LocatedFault>
+fn migrations_in(alloc: Global, table: &Table) -> Result<Vec<Named>, LocatedFault<ReleaseKind>>
     ensures passes { OnOk result (Passes (map migration (named (table_view table.now)))) }
     ensures migrations { IfOk result (λ migrations. AreNamed (named (table_view table.now)) migrations.items) }
     ensures rising { IfOk result (λ migrations. IsStrictlySortedBy bytes_cmp (map (λ n. n.name) migrations.items)) }
@@ -45,7 +45,10 @@ fn migrations_in(alloc: Global, table: &Table) -> Result<Vec<Named>, LocatedFaul
 }
 
 /// The migrations of the document, rising by name.
-pub fn migrations_of(alloc: Global, document: &Table) -> Result<Vec<Named>, LocatedFault>
+pub fn migrations_of(
+    alloc: Global,
+    document: &Table,
+) -> Result<Vec<Named>, LocatedFault<ReleaseKind>>
     ensures passes { OnOk result (Passes (migration_checks (table_view document.now))) }
     ensures migrations { IfOk result (λ migrations. AreNamed (migrations_in (table_view document.now)) migrations.items) }
     ensures rising { IfOk result (λ migrations. IsStrictlySortedBy bytes_cmp (map (λ n. n.name) migrations.items)) }

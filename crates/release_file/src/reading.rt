@@ -9,7 +9,6 @@ ghost use Rattle.release_file.specs.declared.release_error.ReleaseKind.{ReleaseK
 ghost use Rattle.release_file.specs.declared.release.Release.{Release as Made};
 
 use crate::document::{check_names, check_version};
-use crate::located_fault::LocatedFault;
 use crate::migrations::migrations_of;
 use crate::release::Release;
 use crate::release_error::{ReleaseError, ReleaseKind};
@@ -17,7 +16,7 @@ use crate::transitions::transitions_of;
 use key_names::Text;
 use std::alloc::Global;
 use toml::Table;
-use toml_values::table_of;
+use toml_values::{LocatedFault, table_of};
 
 impl Release {
     /// The release that a text is. Each section may be missing, and is then empty.
@@ -46,7 +45,7 @@ impl Release {
     }
 }
 
-fn release_of(alloc: Global, text: &[u8]) -> Result<Release, LocatedFault>
+fn release_of(alloc: Global, text: &[u8]) -> Result<Release, LocatedFault<ReleaseKind>>
     ensures ok { IfOk result (Spells text.now) }
     ensures fault { IfErr result (RefusesText text.now) }
 {
@@ -57,7 +56,7 @@ fn release_of(alloc: Global, text: &[u8]) -> Result<Release, LocatedFault>
     sections_of(alloc, &document)
 }
 
-fn sections_of(alloc: Global, document: &Table) -> Result<Release, LocatedFault>
+fn sections_of(alloc: Global, document: &Table) -> Result<Release, LocatedFault<ReleaseKind>>
     ensures passes { OnOk result (Passes (checks (table_view document.now))) }
     ensures release { IfOk result (IsReleaseOf (table_view document.now)) }
     ensures refused { IfErr result (Refuses (checks (table_view document.now))) }

@@ -16,13 +16,13 @@ ghost use Rattle.release_file.specs.declared.transition.Transition.{Transition a
 
 use crate::document::{section, table_in};
 use crate::field::{field, texts_of};
-use crate::located_fault::{LocatedFault, refused};
 use crate::pair::pair_of;
 use crate::release_error::ReleaseKind;
 use crate::transition::Transition;
 use key_names::Text;
 use std::alloc::{AllocError, Global};
 use toml::{Table, Value};
+use toml_values::{LocatedFault, refused};
 
 // The transition that an entry is, None exactly where it is none.
 fn transition_of(alloc: Global, name: &str, value: &Value) -> Result<Option<Transition>, AllocError>
@@ -39,7 +39,11 @@ fn transition_of(alloc: Global, name: &str, value: &Value) -> Result<Option<Tran
     Ok(Some(Transition { from, to, names }))
 }
 
-fn transition_at(alloc: Global, name: &str, value: &Value) -> Result<Transition, LocatedFault>
+fn transition_at(
+    alloc: Global,
+    name: &str,
+    value: &Value,
+) -> Result<Transition, LocatedFault<ReleaseKind>>
     ensures passes { OnOk result (Passes (transition (name.now, view value.now) ∷ [])) }
     ensures ok { IfOk result (λ t. IsTransition (name.now, view value.now) t.from t.to t.names.items) }
     ensures refused { IfErr result (Refuses (transition (name.now, view value.now) ∷ [])) }
@@ -51,7 +55,10 @@ fn transition_at(alloc: Global, name: &str, value: &Value) -> Result<Transition,
 }
 
 // The transitions of a table, in its order.
-fn transitions_in(alloc: Global, table: &Table) -> Result<Vec<Transition>, LocatedFault>
+fn transitions_in(
+    alloc: Global,
+    table: &Table,
+) -> Result<Vec<Transition>, LocatedFault<ReleaseKind>>
     ensures passes { OnOk result (Passes (map transition (named (table_view table.now)))) }
     ensures transitions { IfOk result (λ transitions. AreTransitions (named (table_view table.now)) transitions.items) }
     ensures names { OnOk result (IsStrictlySortedBy bytes_cmp (map (λ entry. entry.0) (named (table_view table.now)))) }
@@ -82,7 +89,7 @@ fn known_at(
     migrations: &Table,
     name: &str,
     value: &Value,
-) -> Result<(), LocatedFault>
+) -> Result<(), LocatedFault<ReleaseKind>>
     ensures passes { OnOk result (Passes (known_check (table_view migrations.now) (name.now, view value.now) ∷ [])) }
     ensures refused { IfErr result (Refuses (known_check (table_view migrations.now) (name.now, view value.now) ∷ [])) }
 {
@@ -97,7 +104,11 @@ fn known_at(
 }
 
 // Checks that each migration that a transition names is there.
-fn check_known(alloc: Global, table: &Table, migrations: &Table) -> Result<(), LocatedFault>
+fn check_known(
+    alloc: Global,
+    table: &Table,
+    migrations: &Table,
+) -> Result<(), LocatedFault<ReleaseKind>>
     ensures passes { OnOk result (Passes (map (known_check (table_view migrations.now)) (named (table_view table.now)))) }
     ensures refused { IfErr result (Refuses (map (known_check (table_view migrations.now)) (named (table_view table.now)))) }
 {
@@ -108,7 +119,11 @@ fn check_known(alloc: Global, table: &Table, migrations: &Table) -> Result<(), L
 }
 
 // Checks that each migration that a transition names is one of the document.
-fn check_all_known(alloc: Global, document: &Table, table: &Table) -> Result<(), LocatedFault>
+fn check_all_known(
+    alloc: Global,
+    document: &Table,
+    table: &Table,
+) -> Result<(), LocatedFault<ReleaseKind>>
     ensures passes { OnOk result (Passes (map (known_check (section_members (codes "migration") (table_view document.now))) (named (table_view table.now)))) }
     ensures refused { IfErr result (Refuses (map (known_check (section_members (codes "migration") (table_view document.now)))
         (named (table_view table.now)))) }
@@ -130,7 +145,10 @@ fn sorted(transitions: Vec<Transition>) -> Result<Vec<Transition>, AllocError>
 }
 
 /// The transitions of the document, rising by where they begin and then by where they end.
-pub fn transitions_of(alloc: Global, document: &Table) -> Result<Vec<Transition>, LocatedFault>
+pub fn transitions_of(
+    alloc: Global,
+    document: &Table,
+) -> Result<Vec<Transition>, LocatedFault<ReleaseKind>>
     ensures passes { OnOk result (Passes (transition_checks (table_view document.now) ++ known_checks (table_view document.now))) }
     ensures transitions { IfOk result (λ transitions. (listed : List Step) × AreTransitions (transitions_in (table_view document.now)) listed
         × IsPermutation listed transitions.items) }

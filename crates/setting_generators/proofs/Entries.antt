@@ -16,8 +16,9 @@ use Rattle.setting_generators.specs.Reading.{Outcome, IsGenerator, IsBad, Reads,
 use Rattle.setting_generators.specs.Refused.{RefusesEntry, RefusesTable}
 use Rattle.setting_generators.proofs.SameKeys.{IsSame, same_generator, same_bad, same_more}
 use Rattle.setting_generators.specs.declared.generator.Generator.{Generator}
-use Rattle.setting_generators.specs.declared.located_fault.LocatedFault.{LocatedFault}
-use Rattle.setting_generators.specs.declared.located_fault.LocatedFault.TheVariants.{Fault, Memory}
+use Rattle.toml_values.specs.declared.located_fault.LocatedFault.{LocatedFault}
+use Rattle.toml_values.specs.declared.located_fault.LocatedFault.TheVariants.{Fault, Memory}
+use Rattle.setting_generators.specs.declared.generators_error.GeneratorsKind.{GeneratorsKind}
 
 -- An outcome after generators that were found.
 abbrev pub behind : List Given → Outcome → Outcome
@@ -77,7 +78,7 @@ module _ (table : List Row) (whole left rest : Members) (bytes name : List ℕ) 
       })
 
   -- The next entry is none.
-  pub stopped : (e : LocatedFault) → RefusesEntry table taken.keys (bytes, d) e → RefusesTable table whole e
+  pub stopped : (e : LocatedFault GeneratorsKind) → RefusesEntry table taken.keys (bytes, d) e → RefusesTable table whole e
   stopped Memory refused = tt
   stopped (Fault kind at) refused =
       let behind_found = same_bad table taken.keys (keys_of (map seen found)) so_far.same (bytes, d) kind refused.0 in

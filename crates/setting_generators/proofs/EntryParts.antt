@@ -5,13 +5,15 @@ use Rattle.outside.specs.Spawner.{texts}
 use Rattle.typed_settings.specs.declared.row.Row.{Row}
 use Rattle.setting_generators.specs.Generators.{Path}
 use Rattle.setting_generators.specs.Reading.{Entry, IsBad}
-use Rattle.setting_generators.specs.Refused.{IsAt, RefusesEntry}
+use Rattle.setting_generators.specs.Refused.{RefusesEntry}
+use Rattle.toml_values.specs.Refused.{IsAt}
 use Rattle.setting_generators.specs.declared.generators_error.GeneratorsKind.{GeneratorsKind}
-use Rattle.setting_generators.specs.declared.located_fault.LocatedFault.{LocatedFault}
-use Rattle.setting_generators.specs.declared.located_fault.LocatedFault.TheVariants.{Fault, Memory}
+use Rattle.toml_values.specs.declared.located_fault.LocatedFault.{LocatedFault}
+use Rattle.toml_values.specs.declared.located_fault.LocatedFault.TheVariants.{Fault, Memory}
 
 -- An entry that is none is refused.
-pub entry_refused : (table : List Row) (keys : List Path) (entry : Entry) (kind : GeneratorsKind) (e : LocatedFault) → IsBad table keys entry kind
+pub entry_refused : (table : List Row) (keys : List Path) (entry : Entry) (kind : GeneratorsKind) (e : LocatedFault GeneratorsKind)
+    → IsBad table keys entry kind
     → IsAt kind entry.0 e → RefusesEntry table keys entry e
 entry_refused table keys entry kind Memory bad at = tt
 entry_refused table keys entry kind (Fault k text) bad at = (subst (IsBad table keys entry) (sym at.0) bad, at.1)

@@ -9,14 +9,13 @@ ghost use Rattle.setting_generators.specs.Generators.{seen};
 ghost use Rattle.setting_generators.specs.Reading.{IsGenerator, SpellsNew, command_of};
 ghost use Rattle.setting_generators.specs.Refused.{RefusesEntry};
 
-use crate::located_fault::{LocatedFault, refused};
 use crate::{Generator, GeneratorsKind};
 use key_names::{Key, KeyFault};
 use settings_tree::is_setting;
 use std::alloc::{AllocError, Global};
 use std::collections::BTreeSet;
 use toml::Value;
-use toml_values::{text_of, words_in};
+use toml_values::{LocatedFault, refused, text_of, words_in};
 use typed_settings::Types;
 
 // Whether the key is one of these.
@@ -63,7 +62,7 @@ pub fn generator_of(
     before: &BTreeSet<Key>,
     name: &str,
     value: &Value,
-) -> Result<Generator, LocatedFault>
+) -> Result<Generator, LocatedFault<GeneratorsKind>>
     ensures ok { IfOk result (λ generator. IsGenerator types.now before.now.keys (name.now, view value.now) (seen generator)) }
     ensures refused { IfErr result (RefusesEntry types.now before.now.keys (name.now, view value.now)) }
 {

@@ -8,7 +8,6 @@ mod generate_error;
 mod generator;
 mod generators;
 mod generators_error;
-mod located_fault;
 mod output;
 mod reading;
 mod table;

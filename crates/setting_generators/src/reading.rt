@@ -7,12 +7,11 @@ ghost use Rattle.setting_generators.specs.declared.generators_error.GeneratorsKi
 ghost use Rattle.setting_generators.specs.declared.generators_error.GeneratorsKind.TheVariants.{Memory};
 
 use crate::generators::Generators;
-use crate::located_fault::{LocatedFault, refused};
 use crate::table::generators_of;
 use crate::{GeneratorsError, GeneratorsKind};
 use key_names::Text;
 use std::alloc::Global;
-use toml_values::table_of;
+use toml_values::{LocatedFault, refused, table_of};
 use typed_settings::Types;
 
 impl Generators {
@@ -43,7 +42,11 @@ impl Generators {
     }
 }
 
-fn read_text(alloc: Global, text: &[u8], types: &Types) -> Result<Generators, LocatedFault>
+fn read_text(
+    alloc: Global,
+    text: &[u8],
+    types: &Types,
+) -> Result<Generators, LocatedFault<GeneratorsKind>>
     ensures ok { IfOk result (Spells types.now text.now) }
     ensures refused { IfErr result (RefusesText types.now text.now) }
 {

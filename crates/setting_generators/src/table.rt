@@ -11,16 +11,20 @@ ghost use Rattle.setting_generators.specs.Generators.{Given, IsRising, seen};
 ghost use Rattle.setting_generators.specs.Reading.{Reads};
 ghost use Rattle.setting_generators.specs.Refused.{RefusesTable};
 
-use crate::Generator;
 use crate::entry::generator_of;
-use crate::located_fault::LocatedFault;
+use crate::{Generator, GeneratorsKind};
 use std::alloc::{AllocError, Global};
 use std::collections::BTreeSet;
 use toml::Table;
+use toml_values::LocatedFault;
 use typed_settings::Types;
 
 // The generators of the entries, in the table's order.
-fn listed(alloc: Global, types: &Types, table: &Table) -> Result<Vec<Generator>, LocatedFault>
+fn listed(
+    alloc: Global,
+    types: &Types,
+    table: &Table,
+) -> Result<Vec<Generator>, LocatedFault<GeneratorsKind>>
     ensures ok { IfOk result (λ listed. Reads types.now [] (named (table_view table.now)) (Ok (map seen listed.items))) }
     ensures distinct { IfOk result (λ listed. IsDistinct (eq_by_cmp key_cmp) (keys_of (map seen listed.items))) }
     ensures refused { IfErr result (RefusesTable types.now (table_view table.now)) }
@@ -50,7 +54,7 @@ pub fn generators_of(
     alloc: Global,
     types: &Types,
     table: &Table,
-) -> Result<Vec<Generator>, LocatedFault>
+) -> Result<Vec<Generator>, LocatedFault<GeneratorsKind>>
     ensures ok { IfOk result (λ generators. (listed : List Given) × Reads types.now [] (named (table_view table.now)) (Ok listed)
         × IsPermutation listed (map seen generators.items)) }
     ensures rising { IfOk result (λ generators. IsRising (map seen generators.items)) }

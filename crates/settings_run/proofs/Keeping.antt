@@ -13,7 +13,8 @@ use Rattle.json_trees.specs.declared.scalar.Scalar.{Scalar}
 use Rattle.settings_maps.specs.Maps.{inner, value_at, with_value}
 use Rattle.settings_maps.proofs.NestedMaps.{tied_by, value_at-with}
 use Rattle.settings_tree.specs.Content.{Contents}
-use Rattle.pending_tx.proofs.Commits.{over, value-committed}
+use Rattle.pending_tx.proofs.Commits.{value-committed}
+use Rattle.settings_tree.proofs.Over.{over}
 use Rattle.pending_tx.proofs.Ended.{inner-remove}
 use Rattle.settings_machine.specs.World.{Key, Image, World}
 use Rattle.settings_machine.specs.Typed.{Wanted, first_wanted}

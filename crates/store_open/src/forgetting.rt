@@ -2,7 +2,6 @@
 ghost use Rattle.std.specs.Prelude.{◌≡◌, None, length};
 ghost use Rattle.outside.specs.Told.{Moves};
 ghost use Rattle.outside.specs.Faults.{HasCauseOf};
-ghost use Rattle.settings_tree.specs.Laid.{KeepsPrefixRule};
 ghost use Rattle.store_open.specs.Forgetting.{Forgets, ForgetsIn, first_unheld};
 ghost use Rattle.store_open.specs.declared.open_error.OpenError.TheVariants as refused;
 ghost use Rattle.store_open.specs.declared.forget_error.ForgetError.TheVariants.{Store};
@@ -11,18 +10,10 @@ use crate::reading::read_store;
 use crate::step::make;
 use crate::{ForgetError, Stored};
 use key_names::Key;
+use opening_step::keep_rule;
 use outside::Disk;
 use pending_tx::{first_unheld, forget, key_set};
-use settings_tree::Held;
 use std::alloc::Global;
-
-// What is held keeps the prefix rule. It does nothing.
-fn keeps_rule(held: &Held)
-    ensures { KeepsPrefixRule held.now }
-{
-    held.live.weak();
-    held.pending.next_tx(None);
-}
 
 // Forgets the keys in a store that was just read.
 fn forget_named<D: Disk>(
@@ -35,7 +26,7 @@ fn forget_named<D: Disk>(
     ensures forgets { Moves (D.told disk.old) (D.told disk.new) (ForgetsIn stored.old keys.now None result) }
     ensures cause { HasCauseOf (ForgetError.Store refused.Failed) (D.faults disk.old) (D.faults disk.new) result }
 {
-    keeps_rule(&stored.held);
+    keep_rule(&stored.held);
     let named = key_set(alloc, keys)?;
     let change = forget(alloc, &stored.held, &named)?;
     make(

@@ -27,5 +27,6 @@ pub use opened::Opened;
 pub use opening::open_store;
 pub use peeking::peek_store;
 pub use reading::read_store;
+pub use step::lay_change;
 pub use store_image::{Image, ImageError, read_image};
 pub use stored::Stored;

@@ -1,5 +1,5 @@
 //! The opening step, as one change of a data directory.
-ghost use Rattle.std.specs.Prelude.{◌≡◌, length, IfOk, OnOk};
+ghost use Rattle.std.specs.Prelude.{◌≡◌, length, IfOk, OnOk, OnErr};
 ghost use Rattle.outside.specs.Told.{Moves};
 ghost use Rattle.outside.specs.Faults.{HasCauseOf};
 ghost use Rattle.settings_tree.specs.Laid.{laid, KeepsPrefixRule, NamesWeak, TellsWeak};
@@ -20,13 +20,20 @@ use settings_tree::{Change, Held};
 use std::alloc::{AllocError, Global};
 use store_image::Image;
 
-// Lays the change over what is held, and writes it down as a batch.
-fn laid(alloc: Global, dir: &Path, held: &mut Held, change: Change) -> Result<Batch, AllocError>
+/// Writes the change as a batch of the directory, and lays it over what is held. The only error is out of memory, which leaves what is
+/// held as it was. It takes the time of `batch_of`, and a logarithmic step for each entry.
+pub fn lay_change(
+    alloc: Global,
+    dir: &Path,
+    held: &mut Held,
+    change: Change,
+) -> Result<Batch, AllocError>
     requires two_names { length dir.now ≡ 2 }
     requires rule { KeepsPrefixRule (laid held.old change) }
     requires weak { NamesWeak held.old change }
     requires told { TellsWeak held.old change }
     ensures held { OnOk result (held.new ≡ laid held.old change) }
+    ensures kept { OnErr result (held.new ≡ held.old) }
     ensures dir { IfOk result (λ batch. batch.dir ≡ dir.now) }
     ensures follows { IfOk result (λ batch. Follows change batch.entries) }
 {
@@ -52,7 +59,7 @@ pub(crate) fn make<D: Disk>(
     ensures made { OnOk result (held.new ≡ laid held.old change) }
     ensures cause { HasCauseOf DiskErr.Failed (D.faults disk.old) (D.faults disk.new) result }
 {
-    let batch = laid(alloc, dir, held, change)?;
+    let batch = lay_change(alloc, dir, held, change)?;
     match commit_journal::change(disk, &batch) {
         Ok(()) => Ok(()),
         Err(Failed) => Err(DiskErr::Failed),

@@ -1,3 +1,4 @@
 pub mod Document
+pub mod Refused
 pub mod Values
 pub mod Words

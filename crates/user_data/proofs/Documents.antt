@@ -9,9 +9,10 @@ use Rattle.json_trees.proofs.Parting.{AreApart-from_Pairwise}
 use Rattle.settings_tree.specs.Content.{settings_key}
 use Rattle.toml.specs.Data.{Data, string, integer, float, boolean, datetime, array, table, as_table, Members, member}
 use Rattle.user_data.specs.Pairs.{Path, Pairs, settings, other_name, settings_pairs, members_pairs, fault_at}
-use Rattle.user_data.specs.Refused.{IsAt, Refuses, RefusesName}
-use Rattle.user_data.specs.declared.located_fault.LocatedFault.{LocatedFault}
-use Rattle.user_data.specs.declared.located_fault.LocatedFault.TheVariants.{Fault, Memory}
+use Rattle.user_data.specs.Refused.{Refuses, RefusesName}
+use Rattle.toml_values.specs.Refused.{IsAt}
+use Rattle.toml_values.specs.declared.located_fault.LocatedFault.{LocatedFault}
+use Rattle.toml_values.specs.declared.located_fault.LocatedFault.TheVariants.{Fault, Memory}
 use Rattle.user_data.specs.declared.user_data_error.UserDataKind.{UserDataKind}
 use Rattle.user_data.specs.declared.user_data_error.UserDataKind.TheVariants.{NotSettings}
 
@@ -19,11 +20,12 @@ use Rattle.user_data.specs.declared.user_data_error.UserDataKind.TheVariants.{No
 other_first : (name : List ℕ) (d : Data) (left : Members) → eq_by_cmp bytes_cmp name settings ≡ false → other_name (member name d left) ≡ Some name
 other_first name d left other = ap (λ b. if b then other_name left else Some name) other
 
-refuses_name : (found : Option (List ℕ)) (name : List ℕ) (e : LocatedFault) → found ≡ Some name → IsAt NotSettings name e → RefusesName found e
+refuses_name : (found : Option (List ℕ)) (name : List ℕ) (e : LocatedFault UserDataKind) → found ≡ Some name → IsAt NotSettings name e → RefusesName found e
 refuses_name found name Memory is at = tt
 refuses_name found name (Fault kind text) is at = (at.0, is ∙ ap Some (sym at.1))
 
-pub name_refused : (document rest left : Members) (name bytes printed : List ℕ) (d : Data) (e : LocatedFault) → other_name document ≡ other_name rest
+pub name_refused : (document rest left : Members) (name bytes printed : List ℕ) (d : Data) (e : LocatedFault UserDataKind)
+    → other_name document ≡ other_name rest
     → rest ≡ member name d left → bytes ≡ name → printed ≡ name
     → false ≡ eq_by_cmp bytes_cmp bytes settings → IsAt NotSettings printed e → RefusesName (other_name document) e
 name_refused document rest left name bytes printed d e so_far is same also other at =
@@ -37,7 +39,7 @@ pub name_passed : (document rest left : Members) (name bytes : List ℕ) (d : Da
 name_passed document rest left name bytes d so_far is same tie =
     so_far ∙ ap other_name is ∙ ap (λ b. if b then other_name left else Some name) (ap (λ (n : List ℕ). eq_by_cmp bytes_cmp n settings) (sym same) ∙ sym tie)
 
-refuses_as : (pairs : Pairs) (e : LocatedFault) → pairs ≡ Err (fault_at NotSettings settings) → IsAt NotSettings settings e → Refuses pairs e
+refuses_as : (pairs : Pairs) (e : LocatedFault UserDataKind) → pairs ≡ Err (fault_at NotSettings settings) → IsAt NotSettings settings e → Refuses pairs e
 refuses_as pairs Memory is at = tt
 refuses_as pairs (Fault k text) is at = is ∙ ap (λ (n : UserDataKind). Err (fault_at n settings)) (sym at.0)
     ∙ ap (λ (l : List ℕ). Err (fault_at k l)) (sym at.1)
@@ -56,7 +58,7 @@ table_pairs o d ms there is = ap settings_pairs there ∙ by d is
     by (table own) is = let same : own ≡ ms = cc in ap (members_pairs settings_key) same
 
 -- Another value is there.
-pub other_refuses : (o : Option Data) (d : Data) (e : LocatedFault) → o ≡ Some d → as_table d ≡ None → IsAt NotSettings settings e
+pub other_refuses : (o : Option Data) (d : Data) (e : LocatedFault UserDataKind) → o ≡ Some d → as_table d ≡ None → IsAt NotSettings settings e
     → Refuses (settings_pairs o) e
 other_refuses o d e there is at = refuses_as (settings_pairs o) e (ap settings_pairs there ∙ by d is) at
   where

@@ -14,8 +14,9 @@ use Rattle.toml_values.specs.Document.{named}
 use Rattle.user_data.specs.Pairs.{Path, Pairs, joined, entry_pairs, members_pairs}
 use Rattle.user_data.specs.Refused.{Appends, Refuses}
 use Rattle.user_data.specs.Rising.{NamesRise, ValuesRise, HasRisingNames}
-use Rattle.user_data.specs.declared.located_fault.LocatedFault.{LocatedFault}
-use Rattle.user_data.specs.declared.located_fault.LocatedFault.TheVariants.{Fault, Memory}
+use Rattle.toml_values.specs.declared.located_fault.LocatedFault.{LocatedFault}
+use Rattle.toml_values.specs.declared.located_fault.LocatedFault.TheVariants.{Fault, Memory}
+use Rattle.user_data.specs.declared.user_data_error.UserDataKind.{UserDataKind}
 
 -- The pairs of some first members are found and appended, and those of the members left are to come.
 pub record Gathering (path : Path) (whole left : Members) (old new : List (Path × Scalar)) : Type 0 where
@@ -46,7 +47,7 @@ module _ (path : Path) (whole rest : Members) (bytes name : List ℕ) (d : Data)
   }
 
   -- The first refusal of a member is the first of all.
-  pub stopped : (e : LocatedFault) → Refuses (entry_pairs (path ++ bytes ∷ []) d) e → Refuses (members_pairs path whole) e
+  pub stopped : (e : LocatedFault UserDataKind) → Refuses (entry_pairs (path ++ bytes ∷ []) d) e → Refuses (members_pairs path whole) e
   stopped Memory refused = tt
   stopped (Fault kind at) refused =
       so_far.to_come ∙ ap (λ (ms : Members). joined (Ok so_far.found) (members_pairs path ms)) is

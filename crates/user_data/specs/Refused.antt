@@ -2,8 +2,8 @@
 use Rattle.std.specs.Prelude.{◌≡◌, ℕ, List, ◌++◌, Option, Some, Ok, Err, ⊤}
 use Rattle.json_trees.specs.declared.scalar.Scalar.{Scalar}
 use Rattle.user_data.specs.Pairs.{Pairs, Path, fault_at}
-use Rattle.user_data.specs.declared.located_fault.LocatedFault.{LocatedFault}
-use Rattle.user_data.specs.declared.located_fault.LocatedFault.TheVariants.{Fault, Memory}
+use Rattle.toml_values.specs.declared.located_fault.LocatedFault.{LocatedFault}
+use Rattle.toml_values.specs.declared.located_fault.LocatedFault.TheVariants.{Fault, Memory}
 use Rattle.user_data.specs.declared.user_data_error.UserDataKind.{UserDataKind}
 use Rattle.user_data.specs.declared.user_data_error.UserDataKind.TheVariants.{NotSettings}
 
@@ -14,16 +14,11 @@ pub record Appends (pairs : Pairs) (old new : List (Path × Scalar)) : Type 0 wh
   pub appended : new ≡ old ++ found
 
 -- The refusal is that of the pairs, unless it ran out of memory.
-abbrev pub Refuses : Pairs → LocatedFault → Type 0
+abbrev pub Refuses : Pairs → LocatedFault UserDataKind → Type 0
 Refuses pairs Memory = ⊤
 Refuses pairs (Fault kind at) = pairs ≡ Err (fault_at kind at)
 
--- The refusal is of this kind and at this place, unless it ran out of memory.
-abbrev pub IsAt : UserDataKind → List ℕ → LocatedFault → Type 0
-IsAt kind place Memory = ⊤
-IsAt kind place (Fault k at) = (k ≡ kind) × (at ≡ place)
-
 -- The refusal is of this top-level name, unless it ran out of memory.
-abbrev pub RefusesName : Option (List ℕ) → LocatedFault → Type 0
+abbrev pub RefusesName : Option (List ℕ) → LocatedFault UserDataKind → Type 0
 RefusesName name Memory = ⊤
 RefusesName name (Fault kind at) = (kind ≡ NotSettings) × (name ≡ Some at)

@@ -10,16 +10,19 @@ ghost use Rattle.toml.specs.Data.{get_member};
 ghost use Rattle.user_data.specs.Refused.{Refuses, RefusesName};
 
 use crate::UserDataKind;
-use crate::located_fault::{LocatedFault, refused};
 use crate::place::Place;
 use crate::walk::push_members;
 use json_trees::Scalar;
 use key_names::Key;
 use std::alloc::Global;
 use toml::{Table, Value};
+use toml_values::{LocatedFault, refused};
 
 /// The pairs of a document.
-pub fn document_pairs(alloc: Global, document: &Table) -> Result<Vec<(Key, Scalar)>, LocatedFault>
+pub fn document_pairs(
+    alloc: Global,
+    document: &Table,
+) -> Result<Vec<(Key, Scalar)>, LocatedFault<UserDataKind>>
     ensures ok { IfOk result (λ pairs. document_pairs (table_view document.now) ≡ Ok pairs.items) }
     ensures apart { IfOk result (λ pairs. AreApart (keys_of pairs.items)) }
     ensures refused { IfErr result (Refuses (document_pairs (table_view document.now))) }
@@ -36,7 +39,7 @@ fn is_settings(name: &str) -> bool
 }
 
 // Checks that no top-level name is another than `settings`.
-fn check_names(alloc: Global, document: &Table) -> Result<(), LocatedFault>
+fn check_names(alloc: Global, document: &Table) -> Result<(), LocatedFault<UserDataKind>>
     ensures none { OnOk result (other_name (table_view document.now) ≡ None) }
     ensures refused { IfErr result (RefusesName (other_name (table_view document.now))) }
 {
@@ -56,7 +59,10 @@ fn settings_of(document: &Table) -> Option<&Value>
 }
 
 // The pairs of the table `settings`, none where it is missing.
-fn settings_pairs(alloc: Global, document: &Table) -> Result<Vec<(Key, Scalar)>, LocatedFault>
+fn settings_pairs(
+    alloc: Global,
+    document: &Table,
+) -> Result<Vec<(Key, Scalar)>, LocatedFault<UserDataKind>>
     ensures ok { IfOk result (λ pairs. settings_pairs (get_member settings (table_view document.now)) ≡ Ok pairs.items) }
     ensures apart { IfOk result (λ pairs. AreApart (keys_of pairs.items)) }
     ensures refused { IfErr result (Refuses (settings_pairs (get_member settings (table_view document.now)))) }

@@ -3,7 +3,6 @@
 #![tactic(auto)]
 
 mod document;
-mod located_fault;
 mod place;
 mod reading;
 mod user_data_error;

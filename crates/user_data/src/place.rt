@@ -6,9 +6,9 @@ ghost use Rattle.user_data.specs.Pairs.{Pairs, printed_path, where_key};
 ghost use Rattle.user_data.specs.Refused.{Refuses};
 
 use crate::UserDataKind;
-use crate::located_fault::LocatedFault;
 use key_names::{Key, KeyFault, Text};
 use std::alloc::{AllocError, Global};
+use toml_values::LocatedFault;
 
 /// Where an entry is: the key that the names down to it are, and these names joined by `/`.
 #[derive(Debug, Drop)]
@@ -34,7 +34,7 @@ impl Place {
     }
 
     /// The place of the entry of this name below it. `BadKey` is answered exactly where the names are together no key.
-    pub fn below(&self, alloc: Global, name: &str) -> Result<Place, LocatedFault>
+    pub fn below(&self, alloc: Global, name: &str) -> Result<Place, LocatedFault<UserDataKind>>
         ensures ok { IfOk result (λ place. place.key ≡ self.now.key ++ name.now ∷ []) }
         ensures valid { IfOk result (λ place. IsTrue (is_key place.key)) }
         ensures refused { (pairs : Pairs) → IfErr result (Refuses (where_key (self.now.key ++ name.now ∷ []) pairs)) }

@@ -8,12 +8,11 @@ ghost use Rattle.user_data.specs.Refused.{Refuses};
 ghost use Rattle.user_data.specs.declared.user_data_error.UserDataKind.TheVariants.{Memory};
 
 use crate::document::document_pairs;
-use crate::located_fault::{LocatedFault, refused};
 use crate::{UserDataError, UserDataKind};
 use json_trees::Scalar;
 use key_names::{Key, Text};
 use std::alloc::Global;
-use toml_values::table_of;
+use toml_values::{LocatedFault, refused, table_of};
 
 /// The pairs of user data: each value below `settings` that is no table, with the key that the names down to it are, rising
 /// by key. A text without `settings`, or with empty tables alone, has none.
@@ -39,7 +38,7 @@ pub fn read(alloc: Global, text: &[u8]) -> Result<Vec<(Key, Scalar)>, UserDataEr
     }
 }
 
-fn pairs_of(alloc: Global, text: &[u8]) -> Result<Vec<(Key, Scalar)>, LocatedFault>
+fn pairs_of(alloc: Global, text: &[u8]) -> Result<Vec<(Key, Scalar)>, LocatedFault<UserDataKind>>
     ensures ok { IfOk result (λ pairs. pairs_of text.now ≡ Ok pairs.items) }
     ensures refused { IfErr result (Refuses (pairs_of text.now)) }
     ensures apart { IfOk result (λ pairs. AreApart (keys_of pairs.items)) }

@@ -6,13 +6,12 @@ ghost use Rattle.user_data.specs.Refused.{Appends, Refuses};
 ghost use Rattle.user_data.specs.Rising.{HasRisingNames, RisesWithin};
 
 use crate::UserDataKind;
-use crate::located_fault::LocatedFault;
 use crate::place::Place;
 use json_trees::Scalar;
 use key_names::Key;
 use std::alloc::Global;
 use toml::{Table, Value};
-use toml_values::scalar_of;
+use toml_values::{LocatedFault, scalar_of};
 
 /// Appends the pairs of the members of a table that is at this place.
 #[cycle(walk)]
@@ -21,7 +20,7 @@ pub fn push_members(
     place: &Place,
     members: &Table,
     pairs: &mut Vec<(Key, Scalar)>,
-) -> Result<(), LocatedFault>
+) -> Result<(), LocatedFault<UserDataKind>>
     ensures ok { OnOk result (Appends (members_pairs place.now.key (table_view members.now)) pairs.old.items pairs.new.items) }
     ensures rise { OnOk result (RisesWithin (table_view members.now)) }
     ensures refused { IfErr result (Refuses (members_pairs place.now.key (table_view members.now))) }
@@ -40,7 +39,7 @@ fn push_entry(
     name: &str,
     value: &Value,
     pairs: &mut Vec<(Key, Scalar)>,
-) -> Result<(), LocatedFault>
+) -> Result<(), LocatedFault<UserDataKind>>
     ensures ok { OnOk result (Appends (entry_pairs (place.now.key ++ name.now ∷ []) (view value.now)) pairs.old.items pairs.new.items) }
     ensures rise { OnOk result (HasRisingNames (view value.now)) }
     ensures refused { IfErr result (Refuses (entry_pairs (place.now.key ++ name.now ∷ []) (view value.now))) }
@@ -58,7 +57,7 @@ fn push_leaf(
     place: Place,
     value: &Value,
     pairs: &mut Vec<(Key, Scalar)>,
-) -> Result<(), LocatedFault>
+) -> Result<(), LocatedFault<UserDataKind>>
     ensures ok { OnOk result (Appends (leaf_pairs place.key (view value.now)) pairs.old.items pairs.new.items) }
     ensures refused { IfErr result (Refuses (leaf_pairs place.key (view value.now))) }
 {

@@ -1,4 +1,4 @@
-use Rattle.std.proofs.Common.{◌≡◌, ℕ, List, Ok, sym, subst}
+use Rattle.std.proofs.Common.{◌≡◌, ℕ, List, Ok, sym, ◌∙◌, ap, subst}
 use Rattle.std.specs.FinMap.{get}
 use Rattle.outside.specs.DiskCalls.{Writes}
 use Rattle.outside.proofs.Told.{moves_map}
@@ -11,7 +11,7 @@ pub returns-in-Ok-clause-written : goal.returns-in-Ok-clause-written
 returns-in-Ok-clause-written g c = moves_map
     (λ old new wrote I sees. write_one I c.args.view.now.live.now c.args.file.now c.as_slice.result.now c.put.result
     (subst (λ (l : List ℕ). rendered I c.args.file.now c.args.view.now.live.now ≡ Ok l) (sym c.as_slice.ensures.value)
-    (c.in-Ok.ensures.ok.renders I sees.templates sees.os))
+    (ap (rendered I c.args.file.now) (sym c.of.ensures) ∙ c.in-Ok.ensures.ok.renders I sees.templates sees.os))
     c.put.ensures.cause old new
     (subst (λ (m : Manifest). Writes (path_in (get m.files c.args.file.now)) c.as_slice.result.now c.put.result old new) sees.manifest wrote))
     c.put.ensures.written

@@ -1,5 +1,6 @@
-use Rattle.machine_answers.proofs.Printing.{printed_value}
 use Rattle.machine_answers.proofs.refusal_body.refusal_text.Goals as goal
 
-pub returns : goal.returns
-returns c = printed_value _ _ _ _ c.text_of.ensures.text c.new-writer.ensures.tokens c.in_ok-write_refusal.ensures
+pub returns-in-NoPending : goal.returns-in-NoPending
+returns-in-NoPending c =
+    let told = rw c.as_str-in-NoPending.ensures.bytes at c.object_text-in-NoPending.ensures in
+    rw c.in-NoPending.is told

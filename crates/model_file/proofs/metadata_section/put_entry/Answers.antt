@@ -7,8 +7,9 @@ use Rattle.model_file.specs.Entries.{Path}
 use Rattle.model_file.specs.Refused.{Refuses, IsAt}
 use Rattle.model_file.specs.declared.found.Found.TheVariants as found
 use Rattle.model_file.specs.declared.model_error.ModelKind.TheVariants.{BadMetadata, BadValue}
-use Rattle.model_file.specs.declared.located_fault.LocatedFault.{LocatedFault}
-use Rattle.model_file.specs.declared.located_fault.LocatedFault.TheVariants.{Memory}
+use Rattle.toml_values.specs.declared.located_fault.LocatedFault.{LocatedFault}
+use Rattle.toml_values.specs.declared.located_fault.LocatedFault.TheVariants.{Memory}
+use Rattle.model_file.specs.declared.model_error.ModelKind.{ModelKind}
 use Rattle.model_file.proofs.Checking.{both_err}
 use Rattle.model_file.proofs.MetaChecks.{by_key, table_passes, value_passes, name_refuses, other_value_refuses}
 use Rattle.model_file.proofs.metadata_section.put_entry.Goals as goal
@@ -36,7 +37,7 @@ pub returns-in-Value-clause-refused : goal.returns-in-Value-clause-refused
 returns-in-Value-clause-refused c =
     let is : c.args.entry.now.1 ≡ found.Value c.in-Value.value = search rules in
     let path : c.deref.result.now ≡ c.args.entry.now.0 = search rules in
-    λ rows. both_err c.put_value.result (λ (e : LocatedFault). e ≢ Memory → is_meta_name (last_name c.deref.result.now) ≡ false)
+    λ rows. both_err c.put_value.result (λ (e : LocatedFault ModelKind). e ≢ Memory → is_meta_name (last_name c.deref.result.now) ≡ false)
     (IsAt BadMetadata (codes "metadata" ∷ c.deref.result.now)) (Refuses rows (meta_checks c.args.entry.now))
     (λ e other at. name_refuses rows c.args.entry.now c.in-Value.value e is (c.in_ok-key.ensures.passes rows)
     (λ some. ap (λ (p : Path). is_meta_name (last_name p)) (sym path) ∙ other some)

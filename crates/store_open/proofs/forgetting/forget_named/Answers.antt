@@ -19,7 +19,7 @@ returns-in_err-change-clause-forgets g c =
     moves_stay (λ h. inr (p.1 ∙ ap err p.2, refl))
 
 pub make-requires-clause-rule : goal.make-requires-clause-rule
-make-requires-clause-rule g c = c.in_ok-change.ensures.rule c.keeps_rule.ensures
+make-requires-clause-rule g c = c.in_ok-change.ensures.rule c.keep_rule.ensures
 
 pub returns-in_err-make-clause-forgets : goal.returns-in_err-make-clause-forgets
 returns-in_err-make-clause-forgets g c =

@@ -1,0 +1,5 @@
+use Rattle.machine_answers.proofs.Printing.{printed_value}
+use Rattle.machine_answers.proofs.objects.object_text.Goals as goal
+
+pub returns : goal.returns
+returns c = printed_value _ _ _ _ c.text_of.ensures.text c.new-writer.ensures.tokens c.in_ok-write_members.ensures
