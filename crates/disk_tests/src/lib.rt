@@ -4,8 +4,6 @@
 #[cfg(test)]
 mod calls;
 #[cfg(test)]
-mod disks;
-#[cfg(test)]
-mod syncs;
+mod rows;
 #[cfg(test)]
 mod watched;

@@ -12,7 +12,8 @@ use test_support::new_folder;
 /// The calls to the system below a folder.
 #[derive(Drop)]
 pub struct Watched {
-    rt: HostRuntime,
+    /// The runtime, whose calls are not written down.
+    pub rt: HostRuntime,
     root: String,
     // What was written down.
     log: Rc<Cell<String>>,
@@ -55,15 +56,6 @@ impl Watched {
         self.left.set(k);
     }
 
-    /// Writes a line down.
-    pub fn write_down(&self, line: &str) -> Result<(), AllocError> {
-        let mut log = self.trace();
-        log.push_str(line)?;
-        log.push('\n')?;
-        self.log.set(log);
-        Ok(())
-    }
-
     /// What was written down since the last time.
     pub fn trace(&self) -> String {
         self.log.replace(String::new(self.rt.alloc()))
@@ -81,8 +73,9 @@ impl Watched {
         }
         let below = place.strip_prefix(self.root.as_str()).unwrap_or(place);
         let below = if below.is_empty() { "/" } else { below };
-        let line = format!(in self.rt.alloc(); "{call} {below}")?;
-        self.write_down(line.as_str())?;
+        let mut log = self.trace();
+        writeln!(log, "{call} {below}")?;
+        self.log.set(log);
         let left = self.left.get();
         self.left.set(left.saturating_sub(1));
         if left == 1 {

@@ -8,20 +8,55 @@
 //! each program ends with 0.
 #![tactic(auto)]
 
-mod lines;
-
-use crate::lines::{bad, bytes_of, read_head};
 use disk_memory::MemoryDisk;
 use machine_replies::Host;
+use outside::{Disk, Path};
 use plain_machine::{OpeningAnswer, TurnAnswer};
 use settings_machine::{Job, Request};
 use std::alloc::{AllocError, Global};
-use std::io::{self, BufRead, BufReader};
+use std::io::{self, BufRead, BufReader, ErrorKind};
 use std::process::ExitCode;
 use version_links::Version;
 
+// No image has more files.
+const MOST_FILES: u32 = 10_000;
+
 // No jobs that follow one another take more turns.
 const MOST_TURNS: u32 = 100_000;
+
+// The error where what is read has not its form.
+fn bad() -> io::Error {
+    io::Error::from(ErrorKind::InvalidData)
+}
+
+// The bytes that the hexadecimal digits are.
+fn bytes_of(alloc: Global, digits: &str) -> io::Result<Vec<u8>> {
+    hex::decode(alloc, digits).ok().ok_or(bad())
+}
+
+// Puts the file that the line tells on the disk.
+fn put(alloc: Global, disk: &mut MemoryDisk, line: &str) -> io::Result<()> {
+    let rest = line.strip_prefix("file ").ok_or(bad())?;
+    let (path, digits) = rest.split_once(' ').unwrap_or((rest, ""));
+    let bytes = bytes_of(alloc, digits)?;
+    let path = Path::read(alloc, path.as_bytes()).ok().ok_or(bad())?;
+    disk.replace(&path, &bytes).ok().ok_or(bad())
+}
+
+// Reads the lines of the files, which it puts on the disk, and the version after them.
+fn read_head(rt: &HostRuntime, disk: &mut MemoryDisk) -> io::Result<Version> {
+    let alloc = rt.alloc();
+    for _ in 0..MOST_FILES {
+        let mut line = String::new(alloc);
+        rt.read_line(&mut line)?;
+        let line = line.as_str().trim_end();
+        if let Some(version) = line.strip_prefix("boot ") {
+            return Version::read(alloc, version)?.ok_or(bad());
+        }
+        put(alloc, disk, line)?;
+    }
+    Err(bad())
+}
 
 // Turns that go well, until no job runs.
 fn turns(alloc: Global, host: &mut Host) -> Result<(), AllocError> {
@@ -34,17 +69,10 @@ fn turns(alloc: Global, host: &mut Host) -> Result<(), AllocError> {
     Ok(())
 }
 
-// The host of the image on the disk, whose store has begun at the version.
-fn read(alloc: Global, disk: &mut MemoryDisk, version: Version) -> io::Result<Box<Host>> {
-    match Host::read(alloc, disk, version) {
-        Ok(host) => Ok(Box::new(alloc, host)?),
-        Err(_) => Err(bad()),
-    }
-}
-
-// That host, whose store was opened at a boot and applied.
+// The host of the image on the disk, whose store has begun at the version, and was opened at a boot and applied.
 fn booted(alloc: Global, disk: &mut MemoryDisk, version: Version) -> io::Result<Box<Host>> {
-    let mut host = read(alloc, disk, version)?;
+    let host = Host::read(alloc, disk, version).ok().ok_or(bad())?;
+    let mut host = Box::new(alloc, host)?;
     host.open(alloc, true, OpeningAnswer::Succeeded)?;
     host.ask(alloc, &Request::Apply)?;
     turns(alloc, &mut host)?;

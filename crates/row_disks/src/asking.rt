@@ -1,63 +1,58 @@
 //! Calls of the disk, a line each, and what each answers.
-use crate::telling::{done, line, path_of, text_of};
+use crate::telling::done;
 use disk_memory::MemoryDisk;
 use outside::{Disk, DiskErr, Path};
-use row_files::{bad, parts};
-use std::alloc::Global;
+use row_files::{bad, line, parts, path_of, text_of};
 use std::io;
 
-// A line for what a call found.
-fn found(alloc: Global, answer: Result<Option<Vec<u8>>, DiskErr>) -> io::Result<Vec<u8>> {
+// Tells what a call found.
+fn found(out: &mut Vec<u8>, answer: Result<Option<Vec<u8>>, DiskErr>) -> io::Result<()> {
     match answer {
-        Ok(Some(bytes)) => line(alloc, &[text_of(&bytes)?]),
-        Ok(None) => line(alloc, &["none"]),
-        Err(DiskErr::Failed) => line(alloc, &["failed"]),
+        Ok(Some(bytes)) => line(out, &[text_of(&bytes)?]),
+        Ok(None) => line(out, &["none"]),
+        Err(DiskErr::Failed) => line(out, &["failed"]),
         Err(DiskErr::Memory) => Err(bad()),
     }
 }
 
-// The paths, with spaces between them.
-fn printed(alloc: Global, paths: &[Path]) -> io::Result<Vec<u8>> {
-    let mut out = Vec::new(alloc);
-    for path in paths {
-        if !out.is_empty() {
-            out.push(b' ')?;
-        }
-        out.extend_from_slice(&path.print()?)?;
-    }
-    Ok(out)
-}
-
-fn listed(alloc: Global, answer: Result<Vec<Path>, DiskErr>) -> io::Result<Vec<u8>> {
+// Tells the paths, with spaces between them.
+fn listed(out: &mut Vec<u8>, answer: Result<Vec<Path>, DiskErr>) -> io::Result<()> {
+    let mut printed = Vec::new(*out.allocator());
     match answer {
-        Ok(paths) => found(alloc, Ok(Some(printed(alloc, &paths)?))),
-        Err(error) => found(alloc, Err(error)),
+        Ok(paths) => {
+            for path in &paths {
+                printed.extend_from_slice(if printed.is_empty() { b"" } else { b" " })?;
+                printed.extend_from_slice(&path.print()?)?;
+            }
+            found(out, Ok(Some(printed)))
+        }
+        Err(error) => found(out, Err(error)),
     }
 }
 
 // Makes the call of the line, its word, a path and a text, and tells what it answers.
-fn call(alloc: Global, disk: &mut MemoryDisk, text: &str) -> io::Result<Vec<u8>> {
+fn call(out: &mut Vec<u8>, disk: &mut MemoryDisk, text: &str) -> io::Result<()> {
+    let alloc = *out.allocator();
     let (word, rest) = parts(text);
     let (path, bytes) = parts(rest);
     let (path, bytes) = (path_of(alloc, path.as_bytes())?, bytes.as_bytes());
     match word {
-        "sync" => done(alloc, "done", disk.sync()),
-        "write" => done(alloc, "done", disk.write(&path, bytes)),
-        "replace" => done(alloc, "done", disk.replace(&path, bytes)),
-        "relink" => done(alloc, "done", disk.relink(&path, bytes)),
-        "remove" => done(alloc, "done", disk.remove(&path)),
-        "read" => found(alloc, disk.read(alloc, &path)),
-        "read_link" => found(alloc, disk.read_link(alloc, &path)),
-        "list" => listed(alloc, disk.list(alloc, &path)),
+        "sync" => done(out, "done", disk.sync()),
+        "write" => done(out, "done", disk.write(&path, bytes)),
+        "replace" => done(out, "done", disk.replace(&path, bytes)),
+        "relink" => done(out, "done", disk.relink(&path, bytes)),
+        "remove" => done(out, "done", disk.remove(&path)),
+        "read" => found(out, disk.read(alloc, &path)),
+        "read_link" => found(out, disk.read_link(alloc, &path)),
+        "list" => listed(out, disk.list(alloc, &path)),
         _ => Err(bad()),
     }
 }
 
-/// What the calls of these lines answer, a line each.
-pub fn answers(alloc: Global, disk: &mut MemoryDisk, lines: &str) -> io::Result<Vec<u8>> {
-    let mut out = Vec::new(alloc);
+/// Tells what the calls of these lines answer, a line each.
+pub fn answers(out: &mut Vec<u8>, disk: &mut MemoryDisk, lines: &str) -> io::Result<()> {
     for text in lines.lines() {
-        out.extend_from_slice(&call(alloc, disk, text)?)?;
+        call(out, disk, text)?;
     }
-    Ok(out)
+    Ok(())
 }

@@ -1,5 +1,5 @@
 //! The disk of a driver, the disks that are kept by name, and the calls that fail.
-use crate::crashes::{copy_of, crashed};
+use crate::crashes::copy_of;
 use disk_memory::MemoryDisk;
 use row_files::{Fault, bad};
 use std::alloc::{AllocError, Global};
@@ -17,15 +17,11 @@ pub struct Disks {
     failing: Vec<u64>,
 }
 
-fn empty(alloc: Global) -> Result<Box<MemoryDisk>, AllocError> {
-    Ok(Box::new(alloc, MemoryDisk::new(alloc)?)?)
-}
-
 impl Disks {
     /// An empty disk, and none that is kept. The only error is out of memory.
     pub fn new(alloc: Global) -> Result<Disks, AllocError> {
         Ok(Disks {
-            disk: empty(alloc)?,
+            disk: Box::new(alloc, MemoryDisk::new(alloc)?)?,
             last: 0,
             kept: Vec::new(alloc),
             failing: Vec::new(alloc),
@@ -42,31 +38,22 @@ impl Disks {
     /// Goes on with a copy of the disk that was kept last by this name, or with an empty one where the name is `empty`.
     pub fn host(&mut self, alloc: Global, name: &[u8]) -> io::Result<()> {
         if name == b"empty".as_slice() {
-            self.disk = empty(alloc)?;
+            self.disk = Box::new(alloc, MemoryDisk::new(alloc)?)?;
             return Ok(());
         }
-        for (kept, disk) in self.kept.iter().rev() {
-            if kept.as_slice() == name {
-                self.disk = copy_of(alloc, disk)?;
-                return Ok(());
-            }
-        }
-        Err(bad())
-    }
-
-    /// Goes on with what a crash of this kind leaves.
-    pub fn crash(&mut self, alloc: Global, kind: &str) -> io::Result<()> {
-        self.disk = crashed(alloc, &self.disk, kind)?;
+        let mut kept = self.kept.iter().rev();
+        let (_, disk) = kept.find(|it| it.0.as_slice() == name).ok_or(bad())?;
+        self.disk = copy_of(alloc, disk)?;
         Ok(())
     }
 
     /// Lets a call of the next step fail, or all after so many.
-    pub fn arm(&mut self, alloc: Global, fault: Fault, number: u64) -> io::Result<()> {
+    pub fn arm(&mut self, fault: Fault, number: u64) -> io::Result<()> {
         let call = self.disk.calls().saturating_add(number);
         match fault {
             Fault::Fail => {
                 self.failing.push(call)?;
-                self.disk.fail_calls(self.failing.to_vec(alloc)?);
+                self.disk.fail_calls(self.failing.clone()?);
             }
             Fault::Stop => self.disk.stop_after(call),
         }

@@ -17,4 +17,4 @@ mod words;
 
 pub use disks::Disks;
 pub use rows::{Words, all_go};
-pub use telling::{at, directory_of, done, line, path_of, push_line, text_of};
+pub use telling::{directory_of, done};

@@ -1,53 +1,48 @@
 //! Rows over a disk: the words of a driver with those for the disk.
-use crate::crashes::copy_of;
+use crate::crashes::{copy_of, crashed};
 use crate::disks::Disks;
 use disk_memory::MemoryDisk;
-use row_files::{Fault, Given, Subject};
+use row_files::{Fault, Given, Subject, bad};
 use std::alloc::Global;
-use std::io::{self, ErrorKind};
+use std::io;
 use std::process::ExitCode;
 
 /// The words of a driver. What they keep goes with the disk: a loop makes its steps again from a copy of both.
-pub trait Words {
-    /// What the step of this word comes to; `bad()` where what it is given makes no step. A word of no driver is one of the disk.
-    fn make(
-        &mut self,
-        alloc: Global,
-        disks: &mut Disks,
-        word: &str,
-        given: Given<'_>,
-    ) -> io::Result<Vec<u8>>;
+pub trait Words: Clone + Drop {
+    /// What they keep at the start of a file.
+    fn new(alloc: Global) -> Self;
+
+    /// Tells what the step comes to; `bad()` where what it is given makes no step. A word of no driver is one of the disk.
+    fn make(&mut self, out: &mut Vec<u8>, disks: &mut Disks, given: Given<'_>) -> io::Result<()>;
 }
 
-// What files are gone through with: the disks, what the words keep, what they keep at the start of a file, and the states to which loops go back.
+// What files are gone through with: the disks, what the words keep, and the states to which loops go back.
 #[derive(Drop)]
-struct Rows<W: Words + Clone + Drop> {
+struct Rows<W: Words> {
     disks: Disks,
     words: W,
-    first: W,
     saved: Vec<(Box<MemoryDisk>, W)>,
 }
 
-// The answer of a call of a driver, or that there is no such thing.
-fn some_of<T: Drop>(made: io::Result<T>) -> io::Result<Option<T>> {
-    match made {
-        Ok(made) => Ok(Some(made)),
-        Err(error) if error.kind() == ErrorKind::InvalidInput => Ok(None),
-        Err(error) => Err(error),
+impl<W: Words> Subject for Rows<W> {
+    fn new(alloc: Global) -> io::Result<Rows<W>> {
+        Ok(Rows {
+            disks: Disks::new(alloc)?,
+            words: W::new(alloc),
+            saved: Vec::new(alloc),
+        })
     }
-}
 
-impl<W: Words + Clone + Drop> Subject for Rows<W> {
     fn begin(&mut self, alloc: Global) -> io::Result<()> {
-        self.words = self.first.clone()?;
+        self.words = W::new(alloc);
         self.disks.host(alloc, b"empty")
     }
 
-    fn make(&mut self, alloc: Global, word: &str, given: Given<'_>) -> io::Result<Option<Vec<u8>>> {
+    fn make(&mut self, out: &mut Vec<u8>, given: Given<'_>) -> io::Result<()> {
         let began = self.disks.disk.calls();
-        let made = self.words.make(alloc, &mut self.disks, word, given);
-        self.disks.end_step(alloc, word, began);
-        some_of(made)
+        let made = self.words.make(out, &mut self.disks, given);
+        self.disks.end_step(*out.allocator(), given.word, began);
+        made
     }
 
     fn save(&mut self, alloc: Global) -> io::Result<()> {
@@ -68,15 +63,16 @@ impl<W: Words + Clone + Drop> Subject for Rows<W> {
         self.saved.pop();
     }
 
-    fn arm(&mut self, alloc: Global, device: &str, fault: Fault, number: u64) -> io::Result<bool> {
-        if device == "disk" {
-            self.disks.arm(alloc, fault, number)?;
+    fn arm(&mut self, device: &str, fault: Fault, number: u64) -> io::Result<()> {
+        match device {
+            "disk" => self.disks.arm(fault, number),
+            _ => Err(bad()),
         }
-        Ok(device == "disk")
     }
 
-    fn crash(&mut self, alloc: Global, kind: &str) -> io::Result<bool> {
-        Ok(some_of(self.disks.crash(alloc, kind))?.is_some())
+    fn crash(&mut self, alloc: Global, kind: &str) -> io::Result<()> {
+        self.disks.disk = crashed(alloc, &self.disks.disk, kind)?;
+        Ok(())
     }
 
     fn calls(&self, _device: &str) -> u64 {
@@ -85,12 +81,6 @@ impl<W: Words + Clone + Drop> Subject for Rows<W> {
 }
 
 /// Goes through the files that the words of the program name, with these words besides those for a disk, as `row_files::all_go`.
-pub fn all_go<W: Words + Clone + Drop>(rt: &HostRuntime, words: W) -> io::Result<ExitCode> {
-    let mut rows = Rows {
-        disks: Disks::new(rt.alloc())?,
-        first: words.clone()?,
-        words,
-        saved: Vec::new(rt.alloc()),
-    };
-    row_files::all_go(rt, &mut rows)
+pub fn all_go<W: Words>(rt: &HostRuntime) -> io::Result<ExitCode> {
+    row_files::all_go::<Rows<W>>(rt)
 }

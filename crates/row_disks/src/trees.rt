@@ -1,23 +1,29 @@
 //! What is on a disk.
 use crate::crashes::copy_of;
-use crate::telling::path_of;
 use disk_memory::{MemoryDisk, Node};
 use outside::{Disk, Path};
-use row_files::bad;
-use std::alloc::{AllocError, Global};
+use row_files::{good, path_of};
+use std::alloc::Global;
 use std::io;
 
-/// What the file at the path holds.
-pub fn file(alloc: Global, disk: &MemoryDisk, text: &[u8]) -> io::Result<Vec<u8>> {
-    Ok(match disk.node(&path_of(alloc, text)?) {
-        Some(Node::File(bytes)) => bytes.as_slice().to_vec(alloc)?,
-        _ => b"no file\n".to_vec(alloc)?,
-    })
+/// Tells what the file at the path holds.
+pub fn file(out: &mut Vec<u8>, disk: &MemoryDisk, text: &[u8]) -> io::Result<()> {
+    let bytes = match disk.node(&path_of(*out.allocator(), text)?) {
+        Some(Node::File(bytes)) => bytes.as_slice(),
+        _ => b"no file\n",
+    };
+    Ok(out.extend_from_slice(bytes)?)
 }
 
-// Adds the bytes, with `\n` for each line feed and `\\` for each backslash.
-fn push_in_line(out: &mut Vec<u8>, mark: &[u8], bytes: &[u8]) -> Result<(), AllocError> {
-    out.extend_from_slice(mark)?;
+// Tells the path and what is there in a line, with `\n` for each line feed and `\\` for each backslash.
+fn push_node(out: &mut Vec<u8>, disk: &MemoryDisk, path: &Path) -> io::Result<()> {
+    out.extend_from_slice(&path.print()?)?;
+    let (mark, bytes) = match disk.node(path) {
+        Some(Node::Link(text)) => (" -> ", text.as_slice()),
+        Some(Node::File(bytes)) => (" = ", bytes.as_slice()),
+        None => ("", b"".as_slice()),
+    };
+    out.extend_from_slice(mark.as_bytes())?;
     for byte in bytes {
         match byte {
             b'\n' => out.extend_from_slice(b"\\n")?,
@@ -25,19 +31,7 @@ fn push_in_line(out: &mut Vec<u8>, mark: &[u8], bytes: &[u8]) -> Result<(), Allo
             _ => out.push(*byte)?,
         }
     }
-    Ok(())
-}
-
-// Adds the path with what is there, as a line.
-fn push_node(out: &mut Vec<u8>, disk: &MemoryDisk, path: &Path) -> Result<(), AllocError> {
-    out.extend_from_slice(&path.print()?)?;
-    match disk.node(path) {
-        Some(Node::Link(text)) => push_in_line(out, b" -> ", text.as_slice())?,
-        Some(Node::File(bytes)) => push_in_line(out, b" = ", bytes.as_slice())?,
-        None => {}
-    }
-    out.push(b'\n')?;
-    Ok(())
+    Ok(out.push(b'\n')?)
 }
 
 // The path to which a link of this text at the path leads: the text takes the place of its last name.
@@ -61,14 +55,14 @@ fn led(alloc: Global, disk: &MemoryDisk, text: &[u8]) -> io::Result<Path> {
     Ok(path)
 }
 
-/// A line for each path below this one, or below what the links there lead to.
-pub fn tree(alloc: Global, disk: &MemoryDisk, text: &[u8]) -> io::Result<Vec<u8>> {
+/// Tells a line for each path below this one, or below what the links there lead to.
+pub fn tree(out: &mut Vec<u8>, disk: &MemoryDisk, text: &[u8]) -> io::Result<()> {
+    let alloc = *out.allocator();
     let path = led(alloc, disk, text)?;
     // a copy, of which no call fails, and on which none is counted
     let found = copy_of(alloc, disk)?.list(alloc, &path);
-    let mut out = Vec::new(alloc);
-    for path in &found.ok().ok_or(bad())? {
-        push_node(&mut out, disk, path)?;
+    for path in &good(found)? {
+        push_node(out, disk, path)?;
     }
-    Ok(out)
+    Ok(())
 }

@@ -9,28 +9,11 @@ pub struct Turn<'a> {
     pub kind: &'a str,
 }
 
-/// Where a step is made: in which turn of the loop around it, and of the loop within that.
-#[derive(Clone, Copy)]
-pub struct At<'a> {
-    /// The turn of the loop.
-    pub outer: Turn<'a>,
-    /// The turn of the loop within it.
-    pub inner: Turn<'a>,
-}
-
 impl<'a> Turn<'a> {
     /// No loop.
     pub const NONE: Turn<'static> = Turn {
         number: 0,
         kind: "",
-    };
-}
-
-impl<'a> At<'a> {
-    /// In no loop.
-    pub const ONCE: At<'static> = At {
-        outer: Turn::NONE,
-        inner: Turn::NONE,
     };
 }
 
@@ -49,10 +32,10 @@ fn says(part: &str, turn: Turn<'_>) -> bool {
     }
 }
 
-/// Whether a line with this condition holds here.
-pub fn holds(when: &str, at: At<'_>) -> bool {
+/// Whether a line with this condition holds in this turn of the loop around its step and this one of the loop within that.
+pub fn holds(when: &str, outer: Turn<'_>, inner: Turn<'_>) -> bool {
     when.split(',').any(|part| {
-        let (outer, inner) = part.split_once(':').unwrap_or((part, ""));
-        says(outer, at.outer) && says(inner, at.inner)
+        let (of_outer, of_inner) = part.split_once(':').unwrap_or((part, ""));
+        says(of_outer, outer) && says(of_inner, inner)
     })
 }

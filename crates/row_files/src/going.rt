@@ -1,6 +1,5 @@
 //! Files that are gone through, and what they come to. Steps are made one after another; those of a loop once for each turn.
-use crate::conditions::{At, Turn};
-use crate::judging::{Mode, Tally};
+use crate::judging::{Mode, Run};
 use crate::loops::Loop;
 use crate::reading::{Step, steps_of};
 use crate::subject::Subject;
@@ -8,104 +7,97 @@ use std::io::{self, ErrorKind};
 use std::process::ExitCode;
 use std::{env, fs};
 
-// Where a file is: its steps, the loops around the next one, and what rows came to.
-#[derive(Drop)]
-struct Run<'a> {
-    tally: Tally<'a>,
-    steps: &'a [Step],
-    loops: Vec<Loop<'a>>,
-}
-
 impl<'a> Run<'a> {
-    fn at(&self) -> At<'a> {
-        At {
-            outer: self.loops.first().map_or(Turn::NONE, |it| it.turn),
-            inner: self.loops.get(1).map_or(Turn::NONE, |it| it.turn),
+    // Whether the driver knows what it was asked for; else the row of the step fails.
+    fn is_known(&mut self, step: &Step, answer: io::Result<()>) -> io::Result<bool> {
+        match answer {
+            Ok(()) => Ok(true),
+            Err(error) if error.kind() == ErrorKind::InvalidInput => {
+                self.refuse(step, "no such row\n")?;
+                Ok(false)
+            }
+            Err(error) => Err(error),
         }
     }
 
     // Makes a step, with at most so many bytes of what it is given, and judges it.
     fn step<S: Subject>(&mut self, subject: &mut S, step: &Step, cut: usize) -> io::Result<()> {
-        let (at, given) = (self.at(), step.given().cut(cut));
-        match subject.make(self.tally.rt.alloc(), step.word.as_str(), given) {
-            Ok(Some(shown)) => self.tally.judge(step, at, &shown),
-            Err(error) if error.kind() != ErrorKind::InvalidInput => Err(error),
-            _ => self.tally.refuse(step, at, "no such row\n"),
+        let mut shown = Vec::new(self.rt.alloc());
+        let made = subject.make(&mut shown, step.given().cut(cut));
+        if self.is_known(step, made)? {
+            self.judge(step, &shown)?;
         }
+        Ok(())
     }
 
     // Goes back to the state before the loop, and makes its first step in this turn. The index of the next one.
     fn begin_turn<S: Subject>(&mut self, subject: &mut S, of: Loop<'a>) -> io::Result<usize> {
-        let alloc = self.tally.rt.alloc();
+        let alloc = self.rt.alloc();
         self.loops.push(of)?;
         subject.restore(alloc)?;
-        let next = of.index.saturating_add(1);
         let mut cut = usize::MAX;
         if let Some(fault) = of.fault {
-            if !subject.arm(alloc, of.device, fault, of.turn.number)? {
-                let at = self.at();
-                self.tally.refuse(of.first, at, "no such device\n")?;
-                return Ok(next);
+            let armed = subject.arm(of.device, fault, of.turn.number);
+            if !self.is_known(of.first, armed)? {
+                return Ok(of.next);
             }
         } else {
             cut = usize::try_from(of.turn.number).unwrap_or(cut);
         }
         self.step(subject, of.first, cut)?;
-        if !of.turn.kind.is_empty() && !subject.crash(alloc, of.turn.kind)? {
-            let at = self.at();
-            self.tally.refuse(of.first, at, "no such crash\n")?;
+        if !of.turn.kind.is_empty() {
+            let crashed = subject.crash(alloc, of.turn.kind);
+            self.is_known(of.first, crashed)?;
         }
-        Ok(next)
+        Ok(of.next)
     }
 
-    // Begins the loop of the step with this index; there is at most one within another.
+    // Begins the loop of the step, whose first step has this index; there is at most one within another.
     fn enter<S: Subject>(
         &mut self,
         subject: &mut S,
         index: usize,
         step: &'a Step,
     ) -> io::Result<usize> {
-        let next = index.saturating_add(1);
         let words = str::from_utf8(&step.text).unwrap_or("");
-        match Loop::read(words, self.steps, next) {
+        match Loop::read(words, self.steps, index) {
             Some(of) if self.loops.len() < 2 => {
-                subject.save(self.tally.rt.alloc())?;
+                subject.save(self.rt.alloc())?;
                 self.begin_turn(subject, of)
             }
             _ => {
-                let at = self.at();
-                self.tally.refuse(step, at, "no such loop\n")?;
-                Ok(next)
+                self.refuse(step, "no such loop\n")?;
+                Ok(index)
             }
         }
     }
 
-    // Begins the next turn of the last loop, or ends it.
+    // Begins the next turn of the last loop, or ends it. The index of the next step, by default this one.
     fn end<S: Subject>(&mut self, subject: &mut S, index: usize, step: &Step) -> io::Result<usize> {
         match self.loops.pop() {
-            Some(of) => match of.next() {
+            Some(of) => match of.next_turn() {
                 Some(of) => return self.begin_turn(subject, of),
                 None => self.leave(subject, of)?,
             },
-            None => self.tally.refuse(step, At::ONCE, "no such loop\n")?,
+            None => self.refuse(step, "no such loop\n")?,
         }
-        Ok(index.saturating_add(1))
+        Ok(index)
     }
 
     // Ends a loop: its last number was that of the calls which its first step makes where none fails, or of the bytes that it is given, and the state is again
     // that before it.
     fn leave<S: Subject>(&mut self, subject: &mut S, of: Loop<'a>) -> io::Result<()> {
-        let (alloc, given) = (self.tally.rt.alloc(), of.first.given());
+        let (alloc, given) = (self.rt.alloc(), of.first.given());
         subject.restore(alloc)?;
         let mut calls = u64::try_from(given.input().len()).unwrap_or(u64::MAX);
         if of.fault.is_some() {
-            subject.make(alloc, of.first.word.as_str(), given)?;
+            // what it comes to was judged in each turn
+            let _ = subject.make(&mut Vec::new(alloc), given);
             calls = subject.calls(of.device);
         }
         if calls != of.calls {
             let why = format!(in alloc; "the loop goes to {calls}\n")?;
-            let at = self.at();
-            self.tally.refuse(of.first, at, why.as_str())?;
+            self.refuse(of.first, why.as_str())?;
         }
         subject.restore(alloc)?;
         subject.forget();
@@ -119,17 +111,18 @@ impl<'a> Run<'a> {
             let Some(step) = self.steps.get(index) else {
                 break;
             };
+            let next = index.saturating_add(1);
             index = match step.word.as_str() {
-                "each" => self.enter(subject, index, step)?,
-                "end" => self.end(subject, index, step)?,
+                "each" => self.enter(subject, next, step)?,
+                "end" => self.end(subject, next, step)?,
                 _ => {
                     self.step(subject, step, usize::MAX)?;
-                    index.saturating_add(1)
+                    next
                 }
             };
         }
         match self.loops.pop() {
-            Some(of) => self.tally.refuse(of.first, At::ONCE, "no end\n"),
+            Some(of) => self.refuse(of.first, "no end\n"),
             None => Ok(()),
         }
     }
@@ -140,20 +133,17 @@ fn goes<S: Subject>(rt: &HostRuntime, file: &str, mode: Mode, subject: &mut S) -
     let text = fs::read_to_string(rt, file)?;
     let (steps, rows) = steps_of(rt.alloc(), text.as_str())?;
     let mut run = Run {
-        tally: Tally {
-            rt,
-            file,
-            mode,
-            held: 0,
-            failed: 0,
-        },
+        rt,
+        file,
+        mode,
+        held: 0,
+        failed: 0,
         steps: &steps,
         loops: Vec::new(rt.alloc()),
     };
     subject.begin(rt.alloc())?;
     run.go(subject)?;
-    let Tally { held, failed, .. } = run.tally;
-    let is_well = run.tally.is_well(rows);
+    let (held, failed, is_well) = (run.held, run.failed, run.is_well(rows));
     if is_well {
         println!(rt; "{file}")?;
     } else {
@@ -165,7 +155,8 @@ fn goes<S: Subject>(rt: &HostRuntime, file: &str, mode: Mode, subject: &mut S) -
 /// Goes through the files that the words of the program name, and prints the name of each whose rows are as it says. In a file after the word `--wrong`
 /// no row is to hold; in one after `--show` each row is printed with what it comes to. The exit status is 1 where one is not as it says, and where no file is
 /// named.
-pub fn all_go<S: Subject>(rt: &HostRuntime, subject: &mut S) -> io::Result<ExitCode> {
+pub fn all_go<S: Subject>(rt: &HostRuntime) -> io::Result<ExitCode> {
+    let mut subject = S::new(rt.alloc())?;
     let (mut mode, mut files, mut well) = (Mode::Right, 0u64, 0u64);
     for word in env::args(rt)?.skip(1) {
         match word.as_str() {
@@ -173,7 +164,7 @@ pub fn all_go<S: Subject>(rt: &HostRuntime, subject: &mut S) -> io::Result<ExitC
             "--show" => mode = Mode::Shown,
             file => {
                 files = files.saturating_add(1);
-                well = well.saturating_add(u64::from(goes(rt, file, mode, subject)?));
+                well = well.saturating_add(u64::from(goes(rt, file, mode, &mut subject)?));
             }
         }
     }

@@ -18,4 +18,6 @@ mod words;
 
 pub use going::all_go;
 pub use subject::{Fault, Given, Subject};
-pub use words::{bad, halves, parts, words_of};
+pub use words::{
+    at, bad, good, halves, key_of, keys_of, line, number_of, parts, path_of, text_of, words_of,
+};

@@ -6,6 +6,7 @@
 use crate::conditions::Turn;
 use crate::reading::Step;
 use crate::subject::Fault;
+use crate::words::parts;
 
 /// A loop in one of its turns.
 #[derive(Clone, Copy)]
@@ -18,8 +19,8 @@ pub struct Loop<'a> {
     pub calls: u64,
     /// Its first step.
     pub first: &'a Step,
-    /// The index of its first step.
-    pub index: usize,
+    /// The index of the step after it.
+    pub next: usize,
     /// The turn.
     pub turn: Turn<'a>,
     // The last number.
@@ -29,65 +30,45 @@ pub struct Loop<'a> {
     left: &'a str,
 }
 
-// The first of the words, and the others.
-fn taken(words: &str) -> (&str, &str) {
-    words.split_once(' ').unwrap_or((words, ""))
-}
-
-// The first and the last number of `A-B`.
-fn range_of(range: &str) -> Option<(u64, u64)> {
-    let (first, last) = range.split_once('-').unwrap_or((range, range));
-    Some((first.parse::<u64>().ok()?, last.parse::<u64>().ok()?))
-}
-
-// The number of calls that `of N` says, or else this one, and the words after it.
-fn calls_of(words: &str, last: u64) -> Option<(u64, &str)> {
-    let Some(words) = words.strip_prefix("of ") else {
-        return Some((last, words));
-    };
-    let (count, rest) = taken(words);
-    Some((count.parse::<u64>().ok()?, rest))
-}
-
 impl<'a> Loop<'a> {
     /// The loop of these words in its first turn, whose first step is the one of this index.
     pub fn read(words: &'a str, steps: &'a [Step], index: usize) -> Option<Loop<'a>> {
-        let (word, rest) = taken(words);
+        let (word, rest) = parts(words);
         let (fault, device, rest) = match word {
             "cut" => (None, "", rest),
-            "fail" => (Some(Fault::Fail), taken(rest).0, taken(rest).1),
-            "stop" => (Some(Fault::Stop), taken(rest).0, taken(rest).1),
+            "fail" => (Some(Fault::Fail), parts(rest).0, parts(rest).1),
+            "stop" => (Some(Fault::Stop), parts(rest).0, parts(rest).1),
             _ => return None,
         };
-        let (range, rest) = taken(rest);
-        let (number, last) = range_of(range)?;
-        let (calls, kinds) = calls_of(rest, last)?;
-        let (kind, left) = taken(kinds);
+        let (range, rest) = parts(rest);
+        let (number, last) = range.split_once('-').unwrap_or((range, range));
+        let (calls, kinds) = match rest.strip_prefix("of ") {
+            Some(rest) => parts(rest),
+            None => (last, rest),
+        };
+        let (kind, left) = parts(kinds);
+        let number = number.parse::<u64>().ok()?;
         Some(Loop {
             fault,
             device,
-            calls,
+            calls: calls.parse::<u64>().ok()?,
             first: steps.get(index)?,
-            index,
+            next: index.saturating_add(1),
             turn: Turn { number, kind },
-            last,
+            last: last.parse::<u64>().ok()?,
             kinds,
             left,
         })
     }
 
     /// The loop in its next turn: the next kind of crash, or else the next number.
-    pub fn next(self) -> Option<Loop<'a>> {
-        let number = self.turn.number;
-        if self.left.is_empty() && number >= self.last {
-            return None;
-        }
-        let (number, kinds) = if self.left.is_empty() {
-            (number.saturating_add(1), self.kinds)
-        } else {
-            (number, self.left)
+    pub fn next_turn(self) -> Option<Loop<'a>> {
+        let (number, kinds) = match (self.left, self.turn.number) {
+            ("", number) if number >= self.last => return None,
+            ("", number) => (number.saturating_add(1), self.kinds),
+            (left, number) => (number, left),
         };
-        let (kind, left) = taken(kinds);
+        let (kind, left) = parts(kinds);
         let turn = Turn { number, kind };
         Some(Loop { turn, left, ..self })
     }

@@ -1,5 +1,5 @@
 //! The steps of a text.
-use crate::conditions::{At, holds};
+use crate::conditions::{Turn, holds};
 use crate::escapes::unescaped;
 use crate::subject::Given;
 use std::alloc::{AllocError, Global};
@@ -33,16 +33,22 @@ impl Step {
     /// What is given to it.
     pub fn given(&self) -> Given<'_> {
         Given {
+            word: self.word.as_str(),
             text: &self.text,
             lines: self.lines.as_deref(),
         }
     }
 
-    /// The bytes that it is to come to here, and whether more may follow.
-    pub fn wanted_at(&self, alloc: Global, at: At<'_>) -> Result<(Vec<u8>, bool), AllocError> {
+    /// The bytes that it is to come to in these turns of the loops around it, and whether more may follow.
+    pub fn wanted_at(
+        &self,
+        alloc: Global,
+        outer: Turn<'_>,
+        inner: Turn<'_>,
+    ) -> Result<(Vec<u8>, bool), AllocError> {
         let mut bytes = Vec::new(alloc);
         for wanted in &self.wanted {
-            if holds(wanted.when.as_str(), at) {
+            if holds(wanted.when.as_str(), outer, inner) {
                 if wanted.open {
                     return Ok((bytes, true));
                 }
@@ -74,28 +80,23 @@ fn line_bytes(alloc: Global, line: &str) -> Result<Vec<u8>, AllocError> {
     Ok(bytes)
 }
 
-fn wanted_line(alloc: Global, when: &str, line: &str) -> Result<Wanted, AllocError> {
-    Ok(Wanted {
-        when: String::from_str(alloc, when)?,
-        bytes: line_bytes(alloc, line)?,
-        open: line == "...",
-    })
-}
-
 // Adds a line to what the step is to come to: a condition alone holds for the lines that follow, and one before a text for this line.
 fn want(alloc: Global, step: &mut Step, line: &str) -> Result<(), AllocError> {
-    let added = match line
-        .strip_prefix('@')
-        .map(|it| it.split_once(' ').ok_or(it))
-    {
-        Some(Err(when)) => {
-            step.when = String::from_str(alloc, when)?;
-            return Ok(());
-        }
-        Some(Ok((when, text))) => wanted_line(alloc, when, text)?,
-        None => wanted_line(alloc, step.when.as_str(), line)?,
+    let (when, text) = match line.strip_prefix('@') {
+        Some(line) => line.split_once(' ').unwrap_or((line, "")),
+        None => (step.when.as_str(), line),
     };
-    Ok(step.wanted.push(added)?)
+    let when = String::from_str(alloc, when)?;
+    if line.starts_with('@') && !line.contains(' ') {
+        step.when = when;
+        return Ok(());
+    }
+    step.wanted.push(Wanted {
+        when,
+        bytes: line_bytes(alloc, text)?,
+        open: text == "...",
+    })?;
+    Ok(())
 }
 
 fn step_of(alloc: Global, number: usize, line: &str) -> Result<Step, AllocError> {
@@ -135,14 +136,6 @@ fn add(alloc: Global, steps: &mut Vec<Step>, number: usize, line: &str) -> Resul
     Ok(())
 }
 
-// How many comparisons the step says that the file makes, where it is the line that says so.
-fn rows_of(step: &Step) -> Option<u64> {
-    if step.word.as_str() != "rows" {
-        return None;
-    }
-    str::from_utf8(&step.text).ok()?.parse::<u64>().ok()
-}
-
 /// The steps of the text, and how many comparisons its last line says that it makes, 0 where that line is missing. The only error is out of memory.
 pub fn steps_of(alloc: Global, text: &str) -> Result<(Vec<Step>, u64), AllocError> {
     let mut steps = Vec::new(alloc);
@@ -151,7 +144,8 @@ pub fn steps_of(alloc: Global, text: &str) -> Result<(Vec<Step>, u64), AllocErro
         number = number.saturating_add(1);
         add(alloc, &mut steps, number, line)?;
     }
-    let rows = steps.last().and_then(rows_of);
+    let rows = text.lines().last().and_then(|it| it.strip_prefix("rows "));
+    let rows = rows.and_then(|it| it.parse::<u64>().ok());
     if rows.is_some() {
         steps.pop();
     }

@@ -1,11 +1,13 @@
 //! What a file of rows is about: a driver of one layer.
-use crate::words::bad;
+use crate::words::{bad, text_of};
 use std::alloc::Global;
 use std::io;
 
 /// What a step is given.
 #[derive(Clone, Copy)]
 pub struct Given<'a> {
+    /// Its word.
+    pub word: &'a str,
     /// What is after its word, on its line.
     pub text: &'a [u8],
     /// What the lines below it give; none where there are no such lines.
@@ -20,22 +22,29 @@ impl<'a> Given<'a> {
 
     /// The same as a text. The only error is `bad()`, where it is none.
     pub fn input_text(&self) -> io::Result<&'a str> {
-        str::from_utf8(self.input()).ok().ok_or(bad())
+        text_of(self.input())
+    }
+
+    /// The lines below the step; nothing where there are none.
+    pub fn below(&self) -> &'a [u8] {
+        self.lines.unwrap_or(b"")
     }
 
     /// What is after its word, as a text. The only error is `bad()`, where it is none.
     pub fn words(&self) -> io::Result<&'a str> {
-        str::from_utf8(self.text).ok().ok_or(bad())
+        text_of(self.text)
     }
 
     /// The same with at most so many bytes of its input.
     pub fn cut(self, count: usize) -> Given<'a> {
-        let (mut text, mut lines) = (self.text, self.lines);
-        match lines {
-            Some(all) => lines = Some(all.get(..count).unwrap_or(all)),
-            None => text = text.get(..count).unwrap_or(text),
+        let cut = self.input().get(..count).unwrap_or(self.input());
+        match self.lines {
+            Some(_) => Given {
+                lines: Some(cut),
+                ..self
+            },
+            None => Given { text: cut, ..self },
         }
-        Given { text, lines }
     }
 }
 
@@ -48,14 +57,19 @@ pub enum Fault {
     Stop,
 }
 
-/// A driver: what rows of its words come to. One without devices has `begin` and `make` alone, and can loop by `each cut`.
-pub trait Subject {
-    /// Begins a file: nothing of an earlier one is left, but what words of the driver have kept by name.
-    fn begin(&mut self, alloc: Global) -> io::Result<()>;
+/// A driver: what rows of its words come to. One without devices has `new` and `make` alone, and can loop by `each cut`.
+pub trait Subject: Drop {
+    /// The driver at the start of a file.
+    fn new(alloc: Global) -> io::Result<Self>;
 
-    /// What the step of this word comes to, as bytes. `None` and `bad()` where the word is none of the driver's, or what it is given makes no step: the row
-    /// fails.
-    fn make(&mut self, alloc: Global, word: &str, given: Given<'_>) -> io::Result<Option<Vec<u8>>>;
+    /// Begins a further file: nothing of an earlier one is left, but what words of the driver have kept by name.
+    fn begin(&mut self, alloc: Global) -> io::Result<()> {
+        *self = Self::new(alloc)?;
+        Ok(())
+    }
+
+    /// Tells what the step comes to, as bytes. `bad()` where the word is none of the driver's, or what it is given makes no step: the row fails.
+    fn make(&mut self, out: &mut Vec<u8>, given: Given<'_>) -> io::Result<()>;
 
     /// Keeps a copy of the state on top of those that are kept.
     fn save(&mut self, _alloc: Global) -> io::Result<()> {
@@ -70,20 +84,14 @@ pub trait Subject {
     /// Lets the state go that was kept last.
     fn forget(&mut self) {}
 
-    /// Lets a call of the device go wrong in the next step. Whether there is such a device.
-    fn arm(
-        &mut self,
-        _alloc: Global,
-        _device: &str,
-        _fault: Fault,
-        _number: u64,
-    ) -> io::Result<bool> {
-        Ok(false)
+    /// Lets a call of the device go wrong in the next step. `bad()` where there is no such device.
+    fn arm(&mut self, _device: &str, _fault: Fault, _number: u64) -> io::Result<()> {
+        Err(bad())
     }
 
-    /// Leaves what a crash of this kind leaves of the disk. Whether there is such a kind.
-    fn crash(&mut self, _alloc: Global, _kind: &str) -> io::Result<bool> {
-        Ok(false)
+    /// Leaves what a crash of this kind leaves of the disk. `bad()` where there is no such kind.
+    fn crash(&mut self, _alloc: Global, _kind: &str) -> io::Result<()> {
+        Err(bad())
     }
 
     /// How many calls of the device there were since the state was restored.

@@ -11,53 +11,50 @@
 
 mod runs;
 
-use crate::runs::Client;
+use crate::runs::{Client, Faults};
 use host_client::{ReplyError, read_reply};
-use row_files::{Given, Subject, all_go, bad};
-use std::alloc::{AllocError, Global};
-use std::io;
+use row_files::{Given, Subject, all_go, bad, line};
+use std::alloc::Global;
+use std::io::{self, Write};
 use std::process::ExitCode;
 
-#[derive(Drop)]
-struct Rows {
-    client: Client,
-}
-
-// The status and the body of the reply, or that it is none.
-fn reply(alloc: Global, bytes: &[u8]) -> Result<Vec<u8>, AllocError> {
-    match read_reply(alloc, bytes) {
+// Tells the status and the body of the reply, or that it is none.
+fn reply(out: &mut Vec<u8>, bytes: &[u8]) -> io::Result<()> {
+    match read_reply(*out.allocator(), bytes) {
         Ok(got) => {
-            let mut shown = format!(in alloc; "{}\n", got.status)?.into_bytes();
-            shown.extend_from_slice(got.body.as_slice())?;
-            Ok(shown)
+            writeln!(out, "{}", got.status)?;
+            Ok(out.extend_from_slice(got.body.as_slice())?)
         }
-        Err(ReplyError::BadReply) => b"bad reply\n".to_vec(alloc),
-        Err(ReplyError::Memory) => Err(AllocError),
+        Err(ReplyError::BadReply) => line(out, &["bad reply"]),
+        Err(ReplyError::Memory) => line(out, &["memory"]),
     }
 }
 
-impl Subject for Rows {
-    fn begin(&mut self, alloc: Global) -> io::Result<()> {
-        self.client = Client::new(alloc);
-        Ok(())
+impl Subject for Client {
+    fn new(alloc: Global) -> io::Result<Client> {
+        Ok(Client {
+            answer: Vec::new(alloc),
+            further: Vec::new(alloc),
+            sent: Vec::new(alloc),
+            faults: Faults::NONE,
+        })
     }
 
-    fn make(&mut self, alloc: Global, word: &str, given: Given<'_>) -> io::Result<Option<Vec<u8>>> {
-        let mut shown = Vec::new(alloc);
-        match word {
-            "reply" => shown = reply(alloc, given.input())?,
-            "server" => self.client.answer = given.input().to_vec(alloc)?,
-            "then" => self.client.further.push(given.input().to_vec(alloc)?)?,
-            "sent" => shown.extend_from_slice(&self.client.sent)?,
-            "fail" => self.client.fail(given.words()?)?,
-            "$" => shown = self.client.run(alloc, given.words()?, given.lines)?,
+    fn make(&mut self, out: &mut Vec<u8>, given: Given<'_>) -> io::Result<()> {
+        let alloc = *out.allocator();
+        match given.word {
+            "reply" => reply(out, given.input())?,
+            "server" => self.answer = given.input().to_vec(alloc)?,
+            "then" => self.further.push(given.input().to_vec(alloc)?)?,
+            "sent" => out.extend_from_slice(&self.sent)?,
+            "fail" => self.faults.set(given.words()?)?,
+            "$" => self.run(out, given.words()?, given.lines)?,
             _ => return Err(bad()),
         }
-        Ok(Some(shown))
+        Ok(())
     }
 }
 
 fn main(rt: HostRuntime) -> io::Result<ExitCode> {
-    let client = Client::new(rt.alloc());
-    all_go(&rt, &mut Rows { client })
+    all_go::<Client>(&rt)
 }

@@ -1,13 +1,14 @@
 //! Runs of the client.
 use disk_memory::{Input, MemoryLink, MemorySink};
 use host_client::run_client;
-use row_files::{bad, parts, words_of};
+use row_files::{bad, line, number_of, parts, words_of};
 use std::alloc::{AllocError, Global};
-use std::{io, mem};
+use std::io::{self, Write};
+use std::mem;
 
-// Which calls of a link fail in the next run, the link with this number, and how many bytes the output takes.
+/// Which calls of a link fail in the next run, the link with this number, and how many bytes the output takes.
 #[derive(Clone, Copy)]
-struct Faults {
+pub struct Faults {
     link: u64,
     connect: Option<u64>,
     read: Option<u64>,
@@ -16,7 +17,8 @@ struct Faults {
 }
 
 impl Faults {
-    const NONE: Faults = Faults {
+    /// Nothing goes wrong.
+    pub const NONE: Faults = Faults {
         link: 1,
         connect: None,
         read: None,
@@ -24,13 +26,41 @@ impl Faults {
         room: u64::MAX,
     };
 
-    // Those of the link with this number.
-    fn of_link(self, number: u64) -> Faults {
-        if self.link == number {
+    /// Lets a call fail, of a device and with a number; a second number is that of the link, by default 1.
+    pub fn set(&mut self, text: &str) -> io::Result<()> {
+        let (device, numbers) = parts(text);
+        let (number, link) = parts(numbers);
+        let number = number_of(number)?;
+        if !link.is_empty() {
+            self.link = number_of(link)?;
+        }
+        match device {
+            "connect" => self.connect = Some(number),
+            "read" => self.read = Some(number),
+            "write" => self.write = Some(number),
+            "output" => self.room = number,
+            _ => return Err(bad()),
+        }
+        Ok(())
+    }
+
+    // The link with this number, to a server that answers this in one piece.
+    fn link(self, alloc: Global, number: u64, answer: &[u8]) -> Result<MemoryLink, AllocError> {
+        let faults = if self.link == number {
             self
         } else {
             Faults::NONE
+        };
+        let input = Input {
+            pieces: vec![in alloc; answer.to_vec(alloc)?]?,
+            read_fails: faults.read,
+            write_fails: faults.write,
+        };
+        let mut link = MemoryLink::of_input(alloc, input);
+        if let Some(number) = faults.connect {
+            link.fail_connect(number);
         }
+        Ok(link)
     }
 }
 
@@ -43,100 +73,47 @@ pub struct Client {
     pub further: Vec<Vec<u8>>,
     /// What the last run sent.
     pub sent: Vec<u8>,
-    faults: Faults,
-}
-
-// The link to a server that answers this in one piece.
-fn link_of(alloc: Global, answer: &[u8], faults: Faults) -> Result<MemoryLink, AllocError> {
-    let input = Input {
-        pieces: vec![in alloc; answer.to_vec(alloc)?]?,
-        read_fails: faults.read,
-        write_fails: faults.write,
-    };
-    let mut link = MemoryLink::of_input(alloc, input);
-    if let Some(number) = faults.connect {
-        link.fail_connect(number);
-    }
-    Ok(link)
-}
-
-// A link for each of the answers.
-fn links_of(
-    alloc: Global,
-    first: &[u8],
-    further: &[Vec<u8>],
-    faults: Faults,
-) -> Result<Vec<MemoryLink>, AllocError> {
-    let mut links = vec![in alloc; link_of(alloc, first, faults.of_link(1))?]?;
-    let mut number = 1u64;
-    for answer in further {
-        number = number.saturating_add(1);
-        links.push(link_of(alloc, answer, faults.of_link(number))?)?;
-    }
-    Ok(links)
-}
-
-// What was sent over the links.
-fn sent_over(alloc: Global, links: &[MemoryLink]) -> Result<Vec<u8>, AllocError> {
-    let mut sent = Vec::new(alloc);
-    for link in links {
-        sent.extend_from_slice(link.output())?;
-    }
-    Ok(sent)
-}
-
-// The status, whether anything was sent, and what was printed.
-fn told(alloc: Global, status: u8, sent: &[u8], printed: &[u8]) -> Result<Vec<u8>, AllocError> {
-    let mut told = Vec::new(alloc);
-    if status != 0 {
-        told.extend_from_slice(format!(in alloc; "[{status}]\n")?.as_str().as_bytes())?;
-    }
-    if sent.is_empty() {
-        told.extend_from_slice(b"nothing sent\n")?;
-    }
-    told.extend_from_slice(printed)?;
-    Ok(told)
+    /// What goes wrong in the next run.
+    pub faults: Faults,
 }
 
 impl Client {
-    /// The server answers nothing, nothing goes wrong, and nothing was sent so far.
-    pub fn new(alloc: Global) -> Client {
-        Client {
-            answer: Vec::new(alloc),
-            further: Vec::new(alloc),
-            sent: Vec::new(alloc),
-            faults: Faults::NONE,
-        }
-    }
-
-    /// Lets a call fail in the next run, of a device and with a number; a second number is that of the link, by default 1.
-    pub fn fail(&mut self, text: &str) -> io::Result<()> {
-        let (device, numbers) = parts(text);
-        let (number, link) = parts(numbers);
-        let number = number.parse::<u64>().ok().ok_or(bad())?;
-        if !link.is_empty() {
-            self.faults.link = link.parse::<u64>().ok().ok_or(bad())?;
-        }
-        match device {
-            "connect" => self.faults.connect = Some(number),
-            "read" => self.faults.read = Some(number),
-            "write" => self.faults.write = Some(number),
-            "output" => self.faults.room = number,
-            _ => return Err(bad()),
-        }
-        Ok(())
-    }
-
-    /// Runs the client with the words between the bars, over a server that answers this, or what it is to answer. What it comes to.
-    pub fn run(&mut self, alloc: Global, text: &str, answer: Option<&[u8]>) -> io::Result<Vec<u8>> {
-        let words = words_of(alloc, text, '|')?;
+    // The links of the next run, to a server that answers this first, or what it is to answer.
+    fn links(
+        &mut self,
+        alloc: Global,
+        answer: Option<&[u8]>,
+    ) -> Result<Vec<MemoryLink>, AllocError> {
         let faults = mem::replace(&mut self.faults, Faults::NONE);
         let further = mem::replace(&mut self.further, Vec::new(alloc));
         let first = answer.unwrap_or(&self.answer);
-        let mut links = links_of(alloc, first, &further, faults)?;
-        let mut output = MemorySink::fail_from(alloc, faults.room);
+        let mut links = vec![in alloc; faults.link(alloc, 1, first)?]?;
+        let mut number = 1u64;
+        for answer in &further {
+            number = number.saturating_add(1);
+            links.push(faults.link(alloc, number, answer)?)?;
+        }
+        Ok(links)
+    }
+
+    /// Runs the client with the words between the bars, over a server that answers this, or what it is to answer. Tells the status, whether anything was sent,
+    /// and what was printed.
+    pub fn run(&mut self, out: &mut Vec<u8>, text: &str, answer: Option<&[u8]>) -> io::Result<()> {
+        let alloc = *out.allocator();
+        let words = words_of(alloc, text, '|')?;
+        let mut output = MemorySink::fail_from(alloc, self.faults.room);
+        let mut links = self.links(alloc, answer)?;
         let status = run_client(alloc, &words, &mut links, &mut output);
-        self.sent = sent_over(alloc, &links)?;
-        Ok(told(alloc, status, &self.sent, output.written())?)
+        self.sent.clear();
+        for link in &links {
+            self.sent.extend_from_slice(link.output())?;
+        }
+        if status != 0 {
+            writeln!(out, "[{status}]")?;
+        }
+        if self.sent.is_empty() {
+            line(out, &["nothing sent"])?;
+        }
+        Ok(out.extend_from_slice(output.written())?)
     }
 }

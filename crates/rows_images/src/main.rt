@@ -13,9 +13,8 @@ mod links;
 mod models;
 mod table;
 mod templates;
-mod texts;
 
-use row_disks::{Disks, Words, text_of};
+use row_disks::{Disks, Words};
 use row_files::Given;
 use std::alloc::Global;
 use std::io;
@@ -29,38 +28,36 @@ struct ImageWords {
 }
 
 impl Words for ImageWords {
-    fn make(
-        &mut self,
-        alloc: Global,
-        disks: &mut Disks,
-        word: &str,
-        given: Given<'_>,
-    ) -> io::Result<Vec<u8>> {
-        match word {
+    fn new(alloc: Global) -> ImageWords {
+        let (types, model) = (Vec::new(alloc), Vec::new(alloc));
+        ImageWords { types, model }
+    }
+
+    fn make(&mut self, out: &mut Vec<u8>, disks: &mut Disks, given: Given<'_>) -> io::Result<()> {
+        match given.word {
             "types" => {
-                self.types = given.input().to_vec(alloc)?;
-                table::told(alloc, &self.types)
+                self.types = given.input().to_vec(*out.allocator())?;
+                table::told(out, &self.types)
             }
-            "fits" | "finds" => table::made(alloc, &self.types, word, text_of(given.text)?),
-            "model" => models::told(alloc, given.input()),
+            "fits" | "finds" => table::tell(out, &self.types, given.word, given.words()?),
+            "model" => models::tell(out, given.input()),
             "links" => {
-                self.model = given.input().to_vec(alloc)?;
-                links::told(alloc, &self.model)
+                self.model = given.input().to_vec(*out.allocator())?;
+                links::told(out, &self.model)
             }
             "near" | "below" | "affected" | "files" | "commands" | "steps" => {
-                links::made(alloc, &self.model, word, text_of(given.text)?)
+                links::tell(out, &self.model, given.word, given.words()?)
             }
-            "reads" => templates::read_by(alloc, given.input()),
-            "covers" => templates::cover(alloc, &self.model, given),
+            "reads" => templates::read_by(out, given.input()),
+            "covers" => templates::cover(out, &self.model, given),
             "image" | "coverage" if given.text.is_empty() => {
-                images::made(alloc, &mut disks.disk, word)
+                images::tell(out, &mut disks.disk, given.word)
             }
-            _ => disks.make(alloc, word, given),
+            _ => disks.make(out, given),
         }
     }
 }
 
 fn main(rt: HostRuntime) -> io::Result<ExitCode> {
-    let (types, model) = (Vec::new(rt.alloc()), Vec::new(rt.alloc()));
-    row_disks::all_go(&rt, ImageWords { types, model })
+    row_disks::all_go::<ImageWords>(&rt)
 }

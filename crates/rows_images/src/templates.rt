@@ -1,33 +1,26 @@
 //! What templates read, and whether their files are covered.
-use crate::texts::listed_keys;
+use crate::links::{list_keys, manifest_of};
 use coverage_report::{FileCoverage, lines_of};
 use depend_check::{covered, reads};
 use key_names::Text;
-use metadata_links::Manifest;
-use model_file::Model;
-use row_disks::text_of;
-use row_files::{Given, bad};
-use std::alloc::Global;
+use row_files::{Given, good};
 use std::io;
-use template_reader::{Template, read};
+use template_reader::read;
 
-fn template_of(alloc: Global, source: &[u8]) -> io::Result<Template> {
-    read(alloc, source).ok().ok_or(bad())
+/// Tells the paths that the template reads.
+pub fn read_by(out: &mut Vec<u8>, source: &[u8]) -> io::Result<()> {
+    let alloc = *out.allocator();
+    let keys = reads(alloc, &good(read(alloc, source))?)?;
+    list_keys(out, "reads", &keys)
 }
 
-/// The paths that the template reads.
-pub fn read_by(alloc: Global, source: &[u8]) -> io::Result<Vec<u8>> {
-    let keys = listed_keys(alloc, &reads(alloc, &template_of(alloc, source)?)?)?;
-    Ok(format!(in alloc; "reads{keys}\n")?.into_bytes())
-}
-
-/// Whether the file of this model file, with this template, is covered, as a line of a report.
-pub fn cover(alloc: Global, model: &[u8], given: Given<'_>) -> io::Result<Vec<u8>> {
-    let model = Model::read(alloc, model).ok().ok_or(bad())?;
-    let manifest = Manifest::of(alloc, &model.content).ok().ok_or(bad())?;
-    let template = template_of(alloc, given.lines.unwrap_or(b""))?;
-    let file = Text::from_str(alloc, text_of(given.text)?)?;
+/// Tells whether the file of this model file, with this template, is covered, as a line of a report.
+pub fn cover(out: &mut Vec<u8>, model: &[u8], given: Given<'_>) -> io::Result<()> {
+    let alloc = *out.allocator();
+    let (model, manifest) = manifest_of(alloc, model)?;
+    let template = good(read(alloc, given.below()))?;
+    let file = Text::from_str(alloc, given.words()?)?;
     let coverage = covered(alloc, &manifest, &model.types, &template, given.text)?;
     let checks = vec![in alloc; FileCoverage { file, coverage }]?;
-    Ok(lines_of(alloc, &checks)?)
+    Ok(out.extend_from_slice(&lines_of(alloc, &checks)?)?)
 }

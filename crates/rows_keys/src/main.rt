@@ -21,20 +21,18 @@ use std::process::ExitCode;
 struct Rows;
 
 impl Subject for Rows {
-    fn begin(&mut self, _alloc: Global) -> io::Result<()> {
-        Ok(())
+    fn new(_alloc: Global) -> io::Result<Rows> {
+        Ok(Rows)
     }
 
-    fn make(&mut self, alloc: Global, word: &str, given: Given<'_>) -> io::Result<Option<Vec<u8>>> {
-        let (mut out, input) = (Vec::new(alloc), given.input());
-        match word {
-            "path" | "child" | "joined" | "paths" => paths::tell(alloc, &mut out, word, input)?,
-            _ => keys::tell(alloc, &mut out, word, input)?,
+    fn make(&mut self, out: &mut Vec<u8>, given: Given<'_>) -> io::Result<()> {
+        match given.word {
+            "path" | "child" | "joined" | "paths" => paths::tell(out, given.word, given.input()),
+            _ => keys::tell(out, given.word, given.input()),
         }
-        Ok(Some(out))
     }
 }
 
 fn main(rt: HostRuntime) -> io::Result<ExitCode> {
-    all_go(&rt, &mut Rows)
+    all_go::<Rows>(&rt)
 }

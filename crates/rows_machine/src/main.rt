@@ -14,11 +14,11 @@
 mod replies;
 mod steps;
 
-use crate::steps::{booted, path_of, put_file, step};
+use crate::steps::{booted, put_file, tell};
 use disk_memory::MemoryDisk;
 use machine_replies::Host;
 use outside::Disk;
-use row_files::{Given, Subject, all_go, bad};
+use row_files::{Given, Subject, all_go, bad, good, path_of};
 use std::alloc::Global;
 use std::io;
 use std::process::ExitCode;
@@ -31,39 +31,33 @@ struct Rows {
 }
 
 impl Subject for Rows {
-    fn begin(&mut self, alloc: Global) -> io::Result<()> {
-        self.disk = MemoryDisk::new(alloc)?;
-        self.host = None;
-        Ok(())
+    fn new(alloc: Global) -> io::Result<Rows> {
+        Ok(Rows {
+            disk: MemoryDisk::new(alloc)?,
+            host: None,
+        })
     }
 
-    fn make(&mut self, alloc: Global, word: &str, given: Given<'_>) -> io::Result<Option<Vec<u8>>> {
-        let text = given.words()?;
-        Ok(Some(match word {
+    fn make(&mut self, out: &mut Vec<u8>, given: Given<'_>) -> io::Result<()> {
+        let (alloc, text) = (*out.allocator(), given.words()?);
+        match given.word {
             "put" => {
-                let put = self
-                    .disk
-                    .replace(&path_of(alloc, text)?, given.lines.unwrap_or(b""));
-                put.ok().ok_or(bad())?;
-                Vec::new(alloc)
+                let path = path_of(alloc, given.text)?;
+                good(self.disk.replace(&path, given.below()))
             }
             "boot" => {
                 self.host = None;
                 self.host = Some(booted(alloc, &mut self.disk)?);
-                Vec::new(alloc)
+                Ok(())
             }
-            "write" | "take" => {
-                let host = self.host.as_mut().ok_or(bad())?;
-                put_file(alloc, host, text, given.lines)?
-            }
-            "values" => replies::values(alloc, text)?,
-            "pairs" => replies::pending(alloc, text)?,
-            _ => step(alloc, self.host.as_mut().ok_or(bad())?, word, text)?,
-        }))
+            "write" | "take" => put_file(alloc, self.host.as_mut().ok_or(bad())?, given),
+            "values" => replies::values(out, text),
+            "pairs" => replies::pending(out, text),
+            _ => tell(out, self.host.as_mut().ok_or(bad())?, given.word, text),
+        }
     }
 }
 
 fn main(rt: HostRuntime) -> io::Result<ExitCode> {
-    let disk = MemoryDisk::new(rt.alloc())?;
-    all_go(&rt, &mut Rows { disk, host: None })
+    all_go::<Rows>(&rt)
 }

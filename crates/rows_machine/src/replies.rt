@@ -3,49 +3,44 @@ ghost use Rattle.machine_answers.specs.Replies.{MayNest};
 
 use api_http::{Reply, print_answer};
 use json_trees::{flatten, flatten_patch};
-use key_names::Key;
 use machine_answers::{Answer, Body};
-use row_files::{bad, parts};
-use std::alloc::{AllocError, Global};
-use std::io;
+use row_files::{bad, key_of, parts};
+use std::io::{self, Write};
 
-/// The status of the reply, and what is after its head.
-pub fn said(alloc: Global, reply: &Reply) -> Result<Vec<u8>, AllocError> {
+/// Tells the status of the reply, and what is after its head.
+pub fn said(out: &mut Vec<u8>, reply: &Reply) -> io::Result<()> {
     let text = str::from_utf8(reply.bytes()).unwrap_or("");
     let (_, body) = text.split_once("\r\n\r\n").unwrap_or((text, ""));
     let mark = if body.is_empty() { "" } else { " " };
-    Ok(format!(in alloc; "{}{mark}{body}\n", reply.status())?.into_bytes())
+    writeln!(out, "{}{mark}{body}", reply.status())
 }
 
-fn told(alloc: Global, body: Body) -> Result<Vec<u8>, AllocError>
+fn told(out: &mut Vec<u8>, body: Body) -> io::Result<()>
     requires { MayNest body }
 {
-    said(alloc, &print_answer(alloc, &Answer::Said(body))?)
+    let reply = print_answer(*out.allocator(), &Answer::Said(body))?;
+    said(out, &reply)
 }
 
-fn key_of(alloc: Global, text: &str) -> io::Result<Key> {
-    Key::read(alloc, text.as_bytes()).ok().ok_or(bad())
-}
-
-/// The reply with the tree of the values that the text is, below the key: its status and its body.
-pub fn values(alloc: Global, text: &str) -> io::Result<Vec<u8>> {
+/// Tells the reply with the tree of the values that the text is, below the key: its status and its body.
+pub fn values(out: &mut Vec<u8>, text: &str) -> io::Result<()> {
     let (key, json) = parts(text);
-    let below = key_of(alloc, key)?;
-    let Ok(pairs) = flatten(alloc, Some(&below), json.as_bytes()) else {
+    let below = key_of(*out.allocator(), key)?;
+    let Ok(pairs) = flatten(*out.allocator(), Some(&below), json.as_bytes()) else {
         return Err(bad());
     };
     let skip = below.len();
-    Ok(told(alloc, Body::Values { skip, pairs })?)
+    told(out, Body::Values { skip, pairs })
 }
 
-/// The reply with the tree of what is pending that the text is: its status and its body.
-pub fn pending(alloc: Global, json: &str) -> io::Result<Vec<u8>> {
-    let settings = key_of(alloc, "settings")?;
-    let Ok(pairs) = flatten_patch(alloc, &settings, json.as_bytes()) else {
+/// Tells the reply with the tree of what is pending that the text is: its status and its body.
+pub fn pending(out: &mut Vec<u8>, json: &str) -> io::Result<()> {
+    let settings = key_of(*out.allocator(), "settings")?;
+    let Ok(pairs) = flatten_patch(*out.allocator(), &settings, json.as_bytes()) else {
         return Err(bad());
     };
     if settings.len() != 1 {
         return Err(bad());
     }
-    Ok(told(alloc, Body::Pairs(pairs))?)
+    told(out, Body::Pairs(pairs))
 }

@@ -2,13 +2,12 @@
 use crate::replies::said;
 use api_http::Reply;
 use disk_memory::MemoryDisk;
-use key_names::{Bytes, Key};
+use key_names::Bytes;
 use machine_replies::Host;
-use outside::Path;
 use plain_machine::{OpeningAnswer, Ran, TurnAnswer};
-use row_files::{bad, parts};
-use std::alloc::{AllocError, Global};
-use std::io;
+use row_files::{Given, bad, good, line, number_of, parts, path_of};
+use std::alloc::Global;
+use std::io::{self, Write};
 use version_links::Version;
 
 const VERSION: Version = Version {
@@ -17,22 +16,9 @@ const VERSION: Version = Version {
     patch: 2,
 };
 
-/// The path that the text spells.
-pub fn path_of(alloc: Global, text: &str) -> io::Result<Path> {
-    Path::read(alloc, text.as_bytes()).ok().ok_or(bad())
-}
-
-// The host of the image on the disk.
-fn read(alloc: Global, disk: &mut MemoryDisk) -> io::Result<Box<Host>> {
-    match Host::read(alloc, disk, VERSION) {
-        Ok(host) => Ok(Box::new(alloc, host)?),
-        Err(_) => Err(bad()),
-    }
-}
-
 /// The host of the image on the disk, whose store was opened at a boot. `bad()` where there is no image that can be read.
 pub fn booted(alloc: Global, disk: &mut MemoryDisk) -> io::Result<Box<Host>> {
-    let mut host = read(alloc, disk)?;
+    let mut host = Box::new(alloc, good(Host::read(alloc, disk, VERSION))?)?;
     host.open(alloc, true, OpeningAnswer::Succeeded)?;
     Ok(host)
 }
@@ -56,17 +42,17 @@ fn answer_of(how: &str) -> io::Result<TurnAnswer> {
         "sync-fault" => TurnAnswer::SyncFault,
         "owed-fault" => TurnAnswer::OwedFault { stored: false },
         _ => TurnAnswer::Fine {
-            status: how.parse::<u16>().ok().ok_or(bad())?,
+            status: number_of(how)?,
         },
     })
 }
 
-// Makes so many turns of a job, each of which comes to the same. It tells nothing of them.
-fn turns(alloc: Global, host: &mut Host, how: &str, count: u32) -> io::Result<Vec<u8>> {
+// Makes so many turns of a job, each of which comes to the same.
+fn turns(alloc: Global, host: &mut Host, how: &str, count: u32) -> io::Result<()> {
     for _ in 0..count {
         host.turn(alloc, answer_of(how)?)?;
     }
-    Ok(Vec::new(alloc))
+    Ok(())
 }
 
 // What is replied to the request with this method, and the path and the body after it. `bad()` where it is not whole.
@@ -79,82 +65,64 @@ fn replied(alloc: Global, host: &mut Host, method: &str, rest: &str) -> io::Resu
     host.reply_to(alloc, text.as_str().as_bytes())?.ok_or(bad())
 }
 
-// The keys, each on a line.
-fn key_lines(alloc: Global, keys: &[Key]) -> Result<Vec<u8>, AllocError> {
-    let mut text = String::new(alloc);
-    for key in keys {
-        writeln!(text, "{}", key.print()?.as_str())?;
+/// The configuration file has the bytes that are given from then on; without any it is taken away.
+pub fn put_file(alloc: Global, host: &mut Host, given: Given<'_>) -> io::Result<()> {
+    let path = path_of(alloc, given.text)?;
+    if let Some(bytes) = given.lines {
+        let bytes = Bytes::of(bytes.to_vec(alloc)?);
+        host.machine.etc.insert(path, bytes)?;
+    } else {
+        host.machine.etc.remove(&path);
     }
-    Ok(text.into_bytes())
+    Ok(())
 }
 
-// The bytes of the configuration file.
-fn file(alloc: Global, host: &Host, path: &str) -> io::Result<Vec<u8>> {
-    let path = path_of(alloc, path)?;
-    let bytes = host.machine.etc.get(&path).map(|file| file.as_slice());
-    Ok(bytes.unwrap_or(b"no file\n").to_vec(alloc)?)
-}
-
-/// The configuration file has these bytes from then on; without any it is taken away. It tells nothing.
-pub fn put_file(
-    alloc: Global,
-    host: &mut Host,
-    path: &str,
-    bytes: Option<&[u8]>,
-) -> io::Result<Vec<u8>> {
-    let path = path_of(alloc, path)?;
-    match bytes {
-        Some(bytes) => {
-            let bytes = Bytes::of(bytes.to_vec(alloc)?);
-            host.machine.etc.insert(path, bytes)?;
-        }
-        None => {
-            host.machine.etc.remove(&path);
-        }
+// Tells the keys that are weak, each on a line.
+fn weak(out: &mut Vec<u8>, host: &Host) -> io::Result<()> {
+    for key in host.machine.held.live.weak().as_slice() {
+        line(out, &[key.print()?.as_str()])?;
     }
-    Ok(Vec::new(alloc))
+    Ok(())
 }
 
-// Adds a line with the words of a program.
-fn run(text: &mut String, ran: &Ran) -> Result<(), AllocError> {
-    text.push('!')?;
+// Tells the words of a program on a line.
+fn run(out: &mut Vec<u8>, ran: &Ran) -> io::Result<()> {
+    write!(out, "!")?;
     for word in &ran.words {
-        write!(text, " {}", word.as_str())?;
+        write!(out, " {}", word.as_str())?;
     }
-    text.push('\n')
+    line(out, &[])
 }
 
-// The words of each program that was run, a line for each. They are forgotten.
-fn runs(alloc: Global, host: &mut Host) -> Result<Vec<u8>, AllocError> {
-    let mut text = String::new(alloc);
+// Tells each program that was run. They are forgotten.
+fn runs(out: &mut Vec<u8>, host: &mut Host) -> io::Result<()> {
     for ran in &host.machine.runs {
-        run(&mut text, ran)?;
+        run(out, ran)?;
     }
     host.machine.runs.clear();
-    Ok(text.into_bytes())
+    Ok(())
 }
 
-/// What the step comes to. No job of the rows takes more than nine turns.
-pub fn step(alloc: Global, host: &mut Host, word: &str, text: &str) -> io::Result<Vec<u8>> {
+/// Tells what the step comes to. No job of the rows takes more than nine turns.
+pub fn tell(out: &mut Vec<u8>, host: &mut Host, word: &str, text: &str) -> io::Result<()> {
+    let alloc = *out.allocator();
     match word {
-        "GET" | "PATCH" | "POST" | "DELETE" => {
-            let reply = replied(alloc, host, word, text)?;
-            Ok(said(alloc, &reply)?)
-        }
+        "GET" | "PATCH" | "POST" | "DELETE" => said(out, &replied(alloc, host, word, text)?),
         "whole" => {
             let (method, rest) = parts(text);
             let reply = replied(alloc, host, method, rest)?;
-            Ok(reply.bytes().to_vec(alloc)?)
+            Ok(out.extend_from_slice(reply.bytes())?)
         }
         "turn" => turns(alloc, host, text, 1),
         "turns" => turns(alloc, host, text, 9),
-        "open" => {
-            host.open(alloc, text == "at-boot", opening_of(text)?)?;
-            Ok(Vec::new(alloc))
+        "open" => Ok(host.open(alloc, text == "at-boot", opening_of(text)?)?),
+        "weak" => weak(out, host),
+        "file" => {
+            let file = host.machine.etc.get(&path_of(alloc, text.as_bytes())?);
+            let bytes = file.map_or(b"no file\n".as_slice(), |it| it.as_slice());
+            Ok(out.extend_from_slice(bytes)?)
         }
-        "weak" => Ok(key_lines(alloc, host.machine.held.live.weak().as_slice())?),
-        "file" => file(alloc, host, text),
-        "runs" => Ok(runs(alloc, host)?),
+        "runs" => runs(out, host),
         _ => Err(bad()),
     }
 }

@@ -11,7 +11,7 @@ use disk_memory::{Input, MemoryDoor};
 use outside::{Door, Failed};
 use row_files::bad;
 use std::alloc::{AllocError, Global};
-use std::io;
+use std::io::{self, Write};
 
 /// Numbers of calls of a connection: those that fail, 0 where none does, or how many there were.
 #[derive(Clone, Copy)]
@@ -83,14 +83,8 @@ fn inputs_of(
     fails: Calls,
 ) -> Result<Vec<Input>, AllocError> {
     let mut pieces = Vec::new(alloc);
-    let mut rest = bytes;
-    for _ in 0..bytes.len() {
-        let (piece, behind) = rest.split_at(size.min(rest.len()));
+    for piece in bytes.chunks(size.max(1)) {
         pieces.push(piece.to_vec(alloc)?)?;
-        rest = behind;
-        if rest.is_empty() {
-            break;
-        }
     }
     let input = Input {
         pieces,
@@ -100,35 +94,24 @@ fn inputs_of(
     Ok(vec![in alloc; input]?)
 }
 
-// What was heard, as a line.
-fn told(out: &mut String, heard: &Heard) -> Result<(), AllocError> {
-    match heard {
-        Heard::Asked { request: asked } => request(out, asked)?,
-        Heard::Refused { refusal: why } => refusal(out, why)?,
-        Heard::Ended => out.push_str("ended")?,
-        Heard::Memory => out.push_str("memory")?,
-    }
-    out.push('\n')
-}
-
 /// Tells what comes of a connection on which the bytes come in pieces of so many, and how many of them are left, if any. How many calls it had.
-pub fn heard(
-    alloc: Global,
-    out: &mut String,
-    bytes: &[u8],
-    size: usize,
-    fails: Calls,
-) -> io::Result<Calls> {
-    let inputs = inputs_of(alloc, bytes, size, fails)?;
+pub fn heard(out: &mut Vec<u8>, bytes: &[u8], size: usize, fails: Calls) -> io::Result<Calls> {
+    let alloc = *out.allocator();
     let mut door = CountedDoor {
-        door: MemoryDoor::of_inputs(alloc, inputs),
+        door: MemoryDoor::of_inputs(alloc, inputs_of(alloc, bytes, size, fails)?),
         calls: Calls::NONE,
         given: 0,
     };
     let Ok(true) = door.accept() else {
         return Err(bad());
     };
-    told(out, &hear(alloc, &mut door))?;
+    match hear(alloc, &mut door) {
+        Heard::Asked { request: asked } => request(out, &asked)?,
+        Heard::Refused { refusal: why } => refusal(out, &why)?,
+        Heard::Ended => write!(out, "ended")?,
+        Heard::Memory => write!(out, "memory")?,
+    }
+    out.push(b'\n')?;
     let left = bytes.len().saturating_sub(door.given);
     if left > 0 {
         writeln!(out, "{left} left")?;
@@ -136,11 +119,11 @@ pub fn heard(
     Ok(door.calls)
 }
 
-/// What is written to a connection of what is said to it, and how many calls it had.
-pub fn said(alloc: Global, text: &[u8], fails: Calls) -> io::Result<(Vec<u8>, Calls)> {
-    let inputs = inputs_of(alloc, b"", 1, fails)?;
+/// Tells what is written to a connection of what is said to it. How many calls it had.
+pub fn said(out: &mut Vec<u8>, text: &[u8], fails: Calls) -> io::Result<Calls> {
+    let alloc = *out.allocator();
     let mut door = CountedDoor {
-        door: MemoryDoor::of_inputs(alloc, inputs),
+        door: MemoryDoor::of_inputs(alloc, inputs_of(alloc, b"", 1, fails)?),
         calls: Calls::NONE,
         given: 0,
     };
@@ -148,6 +131,6 @@ pub fn said(alloc: Global, text: &[u8], fails: Calls) -> io::Result<(Vec<u8>, Ca
         return Err(bad());
     };
     say(&mut door, text);
-    let written = door.door.output(0).ok_or(bad())?;
-    Ok((written.to_vec(alloc)?, door.calls))
+    out.extend_from_slice(door.door.output(0).ok_or(bad())?)?;
+    Ok(door.calls)
 }

@@ -15,9 +15,10 @@ mod replies;
 
 use api_http::bytes_wanted;
 use doors::Calls;
-use row_files::{Fault, Given, Subject, all_go, bad};
+use row_files::{Fault, Given, Subject, all_go, bad, number_of};
 use std::alloc::Global;
-use std::io;
+use std::io::{self, Write};
+use std::mem;
 use std::process::ExitCode;
 
 // Which calls of the next connection fail, and how many the last one had.
@@ -29,64 +30,53 @@ struct Rows {
 
 // The size of pieces that the step says, and the bytes in the lines below it.
 fn pieces(given: Given<'_>) -> io::Result<(usize, &[u8])> {
-    let size = given.words()?.parse::<usize>().ok().ok_or(bad())?;
-    match given.lines {
-        Some(bytes) if size > 0 => Ok((size, bytes)),
+    match (number_of::<usize>(given.words()?)?, given.lines) {
+        (size, Some(bytes)) if size > 0 => Ok((size, bytes)),
         _ => Err(bad()),
     }
 }
 
-// Tells what bytes are read as.
-fn read(alloc: Global, out: &mut String, word: &str, given: Given<'_>) -> io::Result<()> {
-    let input = given.input();
-    match word {
-        "http" => asks::head(alloc, out, input)?,
-        "wire" => asks::read(alloc, out, input)?,
-        "patch" => asks::bodies(alloc, out, "PATCH /settings?tx=t", input)?,
-        "set" => asks::bodies(alloc, out, "POST /set", input)?,
-        "wants" => writeln!(out, "{}", bytes_wanted(input))?,
-        "times" => {
-            let (size, bytes) = pieces(given)?;
-            asks::times(alloc, out, bytes, size)?;
-        }
-        _ => return Err(bad()),
-    }
-    Ok(())
-}
-
 impl Subject for Rows {
-    fn begin(&mut self, _alloc: Global) -> io::Result<()> {
-        self.fails = Calls::NONE;
-        self.calls = Calls::NONE;
-        Ok(())
+    fn new(_alloc: Global) -> io::Result<Rows> {
+        Ok(Rows {
+            fails: Calls::NONE,
+            calls: Calls::NONE,
+        })
     }
 
-    fn make(&mut self, alloc: Global, word: &str, given: Given<'_>) -> io::Result<Option<Vec<u8>>> {
-        let (fails, mut out) = (self.fails, String::new(alloc));
-        self.fails = Calls::NONE;
-        match word {
-            "reply" => return Ok(Some(replies::shown(alloc, given.input_text()?)?)),
+    fn make(&mut self, out: &mut Vec<u8>, given: Given<'_>) -> io::Result<()> {
+        let (fails, input) = (mem::replace(&mut self.fails, Calls::NONE), given.input());
+        match given.word {
+            "reply" => replies::tell(out, given.input_text()?),
             "hear" => {
                 let (size, bytes) = pieces(given)?;
-                self.calls = doors::heard(alloc, &mut out, bytes, size, fails)?;
+                self.calls = doors::heard(out, bytes, size, fails)?;
+                Ok(())
             }
             "say" => {
-                let (written, calls) = doors::said(alloc, given.input(), fails)?;
-                self.calls = calls;
-                return Ok(Some(written));
+                self.calls = doors::said(out, input, fails)?;
+                Ok(())
             }
-            _ => read(alloc, &mut out, word, given)?,
+            "http" => asks::head(out, input),
+            "wire" => asks::read(out, input),
+            "patch" => asks::bodies(out, "PATCH /settings?tx=t", input),
+            "set" => asks::bodies(out, "POST /set", input),
+            "wants" => writeln!(out, "{}", bytes_wanted(input)),
+            "times" => {
+                let (size, bytes) = pieces(given)?;
+                asks::times(out, bytes, size)
+            }
+            _ => Err(bad()),
         }
-        Ok(Some(out.into_bytes()))
     }
 
-    fn arm(&mut self, _alloc: Global, device: &str, fault: Fault, number: u64) -> io::Result<bool> {
+    fn arm(&mut self, device: &str, fault: Fault, number: u64) -> io::Result<()> {
         match (device, fault) {
             ("read", Fault::Fail) => self.fails.reads = number,
             ("write", Fault::Fail) => self.fails.writes = number,
-            _ => return Ok(false),
+            _ => return Err(bad()),
         }
-        Ok(true)
+        Ok(())
     }
 
     fn calls(&self, device: &str) -> u64 {
@@ -98,9 +88,5 @@ impl Subject for Rows {
 }
 
 fn main(rt: HostRuntime) -> io::Result<ExitCode> {
-    let mut rows = Rows {
-        fails: Calls::NONE,
-        calls: Calls::NONE,
-    };
-    all_go(&rt, &mut rows)
+    all_go::<Rows>(&rt)
 }

@@ -1,13 +1,12 @@
 //! The bytes of replies.
 use api_http::{Refusal, Reply, print_answer, print_refusal, print_text};
-use key_names::{Bytes, Key, Text};
+use key_names::{Bytes, Text};
 use machine_answers::{Answer, Body};
-use outside::Path;
-use row_files::{bad, parts, words_of};
+use row_files::{bad, key_of, parts, path_of, words_of};
 use settings_machine::{FileState, Refusal as Refused, VerifiedFile};
 use settings_tree::TxName;
-use std::alloc::{AllocError, Global};
-use std::io;
+use std::alloc::Global;
+use std::io::{self, Write};
 use template_eval::RenderError;
 
 // The refusal of HTTP of the word, with what is said of it.
@@ -27,10 +26,6 @@ fn refusal_of(alloc: Global, word: &str, text: &str) -> io::Result<Refusal> {
         ("disk", "") => Refusal::DiskFault,
         _ => return Err(bad()),
     })
-}
-
-fn key_of(alloc: Global, text: &str) -> io::Result<Key> {
-    Key::read(alloc, text.as_bytes()).ok().ok_or(bad())
 }
 
 // Why a template refuses: a word, a space and the path.
@@ -72,12 +67,6 @@ fn refused(alloc: Global, word: &str, text: &str) -> io::Result<Option<Refused>>
     }))
 }
 
-// The reply that sends the text as a file.
-fn file_reply(alloc: Global, text: &str) -> Result<Reply, AllocError> {
-    let bytes = Bytes::of(text.as_bytes().to_vec(alloc)?);
-    print_answer(alloc, &Answer::File(bytes))
-}
-
 // The state of the word, which one that refuses has with why.
 fn state_of(alloc: Global, text: &str) -> io::Result<FileState> {
     Ok(match parts(text) {
@@ -92,56 +81,58 @@ fn state_of(alloc: Global, text: &str) -> io::Result<FileState> {
     })
 }
 
-// The file of this name, at this path, with its state.
-fn verified_file(alloc: Global, text: &str) -> io::Result<VerifiedFile> {
-    let (name, told) = text.split_once(' ').ok_or(bad())?;
-    let (path, state) = told.split_once(' ').ok_or(bad())?;
-    Ok(VerifiedFile {
-        name: Text::from_str(alloc, name)?,
-        path: Path::read(alloc, path.as_bytes()).ok().ok_or(bad())?,
-        state: state_of(alloc, state)?,
-    })
-}
-
-// The reply that says the states of the files, with commas between them.
-fn states_reply(alloc: Global, text: &str) -> io::Result<Reply> {
+// The files with their states, with commas between them: a name, a path and a state each.
+fn files_of(alloc: Global, text: &str) -> io::Result<Vec<VerifiedFile>> {
     let mut files = Vec::new(alloc);
     for file in &words_of(alloc, text, ',')? {
-        files.push(verified_file(alloc, file.as_str())?)?;
+        let (name, told) = file.as_str().split_once(' ').ok_or(bad())?;
+        let (path, state) = told.split_once(' ').ok_or(bad())?;
+        files.push(VerifiedFile {
+            name: Text::from_str(alloc, name)?,
+            path: path_of(alloc, path.as_bytes())?,
+            state: state_of(alloc, state)?,
+        })?;
     }
+    Ok(files)
+}
+
+// The reply with the file of these bytes.
+fn file_reply(alloc: Global, text: &str) -> io::Result<Reply> {
+    let bytes = Bytes::of(text.as_bytes().to_vec(alloc)?);
+    Ok(print_answer(alloc, &Answer::File(bytes))?)
+}
+
+// The reply with the files and their states.
+fn states_reply(alloc: Global, text: &str) -> io::Result<Reply> {
+    let files = files_of(alloc, text)?;
     Ok(print_answer(alloc, &Answer::Said(Body::States(files)))?)
 }
 
-// The reply of the refusal of the word, of the machine or of HTTP.
-fn refusal_reply(alloc: Global, word: &str, text: &str) -> io::Result<Reply> {
-    match refused(alloc, word, text)? {
-        Some(refusal) => Ok(print_answer(alloc, &Answer::Refused(refusal))?),
-        None => Ok(print_refusal(alloc, &refusal_of(alloc, word, text)?)?),
-    }
+// The reply of the refusal of the machine or of HTTP of the word.
+fn refused_reply(alloc: Global, word: &str, text: &str) -> io::Result<Reply> {
+    Ok(match refused(alloc, word, text)? {
+        Some(refusal) => print_answer(alloc, &Answer::Refused(refusal))?,
+        None => print_refusal(alloc, &refusal_of(alloc, word, text)?)?,
+    })
 }
 
-// The reply of the word; a fixed one takes no memory.
+// The reply of the word, that of the refusal of the machine or of HTTP, where it is no other; a fixed one takes no memory.
 fn reply_of(alloc: Global, word: &str, text: &str) -> io::Result<Reply> {
     match (word, text) {
         ("fixed", "memory") => Ok(Reply::memory()),
         ("fixed", "disk") => Ok(Reply::disk()),
         ("json", _) => Ok(print_text(alloc, &Text::from_str(alloc, text)?)?),
         ("empty", _) => Ok(print_answer(alloc, &Answer::Empty)?),
-        ("file", _) => Ok(file_reply(alloc, text)?),
+        ("file", _) => file_reply(alloc, text),
         ("states", _) => states_reply(alloc, text),
-        _ => refusal_reply(alloc, word, text),
+        _ => refused_reply(alloc, word, text),
     }
 }
 
-// The status as a line, and then the bytes as they are sent.
-fn told(alloc: Global, reply: &Reply) -> Result<Vec<u8>, AllocError> {
-    let mut lines = format!(in alloc; "{}\n", reply.status())?.into_bytes();
-    lines.extend_from_slice(reply.bytes())?;
-    Ok(lines)
-}
-
-/// The status and the bytes of the reply. The errors are `bad()`, where there is no such answer, and out of memory.
-pub fn shown(alloc: Global, line: &str) -> io::Result<Vec<u8>> {
+/// Tells the status of the reply as a line, and then the bytes as they are sent. The errors are `bad()`, where there is no such answer, and out of memory.
+pub fn tell(out: &mut Vec<u8>, line: &str) -> io::Result<()> {
     let (word, text) = parts(line);
-    Ok(told(alloc, &reply_of(alloc, word, text)?)?)
+    let reply = reply_of(*out.allocator(), word, text)?;
+    writeln!(out, "{}", reply.status())?;
+    Ok(out.extend_from_slice(reply.bytes())?)
 }

@@ -1,8 +1,7 @@
 //! What comes to the next run besides its words and its requests.
 use disk_memory::MemorySpawner;
 use outside::Answer;
-use row_disks::text_of;
-use row_files::{Given, bad, parts};
+use row_files::{Given, bad, number_of, parts};
 use std::alloc::Global;
 use std::{io, mem};
 
@@ -27,10 +26,6 @@ pub struct Coming {
     pub log: u64,
 }
 
-fn status_of(text: &str) -> io::Result<u16> {
-    text.parse::<u16>().ok().ok_or(bad())
-}
-
 impl Coming {
     /// Nothing comes, and nothing fails.
     pub fn nothing(alloc: Global) -> Coming {
@@ -47,9 +42,9 @@ impl Coming {
     }
 
     /// Lets a call of a device fail, by its name and a number.
-    pub fn fail(&mut self, alloc: Global, text: &str) -> io::Result<Vec<u8>> {
+    pub fn fail(&mut self, text: &str) -> io::Result<()> {
         let (device, number) = parts(text);
-        let number = number.parse::<u64>().ok().ok_or(bad())?;
+        let number = number_of(number)?;
         match device {
             "accept" => self.accept = number,
             "read" => self.read = number,
@@ -58,29 +53,23 @@ impl Coming {
             "log" => self.log = number,
             _ => return Err(bad()),
         }
-        Ok(Vec::new(alloc))
-    }
-
-    /// Lets so many looks before each accept find no client.
-    pub fn stay_away(&mut self, alloc: Global, text: &str) -> io::Result<Vec<u8>> {
-        self.absent = text.parse::<u64>().ok().ok_or(bad())?;
-        Ok(Vec::new(alloc))
+        Ok(())
     }
 
     /// Adds what a program does. One that is run does not come with one that is asked.
-    pub fn program(&mut self, alloc: Global, given: Given<'_>) -> io::Result<Vec<u8>> {
-        match parts(text_of(given.text)?) {
+    pub fn program(&mut self, alloc: Global, given: Given<'_>) -> io::Result<()> {
+        match parts(given.words()?) {
             ("fails", "") => self.ends.push(None)?,
-            ("ends", status) => self.ends.push(Some(status_of(status)?))?,
+            ("ends", status) => self.ends.push(Some(number_of(status)?))?,
             ("is", "missing") => self.answers.push(None)?,
             ("answers", status) => {
-                let output = given.lines.unwrap_or(b"").to_vec(alloc)?;
-                self.answers.push(Some((status_of(status)?, output)))?;
+                let output = given.below().to_vec(alloc)?;
+                self.answers.push(Some((number_of(status)?, output)))?;
             }
             _ => return Err(bad()),
         }
         if self.ends.is_empty() || self.answers.is_empty() {
-            return Ok(Vec::new(alloc));
+            return Ok(());
         }
         Err(bad())
     }

@@ -12,67 +12,62 @@
 #![tactic(auto)]
 
 mod coming;
-mod left;
-mod loads;
 mod requests;
 mod runs;
 mod shown;
 
 use crate::coming::Coming;
-use crate::left::Left;
-use row_disks::{Disks, Words, text_of};
-use row_files::Given;
+use crate::requests::load_sends;
+use row_disks::{Disks, Words};
+use row_files::{Given, line, number_of};
 use std::alloc::Global;
+use std::io;
 use std::process::ExitCode;
-use std::{io, mem};
 
 // What comes to the next run, and what the last run left.
 #[derive(Clone, Drop)]
 struct RunWords {
     coming: Coming,
-    left: Left,
+    // What the programs were given that the last run asked, with a line feed after each.
+    given: Vec<u8>,
+    // What the last run logged.
+    log: Vec<u8>,
     // The bytes of the log that `log-takes` was given.
     room: Vec<u8>,
 }
 
 impl Words for RunWords {
-    fn make(
-        &mut self,
-        alloc: Global,
-        disks: &mut Disks,
-        word: &str,
-        given: Given<'_>,
-    ) -> io::Result<Vec<u8>> {
-        let text = text_of(given.text)?;
-        match word {
-            "$" => {
-                let mut coming = mem::replace(&mut self.coming, Coming::nothing(alloc));
-                self.left = Left::nothing(alloc);
-                runs::told(alloc, &mut disks.disk, &mut coming, given, &mut self.left)
-            }
-            "given" => Ok(self.left.given.to_vec(alloc)?),
-            "log" => Ok(self.left.log.to_vec(alloc)?),
-            "log-took" => self.left.took(alloc, &self.room),
-            "log-takes" => {
-                self.room = given.lines.unwrap_or(b"").to_vec(alloc)?;
-                self.coming.log = self.room.len() as u64;
-                Ok(Vec::new(alloc))
-            }
-            "load-sends" => loads::sent(alloc, text),
-            "program" => self.coming.program(alloc, given),
-            "absent" => self.coming.stay_away(alloc, text),
-            "fail" if !text.starts_with("disk ") => self.coming.fail(alloc, text),
-            _ => disks.make(alloc, word, given),
+    fn new(alloc: Global) -> RunWords {
+        RunWords {
+            coming: Coming::nothing(alloc),
+            given: Vec::new(alloc),
+            log: Vec::new(alloc),
+            room: Vec::new(alloc),
         }
+    }
+
+    fn make(&mut self, out: &mut Vec<u8>, disks: &mut Disks, given: Given<'_>) -> io::Result<()> {
+        let (alloc, text) = (*out.allocator(), given.words()?);
+        match given.word {
+            "$" => self.run(out, &mut disks.disk, given)?,
+            "given" => out.extend_from_slice(&self.given)?,
+            "log" => out.extend_from_slice(&self.log)?,
+            "log-took" if self.log == self.room => line(out, &["just these"])?,
+            "log-took" => out.extend_from_slice(&self.log)?,
+            "log-takes" => {
+                self.room = given.below().to_vec(alloc)?;
+                self.coming.log = self.room.len() as u64;
+            }
+            "load-sends" => load_sends(out, text)?,
+            "program" => self.coming.program(alloc, given)?,
+            "absent" => self.coming.absent = number_of(text)?,
+            "fail" if !text.starts_with("disk ") => self.coming.fail(text)?,
+            _ => disks.make(out, given)?,
+        }
+        Ok(())
     }
 }
 
 fn main(rt: HostRuntime) -> io::Result<ExitCode> {
-    let alloc = rt.alloc();
-    let words = RunWords {
-        coming: Coming::nothing(alloc),
-        left: Left::nothing(alloc),
-        room: Vec::new(alloc),
-    };
-    row_disks::all_go(&rt, words)
+    row_disks::all_go::<RunWords>(&rt)
 }

@@ -1,6 +1,8 @@
 //! Requests that come to a run.
 use crate::coming::Coming;
 use disk_memory::Input;
+use load_input::requests;
+use row_files::{bad, line, number_of, parts};
 use std::alloc::{AllocError, Global};
 use std::io;
 
@@ -15,18 +17,13 @@ fn own_field<'a>(alloc: Global, text: &'a str) -> Result<Option<(Vec<u8>, &'a st
     Ok(Some((field.as_bytes().repeat(alloc, times)?, rest)))
 }
 
-// A request of the line with this field alone, and no body.
-fn bare(alloc: Global, line: &str, field: &[u8]) -> Result<Vec<u8>, AllocError> {
-    let mut sent = format!(in alloc; "{line} HTTP/1.1\r\n")?.into_bytes();
-    sent.extend_from_slice(field)?;
-    sent.extend_from_slice(b"\r\n\r\n")?;
-    Ok(sent)
-}
-
-// A request as curl sends it: its method, its target, and its body, if it has one.
+// A request as curl sends it: its method, its target, and its body, if it has one; with a field of its own that alone, and no body.
 fn request(alloc: Global, text: &str) -> Result<Vec<u8>, AllocError> {
     if let Some((field, line)) = own_field(alloc, text)? {
-        return bare(alloc, line, &field);
+        let mut sent = format!(in alloc; "{line} HTTP/1.1\r\n")?.into_bytes();
+        sent.extend_from_slice(&field)?;
+        sent.extend_from_slice(b"\r\n\r\n")?;
+        return Ok(sent);
     }
     let (method, rest) = text.split_once(' ').unwrap_or((text, ""));
     let fields = "Host: localhost\r\nUser-Agent: curl/8.5.0\r\nAccept: */*\r\n";
@@ -56,4 +53,17 @@ pub fn inputs(alloc: Global, coming: &Coming, lines: &str) -> io::Result<Vec<Inp
         number = number.saturating_add(1);
     }
     Ok(inputs)
+}
+
+/// Tells the request at the second number of those of a load run of the first.
+pub fn load_sends(out: &mut Vec<u8>, text: &str) -> io::Result<()> {
+    let (count, place) = parts(text);
+    let (count, place) = (number_of::<u32>(count)?, number_of::<usize>(place)?);
+    if count < 1 || count > 10000 {
+        return Err(bad());
+    }
+    match requests(*out.allocator(), count)?.get(place) {
+        Some(bytes) => Ok(out.extend_from_slice(bytes.as_slice())?),
+        None => line(out, &["no request"]),
+    }
 }

@@ -1,62 +1,52 @@
 //! Contents: what is where, and what may be put there.
-use crate::lines::{self, key_of, keys_of, scalar_of};
-use key_names::{Key, Text};
-use row_files::parts;
+use crate::lines::{pairs, scalar_of};
+use key_names::Text;
+use row_files::{key_of, keys_of, line, parts};
 use settings_maps::is_meta_name;
 use settings_tree::{Content, Scalar};
-use std::alloc::AllocError;
-use std::io;
+use std::io::{self, Write};
 
 /// Tells what the content says: what is below a key, or whether keys may be weak.
-pub fn tell(out: &mut String, content: &Content, word: &str, text: &str) -> io::Result<()> {
+pub fn tell(out: &mut Vec<u8>, content: &Content, word: &str, text: &str) -> io::Result<()> {
     let alloc = *out.allocator();
     match word {
-        "below" => lines::pairs(out, &content.below(&key_of(alloc, text)?)?)?,
-        _ if content.may_be_weak(&keys_of(alloc, text)?) => out.push_str("may\n")?,
-        _ => out.push_str("may not\n")?,
+        "below" => pairs(out, &content.below(&key_of(alloc, text)?)?),
+        _ if content.may_be_weak(&keys_of(alloc, text)?) => line(out, &["may"]),
+        _ => line(out, &["may not"]),
     }
-    Ok(())
 }
 
 // Tells what was taken, and whether something is there then.
-fn told(out: &mut String, taken: Option<Scalar>, left: Option<&Scalar>) -> Result<(), AllocError> {
+fn told(out: &mut Vec<u8>, taken: Option<Scalar>, is_left: bool) -> io::Result<()> {
     match taken {
         Some(taken) => {
             let taken = taken.print(*out.allocator())?;
-            writeln!(out, "{}, then {}", taken.as_str(), left.is_some())
+            writeln!(out, "{}, then {is_left}", taken.as_str())
         }
-        None => out.push_str("none\n"),
+        None => line(out, &["none"]),
     }
-}
-
-// Puts the metadata of a name and its value, where that may be a name.
-fn put_meta(out: &mut String, content: &mut Content, key: Key, text: &str) -> io::Result<()> {
-    let alloc = *out.allocator();
-    let (name, json) = parts(text);
-    if !is_meta_name(name.as_bytes()) {
-        return Ok(out.push_str("no name\n")?);
-    }
-    let (name, value) = (Text::from_str(alloc, name)?, scalar_of(alloc, json)?);
-    Ok(content.put_meta(key, name, value)?)
 }
 
 /// Changes the content, where it may be changed so.
-pub fn change(out: &mut String, content: &mut Content, word: &str, text: &str) -> io::Result<()> {
+pub fn change(out: &mut Vec<u8>, content: &mut Content, word: &str, text: &str) -> io::Result<()> {
     let alloc = *out.allocator();
     let (key, rest) = parts(text);
-    let key = key_of(alloc, key)?;
+    let (key, (name, json)) = (key_of(alloc, key)?, parts(rest));
     match word {
         "take" => {
             let taken = content.take(&key);
-            told(out, taken, content.value(&key))?;
+            told(out, taken, content.value(&key).is_some())
         }
         "take-meta" => {
             let taken = content.take_meta(&key, rest.as_bytes());
-            told(out, taken, content.meta(&key, rest.as_bytes()))?;
+            told(out, taken, content.meta(&key, rest.as_bytes()).is_some())
         }
-        "put-meta" => put_meta(out, content, key, rest)?,
-        _ if content.fits(&key) => content.put(key, scalar_of(alloc, rest)?)?,
-        _ => out.push_str("no fit\n")?,
+        "put-meta" if is_meta_name(name.as_bytes()) => {
+            let (name, value) = (Text::from_str(alloc, name)?, scalar_of(alloc, json)?);
+            Ok(content.put_meta(key, name, value)?)
+        }
+        "put-meta" => line(out, &["no name"]),
+        _ if content.fits(&key) => Ok(content.put(key, scalar_of(alloc, rest)?)?),
+        _ => line(out, &["no fit"]),
     }
-    Ok(())
 }

@@ -1,27 +1,29 @@
 //! User data and generators, and what their commands give over child programs in memory.
-use crate::lines::{fault, key_of, pairs};
+use crate::lines::{fault, pairs};
 use disk_memory::{MemorySpawner, Question};
 use json_trees::Scalar;
 use key_names::{Key, Text};
 use outside::Answer;
-use row_files::{Given, bad, parts};
-use setting_generators::{GenerateError, Generator, Generators};
+use row_files::{good, key_of, line, number_of, parts};
+use setting_generators::{GenerateError, Generators};
 use settings_tree::Content;
-use std::alloc::{AllocError, Global};
-use std::{io, mem};
+use std::alloc::Global;
+use std::io::{self, Write};
+use std::mem;
 use typed_settings::Types;
 
 /// The text of the generators that are asked, and how programs answer.
 #[derive(Drop)]
 pub struct Asking {
-    text: Vec<u8>,
-    answers: Vec<Option<Answer>>,
+    /// The text of the generators.
+    pub text: Vec<u8>,
+    /// How the next programs answer, in order.
+    pub answers: Vec<Option<Answer>>,
 }
 
 /// Tells the pairs of user data, or their first fault.
-pub fn user_data(out: &mut String, text: &[u8]) -> Result<(), AllocError> {
-    let alloc = *out.allocator();
-    match user_data::read(alloc, text) {
+pub fn user_data(out: &mut Vec<u8>, text: &[u8]) -> io::Result<()> {
+    match user_data::read(*out.allocator(), text) {
         Ok(read) => pairs(out, &read),
         Err(error) => fault(out, error.kind, &error.at),
     }
@@ -33,30 +35,16 @@ fn types(alloc: Global) -> io::Result<Types> {
     for key in ["settings.a", "settings.b", "settings.c.d"] {
         rows.push((Text::from_str(alloc, key)?, Text::from_str(alloc, "text")?))?;
     }
-    Types::of_rows(alloc, &rows).ok().ok_or(bad())
+    good(Types::of_rows(alloc, &rows))
 }
 
 // Tells the key, and the words of the command.
-fn generator(out: &mut String, generator: &Generator) -> Result<(), AllocError> {
-    write!(out, "{}:", generator.key.print()?.as_str())?;
-    for word in &generator.words {
-        write!(out, " <{}>", word.as_str())?;
+fn generator(out: &mut Vec<u8>, key: &Key, words: &[String]) -> io::Result<()> {
+    write!(out, "{}:", key.print()?.as_str())?;
+    for word in words {
+        write!(out, " <{word}>")?;
     }
-    out.push('\n')
-}
-
-// Tells the generators of the text, or their first fault.
-fn read(out: &mut String, text: &[u8]) -> io::Result<()> {
-    let alloc = *out.allocator();
-    match Generators::read(alloc, text, &types(alloc)?) {
-        Ok(generators) => {
-            for one in generators.entries() {
-                generator(out, one)?;
-            }
-        }
-        Err(error) => fault(out, error.kind, &error.at)?,
-    }
-    Ok(())
+    line(out, &[])
 }
 
 // A content with a value at this key, or at none.
@@ -71,74 +59,63 @@ fn live(alloc: Global, key: &str) -> io::Result<Content> {
     Ok(content)
 }
 
-fn told(
-    out: &mut String,
-    given: Result<Vec<(Key, Scalar)>, GenerateError>,
-) -> Result<(), AllocError> {
+// Tells what the programs gave, or which one gave nothing.
+fn told(out: &mut Vec<u8>, given: Result<Vec<(Key, Scalar)>, GenerateError>) -> io::Result<()> {
     match given {
         Ok(given) => pairs(out, &given),
-        Err(GenerateError::Failed { key }) => writeln!(out, "{} failed", key.print()?.as_str()),
+        Err(GenerateError::Failed { key }) => line(out, &[key.print()?.as_str(), "failed"]),
         Err(GenerateError::Status { key, number }) => {
             writeln!(out, "{} status {number}", key.print()?.as_str())
         }
-        Err(GenerateError::BadOutput { key }) => writeln!(out, "{} output", key.print()?.as_str()),
-        Err(GenerateError::Memory) => out.push_str("memory\n"),
+        Err(GenerateError::BadOutput { key }) => line(out, &[key.print()?.as_str(), "output"]),
+        Err(GenerateError::Memory) => line(out, &["memory"]),
     }
 }
 
 // Tells each program that was asked, and what it was given to read.
-fn asked(out: &mut String, asked: &[Question]) -> Result<(), AllocError> {
-    let alloc = *out.allocator();
+fn asked(out: &mut Vec<u8>, asked: &[Question]) -> io::Result<()> {
     for question in asked {
-        let words = question.words.join(alloc, " ")?;
-        let input = String::from_utf8_lossy(alloc, &question.input)?;
-        writeln!(out, "? {words}{input}")?;
+        let words = question.words.join(*out.allocator(), " ")?;
+        write!(out, "? {words}")?;
+        out.extend_from_slice(&question.input)?;
+        out.push(b'\n')?;
     }
     Ok(())
 }
 
 impl Asking {
-    /// No generators, and no answers.
-    pub fn new(alloc: Global) -> Asking {
-        Asking {
-            text: Vec::new(alloc),
-            answers: Vec::new(alloc),
+    /// Keeps the text of generators and tells them, or its first fault.
+    pub fn read(&mut self, out: &mut Vec<u8>, text: &[u8]) -> io::Result<()> {
+        let alloc = *out.allocator();
+        self.text = text.to_vec(alloc)?;
+        match Generators::read(alloc, text, &types(alloc)?) {
+            Ok(generators) => {
+                for one in generators.entries() {
+                    generator(out, &one.key, &one.words)?;
+                }
+                Ok(())
+            }
+            Err(error) => fault(out, error.kind, &error.at),
         }
     }
 
-    // Keeps how the next program answers.
-    fn answer(&mut self, alloc: Global, text: &str) -> io::Result<()> {
+    /// Keeps how the next program answers: its status and its output.
+    pub fn answer(&mut self, alloc: Global, text: &str) -> io::Result<()> {
         let (status, output) = parts(text);
-        let status = status.parse::<u16>().ok().ok_or(bad())?;
+        let status = number_of::<u16>(status)?;
         let output = output.as_bytes().to_vec(alloc)?;
         Ok(self.answers.push(Some(Answer { status, output }))?)
     }
 
-    // Tells what the programs give, after whose answers the next one fails.
-    fn ask(&mut self, out: &mut String, key: &str) -> io::Result<()> {
+    /// Tells what the programs give where the key has a value, after whose answers the next one fails.
+    pub fn ask(&mut self, out: &mut Vec<u8>, key: &str) -> io::Result<()> {
         let alloc = *out.allocator();
         let mut answers = mem::replace(&mut self.answers, Vec::new(alloc));
         answers.push(None)?;
         let mut spawner = MemorySpawner::of_answers(alloc, answers);
-        let read = Generators::read(alloc, &self.text, &types(alloc)?);
-        let generators = read.ok().ok_or(bad())?;
-        told(
-            out,
-            generators.ask_all(alloc, &live(alloc, key)?, &mut spawner),
-        )?;
-        Ok(asked(out, spawner.asked())?)
-    }
-
-    /// Tells what the step of this word comes to.
-    pub fn tell(&mut self, out: &mut String, word: &str, given: Given<'_>) -> io::Result<()> {
-        let alloc = *out.allocator();
-        match word {
-            "generators" => {
-                self.text = given.input().to_vec(alloc)?;
-                read(out, given.input())
-            }
-            "answer" => self.answer(alloc, given.input_text()?),
-            _ => self.ask(out, given.input_text()?),
-        }
+        let generators = good(Generators::read(alloc, &self.text, &types(alloc)?))?;
+        let given = generators.ask_all(alloc, &live(alloc, key)?, &mut spawner);
+        told(out, given)?;
+        asked(out, spawner.asked())
     }
 }

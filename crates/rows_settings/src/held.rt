@@ -1,7 +1,7 @@
 //! Held texts.
-use held_text::{DumpError, HeldError, HeldText, dump_text, read_dump};
+use held_text::{DumpError, HeldText, dump_text, read_dump};
 use key_names::Bytes;
-use row_files::{bad, parts};
+use row_files::{good, line, parts};
 use settings_tree::{Content, Held, KeyList, Owed, PendMaps};
 use std::alloc::{AllocError, Global};
 use std::io;
@@ -37,45 +37,32 @@ pub fn text_of(alloc: Global, members: &str) -> Result<String, AllocError> {
 /// What is held of the members.
 pub fn held_of(alloc: Global, members: &str) -> io::Result<Held> {
     let text = text_of(alloc, members)?;
-    Held::read(alloc, text.as_str().as_bytes())
-        .ok()
-        .ok_or(bad())
+    good(Held::read(alloc, text.as_str().as_bytes()))
 }
 
 /// Tells what is held.
-pub fn print(out: &mut String, held: &Held) -> Result<(), AllocError> {
-    writeln!(out, "{}", held.print()?.as_str())
+pub fn print(out: &mut Vec<u8>, held: &Held) -> io::Result<()> {
+    line(out, &[held.print()?.as_str()])
 }
 
 /// Tells the dump that the text is, printed, or why it is none.
-pub fn dump(out: &mut String, text: &[u8]) -> Result<(), AllocError> {
+pub fn dump(out: &mut Vec<u8>, text: &[u8]) -> io::Result<()> {
     let alloc = *out.allocator();
-    let refusal = match read_dump(alloc, text) {
-        Ok(dump) => {
-            let text = dump_text(alloc, dump.version, &dump.held)?;
-            return writeln!(out, "{}", text.as_str());
-        }
-        Err(DumpError::NotJson) => "not-json\n",
-        Err(DumpError::BadHeld) => "bad-held\n",
-        Err(DumpError::BadVersion) => "bad-version\n",
-        Err(DumpError::Memory) => return Err(AllocError),
-    };
-    out.push_str(refusal)
+    match read_dump(alloc, text) {
+        Ok(dump) => line(out, &[dump_text(alloc, dump.version, &dump.held)?.as_str()]),
+        Err(DumpError::NotJson) => line(out, &["not-json"]),
+        Err(DumpError::BadHeld) => line(out, &["bad-held"]),
+        Err(DumpError::BadVersion) => line(out, &["bad-version"]),
+        Err(DumpError::Memory) => line(out, &["memory"]),
+    }
 }
 
 /// Holds the text, and tells a copy of it if `is_told`, or tells that it is none.
-pub fn hold(
-    out: &mut String,
-    held: &mut Held,
-    text: &str,
-    is_told: bool,
-) -> Result<(), AllocError> {
-    let alloc = *out.allocator();
-    match Held::read(alloc, text.as_bytes()) {
-        Ok(read) => *held = read.copy()?,
-        Err(HeldError::BadHeld) => return out.push_str("bad\n"),
-        Err(HeldError::Memory) => return Err(AllocError),
-    }
+pub fn hold(out: &mut Vec<u8>, held: &mut Held, text: &str, is_told: bool) -> io::Result<()> {
+    let Ok(read) = Held::read(*out.allocator(), text.as_bytes()) else {
+        return line(out, &["bad"]);
+    };
+    *held = read.copy()?;
     if is_told {
         print(out, held)?;
     }

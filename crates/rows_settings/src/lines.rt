@@ -1,59 +1,50 @@
-//! Keys and values that are read, and lines that tell of them.
+//! Values that are read, and lines that tell of keys and values.
 use json_trees::{Pending, Scalar};
-use key_names::{Key, Text, read_list};
-use row_files::bad;
-use std::alloc::{AllocError, Global};
+use key_names::{Key, Text};
+use row_files::good;
+use std::alloc::Global;
 use std::fmt::Debug;
-use std::io;
-
-/// The key that the text spells.
-pub fn key_of(alloc: Global, text: &str) -> io::Result<Key> {
-    Key::read(alloc, text.as_bytes()).ok().ok_or(bad())
-}
-
-/// The keys that the text lists.
-pub fn keys_of(alloc: Global, text: &str) -> io::Result<Vec<Key>> {
-    read_list(alloc, text.as_bytes()).ok().ok_or(bad())
-}
+use std::io::{self, Write};
 
 /// The scalar that the JSON text is.
 pub fn scalar_of(alloc: Global, json: &str) -> io::Result<Scalar> {
-    Scalar::of_json(alloc, json.as_bytes()).ok().ok_or(bad())
+    good(Scalar::of_json(alloc, json.as_bytes()))
 }
 
 /// Tells a word, and the key with its value after a `=`.
-pub fn pair(out: &mut String, word: &str, key: &Key, value: &Scalar) -> Result<(), AllocError> {
+pub fn pair(out: &mut Vec<u8>, word: &str, key: &Key, value: &Scalar) -> io::Result<()> {
     let (key, value) = (key.print()?, value.print(*out.allocator())?);
     write!(out, "{word}{}={}", key.as_str(), value.as_str())
 }
 
-/// Tells the same of what is pending; a removal is `null`.
-pub fn change(out: &mut String, word: &str, key: &Key, value: &Pending) -> Result<(), AllocError> {
-    if let Pending::Put(value) = value {
-        return pair(out, word, key, value);
+/// Tells a word and the same of what is pending, on a line; a removal is `null`.
+pub fn change(out: &mut Vec<u8>, word: &str, key: &Key, value: &Pending) -> io::Result<()> {
+    match value {
+        Pending::Put(value) => pair(out, word, key, value)?,
+        Pending::Gone => write!(out, "{word}{}=null", key.print()?.as_str())?,
     }
-    write!(out, "{word}{}=null", key.print()?.as_str())
+    Ok(out.push(b'\n')?)
 }
 
 /// Tells each pair on a line.
-pub fn pairs(out: &mut String, pairs: &[(Key, Scalar)]) -> Result<(), AllocError> {
+pub fn pairs(out: &mut Vec<u8>, pairs: &[(Key, Scalar)]) -> io::Result<()> {
     for (key, value) in pairs {
         pair(out, "", key, value)?;
-        out.push('\n')?;
+        out.push(b'\n')?;
     }
     Ok(())
 }
 
 /// Tells a word and the keys, a space before each.
-pub fn keys(out: &mut String, word: &str, keys: &[Key]) -> Result<(), AllocError> {
-    out.push_str(word)?;
+pub fn keys(out: &mut Vec<u8>, word: &str, keys: &[Key]) -> io::Result<()> {
+    write!(out, "{word}")?;
     for key in keys {
         write!(out, " {}", key.print()?.as_str())?;
     }
-    out.push('\n')
+    Ok(out.push(b'\n')?)
 }
 
 /// Tells a fault, and where it is.
-pub fn fault<K: Debug + Drop>(out: &mut String, kind: K, at: &Text) -> Result<(), AllocError> {
+pub fn fault<K: Debug + Drop>(out: &mut Vec<u8>, kind: K, at: &Text) -> io::Result<()> {
     writeln!(out, "{kind:?} {}", at.as_str())
 }

@@ -35,7 +35,7 @@ mod transactions;
 mod trees;
 
 use crate::generators::Asking;
-use row_files::{Given, Subject, all_go, bad};
+use row_files::{Given, Subject, all_go, key_of, line};
 use settings_tree::{Held, is_setting};
 use std::alloc::Global;
 use std::io;
@@ -49,68 +49,61 @@ struct Rows {
 
 impl Rows {
     // Tells what the step on what is held comes to.
-    fn tell(&mut self, out: &mut String, word: &str, text: &str) -> io::Result<()> {
+    fn tell(&mut self, out: &mut Vec<u8>, word: &str, text: &str) -> io::Result<()> {
         let alloc = *out.allocator();
         match word {
             "with" | "held" => {
                 let text = held::text_of(alloc, text)?;
-                held::hold(out, &mut self.held, text.as_str(), word == "held")?;
+                held::hold(out, &mut self.held, text.as_str(), word == "held")
             }
-            "text" => held::hold(out, &mut self.held, text, true)?,
-            "print" => held::print(out, &self.held)?,
-            "setting" => {
-                let is_one = is_setting(&lines::key_of(alloc, text)?);
-                out.push_str(if is_one { "yes\n" } else { "no\n" })?;
-            }
-            "below" | "may-be-weak" => {
-                contents::tell(out, &self.held.live, word, text)?;
-            }
+            "text" => held::hold(out, &mut self.held, text, true),
+            "print" => held::print(out, &self.held),
+            "setting" if is_setting(&key_of(alloc, text)?) => line(out, &["yes"]),
+            "setting" => line(out, &["no"]),
+            "below" | "may-be-weak" => contents::tell(out, &self.held.live, word, text),
             "put" | "take" | "put-meta" | "take-meta" => {
-                contents::change(out, &mut self.held.live, word, text)?;
+                contents::change(out, &mut self.held.live, word, text)
             }
             "put-pending" | "take-pending" => {
-                transactions::change(out, &mut self.held.pending, word, text)?;
+                transactions::change_pending(out, &mut self.held.pending, word, text)
             }
-            _ => transactions::tell(out, &self.held, word, text)?,
+            _ => transactions::tell(out, &self.held, word, text),
         }
-        Ok(())
     }
 }
 
 impl Subject for Rows {
-    fn begin(&mut self, alloc: Global) -> io::Result<()> {
-        self.held = Box::new(alloc, held::nothing(alloc))?;
-        self.asking = Asking::new(alloc);
-        Ok(())
+    fn new(alloc: Global) -> io::Result<Rows> {
+        let (text, answers) = (Vec::new(alloc), Vec::new(alloc));
+        Ok(Rows {
+            held: Box::new(alloc, held::nothing(alloc))?,
+            asking: Asking { text, answers },
+        })
     }
 
-    fn make(&mut self, alloc: Global, word: &str, given: Given<'_>) -> io::Result<Option<Vec<u8>>> {
-        let mut told = String::new(alloc);
-        let (out, input) = (&mut told, given.input());
-        match word {
+    fn make(&mut self, out: &mut Vec<u8>, given: Given<'_>) -> io::Result<()> {
+        match given.word {
             "scalar" | "tree" | "patch-tree" | "pairs" => {
-                trees::tell(out, word, given.input_text()?)?;
+                trees::tell(out, given.word, given.input_text()?)
             }
             "joined" | "without" | "shares" | "removed" => {
-                sets::tell(out, word, given.input_text()?)?;
+                sets::tell(out, given.word, given.input_text()?)
             }
-            "names" => sets::names(out, input)?,
-            "dump" => held::dump(out, input)?,
-            "words" => commands::tell(out, given.words()?)?,
-            "release" => releases::tell(out, input)?,
-            "plan" => releases::plans(out, given)?,
-            "forward" | "backward" => migrations::tell(out, word, given)?,
-            "user-data" => generators::user_data(out, input)?,
-            "generators" | "answer" | "asks" => self.asking.tell(out, word, given)?,
-            _ => self.tell(out, word, given.input_text()?)?,
+            "names" => sets::names(out, given.input()),
+            "dump" => held::dump(out, given.input()),
+            "words" => commands::tell(out, given.words()?),
+            "release" => releases::tell(out, given.input()),
+            "plan" => releases::plans(out, given),
+            "forward" | "backward" => migrations::tell(out, given),
+            "user-data" => generators::user_data(out, given.input()),
+            "generators" => self.asking.read(out, given.input()),
+            "answer" => self.asking.answer(*out.allocator(), given.input_text()?),
+            "asks" => self.asking.ask(out, given.input_text()?),
+            _ => self.tell(out, given.word, given.input_text()?),
         }
-        Ok(Some(told.into_bytes()))
     }
 }
 
 fn main(rt: HostRuntime) -> io::Result<ExitCode> {
-    let alloc = rt.alloc();
-    let held = Box::new(alloc, held::nothing(alloc))?;
-    let asking = Asking::new(alloc);
-    all_go(&rt, &mut Rows { held, asking })
+    all_go::<Rows>(&rt)
 }

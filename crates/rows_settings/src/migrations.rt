@@ -1,10 +1,9 @@
 //! What migrations of their words make of what is held.
 use crate::held::{held_of, print};
-use crate::lines::{key_of, keys_of, scalar_of};
+use crate::lines::scalar_of;
 use key_names::{Key, Text};
 use migrate_helpers::{MapError, Mapping, Migration};
-use row_files::{Given, bad};
-use settings_tree::Held;
+use row_files::{Given, bad, key_of, keys_of, line, text_of};
 use std::alloc::{AllocError, Global};
 use std::io;
 
@@ -23,17 +22,6 @@ fn pairs(alloc: Global, words: &[&str]) -> io::Result<Vec<(Key, Key)>> {
         pairs.push((key_of(alloc, from)?, key_of(alloc, to)?))?;
     }
     Ok(pairs)
-}
-
-// The migration of settings, of its kind and the word that it has.
-fn of_settings(alloc: Global, kind: &str, list: &str) -> io::Result<Migration> {
-    let settings = keys_of(alloc, list)?;
-    Ok(match kind {
-        "add-settings" => Migration::AddSettings { settings },
-        "add-prefixes" => Migration::AddPrefixes { prefixes: settings },
-        "remove-settings" => Migration::RemoveSettings { settings },
-        _ => return Err(bad()),
-    })
 }
 
 // The migration of one key, of its kind and the words after the key.
@@ -70,7 +58,15 @@ fn migration_of(alloc: Global, kind: &str, words: &[&str]) -> io::Result<Migrati
         ("rename-settings", words) => Ok(Migration::RenameSettings {
             pairs: pairs(alloc, words)?,
         }),
-        (kind, [list]) => of_settings(alloc, kind, list),
+        ("add-settings", [list]) => Ok(Migration::AddSettings {
+            settings: keys_of(alloc, list)?,
+        }),
+        ("add-prefixes", [list]) => Ok(Migration::AddPrefixes {
+            prefixes: keys_of(alloc, list)?,
+        }),
+        ("remove-settings", [list]) => Ok(Migration::RemoveSettings {
+            settings: keys_of(alloc, list)?,
+        }),
         (kind, words) => {
             let (key, words) = words.split_first().ok_or(bad())?;
             of_key(alloc, kind, key_of(alloc, key)?, words)
@@ -88,28 +84,21 @@ fn read(alloc: Global, text: &str) -> io::Result<Migration> {
     migration_of(alloc, kind, words)
 }
 
-// What the migration makes on the way that the word names. The way back is gone by a copy.
-fn made(word: &str, migration: &Migration, held: &Held) -> Result<Held, MapError> {
-    match word {
-        "forward" => migration.forward(held),
-        _ => migration.copy()?.backward(held),
-    }
-}
-
-/// Tells what the migration makes of what is held.
-pub fn tell(out: &mut String, way: &str, given: Given<'_>) -> io::Result<()> {
+/// Tells what the migration of the words makes of what is held, on the way that the word names. The way back is gone by a copy.
+pub fn tell(out: &mut Vec<u8>, given: Given<'_>) -> io::Result<()> {
     let alloc = *out.allocator();
     let migration = read(alloc, given.words()?)?;
-    let held = held_of(
-        alloc,
-        str::from_utf8(given.lines.unwrap_or(b""))
-            .ok()
-            .ok_or(bad())?,
-    )?;
-    match made(way, &migration, &held) {
-        Ok(held) => print(out, &held)?,
-        Err(MapError::Conflict { key }) => writeln!(out, "conflict {}", key.print()?.as_str())?,
-        Err(MapError::Memory) => out.push_str("memory\n")?,
+    let held = held_of(alloc, text_of(given.below())?)?;
+    let made = match given.word {
+        "forward" => migration.forward(&held),
+        _ => migration.copy()?.backward(&held),
+    };
+    match made {
+        Ok(held) => print(out, &held),
+        Err(MapError::Conflict { key }) => {
+            let key = key.print()?;
+            line(out, &["conflict", key.as_str()])
+        }
+        Err(MapError::Memory) => line(out, &["memory"]),
     }
-    Ok(())
 }

@@ -1,16 +1,15 @@
 //! Names, and rising lists of keys as sets.
-use crate::lines::{self, key_of, keys_of};
-use key_names::Key;
-use row_files::{bad, parts};
+use crate::lines::keys;
+use row_files::{bad, key_of, keys_of, line, parts};
 use settings_maps::{KeyList, TxName, is_meta_name};
-use std::alloc::{AllocError, Global};
-use std::io;
+use std::alloc::Global;
+use std::io::{self, Write};
 
 /// Tells what the bytes may name.
-pub fn names(out: &mut String, name: &[u8]) -> Result<(), AllocError> {
-    let alloc = *out.allocator();
-    let tx = TxName::read(alloc, name)?.is_some_and(|tx| tx.as_str().as_bytes() == name);
-    let tx = if tx { "a" } else { "no" };
+pub fn names(out: &mut Vec<u8>, name: &[u8]) -> io::Result<()> {
+    let tx = TxName::read(*out.allocator(), name)?;
+    let is_tx = tx.is_some_and(|tx| tx.as_str().as_bytes() == name);
+    let tx = if is_tx { "a" } else { "no" };
     let meta = if is_meta_name(name) { "" } else { "no " };
     writeln!(out, "{tx} transaction, {meta}metadata")
 }
@@ -24,39 +23,35 @@ fn set_of(alloc: Global, text: &str) -> io::Result<KeyList> {
     Ok(KeyList::new(alloc))
 }
 
-// Tells the word, and a copy of the set.
-fn told(out: &mut String, word: &str, set: &KeyList) -> Result<(), AllocError> {
-    lines::keys(out, word, &set.copy()?.into_keys())
+// Tells a copy of the set.
+fn told(out: &mut Vec<u8>, set: &KeyList) -> io::Result<()> {
+    keys(out, "keys", &set.copy()?.into_keys())
 }
 
-// How many of the keys the set has.
-fn share(set: &KeyList, keys: &[Key]) -> &'static str {
-    match (set.contains_all(keys), set.contains_any(keys)) {
-        (true, _) => "all\n",
-        (_, true) => "some\n",
-        _ => "none\n",
-    }
-}
-
-// Tells whether the set had and has the key that is removed, and what is left.
-fn removed(out: &mut String, mut set: KeyList, key: &Key) -> Result<(), AllocError> {
-    let had = set.contains(key);
-    set.remove(key);
-    write!(out, "{had} {}", set.contains(key))?;
-    told(out, "", &set)
-}
-
-/// Tells what the row of this word comes to.
-pub fn tell(out: &mut String, word: &str, text: &str) -> io::Result<()> {
+/// Tells what the row of this word comes to: of a key that is removed whether the set had and has it, and what is left.
+pub fn tell(out: &mut Vec<u8>, word: &str, text: &str) -> io::Result<()> {
     let alloc = *out.allocator();
     let (one, two) = parts(text);
-    let set = set_of(alloc, one)?;
+    let mut set = set_of(alloc, one)?;
     match word {
-        "joined" => told(out, "keys", &set.joined(&set_of(alloc, two)?)?)?,
-        "without" => told(out, "keys", &set.without(&set_of(alloc, two)?)?)?,
-        "shares" => out.push_str(share(&set, &keys_of(alloc, two)?))?,
-        "removed" => removed(out, set, &key_of(alloc, two)?)?,
-        _ => return Err(bad()),
+        "joined" => told(out, &set.joined(&set_of(alloc, two)?)?),
+        "without" => told(out, &set.without(&set_of(alloc, two)?)?),
+        "shares" => {
+            let asked = keys_of(alloc, two)?;
+            let share = match (set.contains_all(&asked), set.contains_any(&asked)) {
+                (true, _) => "all",
+                (_, true) => "some",
+                _ => "none",
+            };
+            line(out, &[share])
+        }
+        "removed" => {
+            let key = key_of(alloc, two)?;
+            write!(out, "{} ", set.contains(&key))?;
+            set.remove(&key);
+            write!(out, "{}", set.contains(&key))?;
+            keys(out, "", &set.copy()?.into_keys())
+        }
+        _ => Err(bad()),
     }
-    Ok(())
 }

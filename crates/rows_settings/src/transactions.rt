@@ -1,44 +1,43 @@
 //! Transactions: what is pending, and what calls change, an entry on a line.
-use crate::lines::{self, key_of, pair, scalar_of};
+use crate::lines::{change, keys, pair, scalar_of};
 use key_names::Key;
-use pending_tx::{Commit, CommitError, commit, drop_tx, list, patch, pending};
-use row_files::{bad, parts};
+use pending_tx::{CommitError, commit, drop_tx, list, patch, pending};
+use row_files::{bad, key_of, line, parts};
 use settings_tree::{Change, Entry, Held, Owed, PendMaps, Pending, TxName};
-use std::alloc::{AllocError, Global};
-use std::io;
+use std::alloc::Global;
+use std::io::{self, Write};
 
 // Tells the word and what is owed.
-fn owed(out: &mut String, word: &str, owed: &Owed) -> Result<(), AllocError> {
+fn owed(out: &mut Vec<u8>, word: &str, owed: &Owed) -> io::Result<()> {
     match owed {
-        Owed::All => writeln!(out, "{word} all"),
-        Owed::Keys(owed) => lines::keys(out, word, owed.as_slice()),
+        Owed::All => line(out, &[word, "all"]),
+        Owed::Keys(owed) => keys(out, word, owed.as_slice()),
     }
-}
-
-// Tells the key that is gone, of the live ones or of a transaction.
-fn gone(out: &mut String, from: &str, key: &Key) -> Result<(), AllocError> {
-    writeln!(out, "{from} {}=gone", key.print()?.as_str())
 }
 
 // Tells the entry in words; one that no call of transactions makes is `other`.
-fn entry(out: &mut String, entry: &Entry) -> Result<(), AllocError> {
+fn entry(out: &mut Vec<u8>, entry: &Entry) -> io::Result<()> {
     match entry {
-        Entry::LiveSet { key, value } => pair(out, "live ", key, value)?,
-        Entry::LiveGone { key } => return gone(out, "live", key),
+        Entry::LiveSet { key, value } => {
+            pair(out, "live ", key, value)?;
+            line(out, &[])
+        }
+        Entry::LiveGone { key } => writeln!(out, "live {}=gone", key.print()?.as_str()),
         Entry::PendSet { tx, key, value } => {
             write!(out, "{} ", tx.as_str())?;
-            lines::change(out, "", key, value)?;
+            change(out, "", key, value)
         }
-        Entry::PendGone { tx, key } => return gone(out, tx.as_str(), key),
-        Entry::OwedSet { owed: set } => return owed(out, "owed", set),
-        Entry::WeakIs { weak } => return lines::keys(out, "weak", weak.as_slice()),
-        _ => out.push_str("other")?,
+        Entry::PendGone { tx, key } => {
+            writeln!(out, "{} {}=gone", tx.as_str(), key.print()?.as_str())
+        }
+        Entry::OwedSet { owed: set } => owed(out, "owed", set),
+        Entry::WeakIs { weak } => keys(out, "weak", weak.as_slice()),
+        _ => line(out, &["other"]),
     }
-    out.push('\n')
 }
 
 // Tells the entries.
-fn entries(out: &mut String, change: &Change) -> Result<(), AllocError> {
+fn entries(out: &mut Vec<u8>, change: &Change) -> io::Result<()> {
     for one in change.as_slice() {
         entry(out, one)?;
     }
@@ -50,20 +49,17 @@ fn tx_of(alloc: Global, name: &str) -> io::Result<TxName> {
 }
 
 // Tells the names of the transactions.
-fn names(out: &mut String, held: &Held) -> Result<(), AllocError> {
-    let alloc = *out.allocator();
-    for name in &list(alloc, held)? {
-        writeln!(out, "{}", name.as_str())?;
+fn names(out: &mut Vec<u8>, held: &Held) -> io::Result<()> {
+    for name in &list(*out.allocator(), held)? {
+        line(out, &[name.as_str()])?;
     }
     Ok(())
 }
 
 // Tells what is pending.
-fn listed(out: &mut String, held: &Held, tx: &TxName) -> Result<(), AllocError> {
-    let alloc = *out.allocator();
-    for (key, value) in &pending(alloc, held, tx)? {
-        lines::change(out, "", key, value)?;
-        out.push('\n')?;
+fn listed(out: &mut Vec<u8>, held: &Held, tx: &TxName) -> io::Result<()> {
+    for (key, value) in &pending(*out.allocator(), held, tx)? {
+        change(out, "", key, value)?;
     }
     Ok(())
 }
@@ -88,67 +84,60 @@ fn pairs_of(alloc: Global, text: &str) -> io::Result<Vec<(Key, Pending)>> {
     Ok(pairs)
 }
 
-// Tells the keys, the changed ones, the entries, and what is owed then.
-fn told(out: &mut String, held: &Held, commit: &Commit) -> Result<(), AllocError> {
-    lines::keys(out, "keys", commit.keys.as_slice())?;
-    lines::keys(out, "changed", commit.changed.as_slice())?;
+// Tells the keys of the commit, the changed ones, the entries, and what is owed then.
+fn committed(out: &mut Vec<u8>, held: &Held, tx: &TxName) -> io::Result<()> {
+    let commit = match commit(*out.allocator(), held, tx) {
+        Ok(commit) => commit,
+        Err(CommitError::NoPending) => return line(out, &["no such transaction"]),
+        Err(CommitError::Memory) => return line(out, &["memory"]),
+    };
+    keys(out, "keys", commit.keys.as_slice())?;
+    keys(out, "changed", commit.changed.as_slice())?;
     entries(out, &commit.change)?;
     owed(out, "then owed", held.owed_after(&commit.change))
 }
 
-fn committed(out: &mut String, held: &Held, tx: &TxName) -> Result<(), AllocError> {
-    let alloc = *out.allocator();
-    match commit(alloc, held, tx) {
-        Ok(commit) => told(out, held, &commit),
-        Err(CommitError::NoPending) => out.push_str("no such transaction\n"),
-        Err(CommitError::Memory) => Err(AllocError),
-    }
-}
-
 /// Tells what the row of this word comes to.
-pub fn tell(out: &mut String, held: &Held, word: &str, text: &str) -> io::Result<()> {
+pub fn tell(out: &mut Vec<u8>, held: &Held, word: &str, text: &str) -> io::Result<()> {
     let alloc = *out.allocator();
     if word == "transactions" {
-        return Ok(names(out, held)?);
+        return names(out, held);
     }
     let (name, rest) = parts(text);
     let tx = tx_of(alloc, name)?;
     match word {
-        "pending" => listed(out, held, &tx)?,
-        "patch" => entries(out, &patch(alloc, held, &tx, &pairs_of(alloc, rest)?)?)?,
-        "commit" => committed(out, held, &tx)?,
+        "pending" => listed(out, held, &tx),
+        "patch" => entries(out, &patch(alloc, held, &tx, &pairs_of(alloc, rest)?)?),
+        "commit" => committed(out, held, &tx),
         "drop" => {
             let dropped = drop_tx(alloc, held, &tx)?;
-            lines::keys(out, "keys", dropped.keys.as_slice())?;
-            entries(out, &dropped.change)?;
+            keys(out, "keys", dropped.keys.as_slice())?;
+            entries(out, &dropped.change)
         }
-        _ => return Err(bad()),
-    }
-    Ok(())
-}
-
-// Tells what was taken, `null` for a removal.
-fn taken(out: &mut String, taken: Option<Pending>) -> Result<(), AllocError> {
-    match taken {
-        Some(Pending::Put(value)) => {
-            let value = value.print(*out.allocator())?;
-            writeln!(out, "{}", value.as_str())
-        }
-        Some(Pending::Gone) => out.push_str("null\n"),
-        None => out.push_str("none\n"),
+        _ => Err(bad()),
     }
 }
 
-/// Changes what is pending, where it may be changed so.
-pub fn change(out: &mut String, pending: &mut PendMaps, word: &str, text: &str) -> io::Result<()> {
+/// Changes what is pending, where it may be changed so, and tells what was taken, `null` for a removal.
+pub fn change_pending(
+    out: &mut Vec<u8>,
+    pending: &mut PendMaps,
+    word: &str,
+    text: &str,
+) -> io::Result<()> {
     let alloc = *out.allocator();
     let (name, rest) = parts(text);
     let (key, json) = parts(rest);
     let (tx, key) = (tx_of(alloc, name)?, key_of(alloc, key)?);
-    match word {
-        "take-pending" => taken(out, pending.take(&tx, &key))?,
-        _ if pending.fits(&tx, &key) => pending.put(tx, key, pending_of(alloc, json)?)?,
-        _ => out.push_str("no fit\n")?,
+    if word != "take-pending" {
+        if !pending.fits(&tx, &key) {
+            return line(out, &["no fit"]);
+        }
+        return Ok(pending.put(tx, key, pending_of(alloc, json)?)?);
     }
-    Ok(())
+    match pending.take(&tx, &key) {
+        Some(Pending::Put(value)) => line(out, &[value.print(alloc)?.as_str()]),
+        Some(Pending::Gone) => line(out, &["null"]),
+        None => line(out, &["none"]),
+    }
 }

@@ -1,11 +1,11 @@
 //! Scalars and trees of their JSON texts: what each is, or why it is none.
-use crate::lines::{self, key_of};
+use crate::lines;
 use json_trees::{Scalar, ScalarError, TreeError, flatten, flatten_patch, nest, nest_pending};
-use key_names::{Key, Text};
-use row_files::parts;
-use std::alloc::{AllocError, Global};
+use key_names::Text;
+use row_files::{key_of, line, parts};
+use std::alloc::Global;
 use std::fmt::Debug;
-use std::io;
+use std::io::{self, Write};
 
 // A copy of the scalar, printed.
 fn scalar(alloc: Global, json: &str) -> Result<Text, ScalarError> {
@@ -19,37 +19,31 @@ fn tree(alloc: Global, json: &str) -> Result<Text, TreeError> {
     Ok(nest(alloc, pairs.as_slice(), 0)?)
 }
 
-// The pairs that this patch of the key is, nested again without the key.
-fn patch(alloc: Global, under: &Key, json: &str) -> Result<Text, TreeError> {
-    let pairs = flatten_patch(alloc, under, json.as_bytes())?;
-    Ok(nest_pending(alloc, pairs.as_slice(), under.len())?)
-}
-
-fn told<E: Debug + Drop>(out: &mut String, text: Result<Text, E>) -> Result<(), AllocError> {
+fn told<E: Debug + Drop>(out: &mut Vec<u8>, text: Result<Text, E>) -> io::Result<()> {
     match text {
-        Ok(text) => writeln!(out, "{}", text.as_str()),
+        Ok(text) => line(out, &[text.as_str()]),
         Err(error) => writeln!(out, "{error:?}"),
     }
 }
 
-// Tells the pairs of the tree below the key.
-fn pairs(out: &mut String, under: &Key, json: &str) -> Result<(), AllocError> {
+/// Tells what the row of this word comes to: of a patch its pairs, nested again without the key, and of `pairs` those of the tree below the key.
+pub fn tell(out: &mut Vec<u8>, word: &str, text: &str) -> io::Result<()> {
     let alloc = *out.allocator();
-    match flatten(alloc, Some(under), json.as_bytes()) {
+    let (key, json) = match word {
+        "scalar" => return told(out, scalar(alloc, text)),
+        "tree" => return told(out, tree(alloc, text)),
+        "patch-tree" => ("settings", text),
+        _ => parts(text),
+    };
+    let under = key_of(alloc, key)?;
+    if word == "patch-tree" {
+        return match flatten_patch(alloc, &under, json.as_bytes()) {
+            Ok(pairs) => line(out, &[nest_pending(alloc, &pairs, under.len())?.as_str()]),
+            Err(error) => writeln!(out, "{error:?}"),
+        };
+    }
+    match flatten(alloc, Some(&under), json.as_bytes()) {
         Ok(pairs) => lines::pairs(out, &pairs),
         Err(error) => writeln!(out, "{error:?}"),
     }
-}
-
-/// Tells what the row of this word comes to.
-pub fn tell(out: &mut String, word: &str, text: &str) -> io::Result<()> {
-    let alloc = *out.allocator();
-    let (key, json) = parts(text);
-    match word {
-        "scalar" => told(out, scalar(alloc, text))?,
-        "tree" => told(out, tree(alloc, text))?,
-        "patch-tree" => told(out, patch(alloc, &key_of(alloc, "settings")?, text))?,
-        _ => pairs(out, &key_of(alloc, key)?, json)?,
-    }
-    Ok(())
 }

@@ -10,31 +10,27 @@ use commit_journal::{Batch, BatchError, JournalError, change, recover};
 use disk_memory::MemoryDisk;
 use key_names::Bytes;
 use outside::Path;
-use row_disks::{at, directory_of, done, line, path_of, text_of};
-use row_files::{Given, bad, parts};
+use row_disks::{directory_of, done};
+use row_files::{Given, at, bad, line, parts, path_of, text_of};
 use std::alloc::Global;
 use std::io;
 
 // A path below the directory, and the new bytes of its file, or none to take it away.
 type Entry = (Path, Option<Bytes>);
 
-// The entry of a line: `set PATH BYTES` or `remove PATH`.
-fn entry_of(alloc: Global, text: &str) -> io::Result<Entry> {
-    let (word, rest) = parts(text);
-    let (path, bytes) = parts(rest);
-    let bytes = match word {
-        "set" => Some(Bytes::of(bytes.as_bytes().to_vec(alloc)?)),
-        "remove" => None,
-        _ => return Err(bad()),
-    };
-    Ok((path_of(alloc, path.as_bytes())?, bytes))
-}
-
-// The entries of these lines.
+// The entries of these lines, of `set PATH BYTES` or `remove PATH` each.
 fn entries_of(alloc: Global, lines: &str) -> io::Result<Vec<Entry>> {
     let mut entries = Vec::new(alloc);
     for text in lines.lines() {
-        entries.push(entry_of(alloc, text)?)?;
+        let (word, rest) = parts(text);
+        let (path, bytes) = parts(rest);
+        let path = path_of(alloc, path.as_bytes())?;
+        let bytes = match word {
+            "set" => Some(Bytes::of(bytes.as_bytes().to_vec(alloc)?)),
+            "remove" => None,
+            _ => return Err(bad()),
+        };
+        entries.push((path, bytes))?;
     }
     Ok(entries)
 }
@@ -99,56 +95,34 @@ fn are_rising(entries: &[Entry]) -> bool
     }
 }
 
-// The journal of the change below the directory that the lines say, or what comes of making it.
-fn changed(
-    alloc: Global,
-    disk: &mut MemoryDisk,
-    word: &str,
-    dir: &Path,
-    lines: &str,
-) -> io::Result<Vec<u8>>
+// Tells the journal of the change below the directory that the lines say, or what comes of making it.
+fn changed(out: &mut Vec<u8>, disk: &mut MemoryDisk, dir: &Path, given: Given<'_>) -> io::Result<()>
     requires { length dir.now ≡ 2 }
 {
-    let entries = entries_of(alloc, lines)?;
+    let entries = entries_of(*out.allocator(), text_of(given.below())?)?;
     if !are_named(&entries) || !are_rising(&entries) {
         return Err(bad());
     }
-    match Batch::of(alloc, dir, entries) {
-        Ok(batch) if word == "journal" => Ok(batch.text().to_vec(alloc)?),
-        Ok(batch) => done(alloc, "changed", change(disk, &batch)),
-        Err(BatchError::TooDeep) => line(alloc, &["too deep"]),
-        Err(BatchError::Memory) => line(alloc, &["memory"]),
+    match Batch::of(*out.allocator(), dir, entries) {
+        Ok(batch) if given.word == "journal" => Ok(out.extend_from_slice(batch.text())?),
+        Ok(batch) => done(out, "changed", change(disk, &batch)),
+        Err(BatchError::TooDeep) => line(out, &["too deep"]),
+        Err(BatchError::Memory) => line(out, &["memory"]),
     }
 }
 
-fn recovered(alloc: Global, disk: &mut MemoryDisk, dir: &Path) -> io::Result<Vec<u8>>
-    requires { length dir.now ≡ 2 }
-{
-    match recover(alloc, disk, dir) {
-        Ok(true) => line(alloc, &["carried out"]),
-        Ok(false) => line(alloc, &["no journal"]),
-        Err(JournalError::BadJournal { path }) => at(alloc, "bad journal", &path),
-        Err(JournalError::Failed) => line(alloc, &["failed"]),
-        Err(JournalError::Memory) => line(alloc, &["memory"]),
-    }
-}
-
-/// What a step of a word for journals comes to.
-pub fn made(
-    alloc: Global,
-    disk: &mut MemoryDisk,
-    word: &str,
-    given: Given<'_>,
-) -> io::Result<Vec<u8>> {
+/// Tells what a step of a word for journals comes to.
+pub fn tell(out: &mut Vec<u8>, disk: &mut MemoryDisk, given: Given<'_>) -> io::Result<()> {
+    let alloc = *out.allocator();
     let dir = directory_of(alloc, given.text)?;
-    match word {
-        "recover" => recovered(alloc, disk, &dir),
-        _ => changed(
-            alloc,
-            disk,
-            word,
-            &dir,
-            text_of(given.lines.unwrap_or(b""))?,
-        ),
+    if given.word != "recover" {
+        return changed(out, disk, &dir, given);
+    }
+    match recover(alloc, disk, &dir) {
+        Ok(true) => line(out, &["carried out"]),
+        Ok(false) => line(out, &["no journal"]),
+        Err(JournalError::BadJournal { path }) => at(out, "bad journal", &path),
+        Err(JournalError::Failed) => line(out, &["failed"]),
+        Err(JournalError::Memory) => line(out, &["memory"]),
     }
 }

@@ -1,35 +1,24 @@
 //! Versions, data directories, and the links that lead to them.
 use disk_memory::MemoryDisk;
 use outside::Disk;
-use row_disks::{at, done, line};
-use row_files::bad;
+use row_disks::done;
+use row_files::{at, bad, good, line};
 use std::alloc::Global;
-use std::io;
+use std::io::{self, Write};
 use version_links::{LinkError, Names, Version, directory_of, flip, fresh_dir, resolve};
 
-// Where the links lead, and the version that this tells.
-fn leads(alloc: Global, disk: &mut MemoryDisk) -> io::Result<Vec<u8>> {
+// Tells where the links lead, and the version that this tells.
+fn leads(out: &mut Vec<u8>, disk: &mut MemoryDisk) -> io::Result<()> {
+    let alloc = *out.allocator();
     match resolve(alloc, disk) {
         Ok(Some(place)) => {
             let version = format!(in alloc; "{}", place.version)?;
-            at(alloc, version.as_str(), &place.directory)
+            at(out, version.as_str(), &place.directory)
         }
-        Ok(None) => line(alloc, &["no store"]),
-        Err(LinkError::BadLink { path }) => at(alloc, "bad link", &path),
-        Err(LinkError::Failed) => line(alloc, &["failed"]),
-        Err(LinkError::Memory) => line(alloc, &["memory"]),
-    }
-}
-
-// The next data directory of the version.
-fn fresh(alloc: Global, disk: &mut MemoryDisk, version: &Version) -> io::Result<Vec<u8>> {
-    match fresh_dir(alloc, disk, version) {
-        Ok(names) => {
-            let mut path = names.directory().print()?;
-            path.push(b'\n')?;
-            Ok(path)
-        }
-        Err(_) => line(alloc, &["failed"]),
+        Ok(None) => line(out, &["no store"]),
+        Err(LinkError::BadLink { path }) => at(out, "bad link", &path),
+        Err(LinkError::Failed) => line(out, &["failed"]),
+        Err(LinkError::Memory) => line(out, &["memory"]),
     }
 }
 
@@ -37,27 +26,34 @@ fn fresh(alloc: Global, disk: &mut MemoryDisk, version: &Version) -> io::Result<
 fn names_of(alloc: Global, version: &Version, id: u64) -> io::Result<Names> {
     let mut disk = MemoryDisk::new(alloc)?;
     for _ in 0..id.min(32) {
-        let taken = fresh_dir(alloc, &mut disk, version).ok().ok_or(bad())?;
-        disk.replace(taken.directory(), b"").ok().ok_or(bad())?;
+        let taken = good(fresh_dir(alloc, &mut disk, version))?;
+        good(disk.replace(taken.directory(), b""))?;
     }
-    fresh_dir(alloc, &mut disk, version).ok().ok_or(bad())
+    good(fresh_dir(alloc, &mut disk, version))
 }
 
-/// What a step of a word for links comes to.
-pub fn made(alloc: Global, disk: &mut MemoryDisk, word: &str, text: &str) -> io::Result<Vec<u8>> {
+/// Tells what a step of a word for links comes to.
+pub fn tell(out: &mut Vec<u8>, disk: &mut MemoryDisk, word: &str, text: &str) -> io::Result<()> {
+    let alloc = *out.allocator();
     match (word, directory_of(text.as_bytes())) {
         ("version", _) => match Version::read(alloc, text)? {
-            Some(version) => Ok(format!(in alloc; "{version}\n")?.into_bytes()),
-            None => line(alloc, &["none"]),
+            Some(version) => writeln!(out, "{version}"),
+            None => line(out, &["none"]),
         },
-        ("directory", Some((version, id))) => {
-            Ok(format!(in alloc; "{version} {id}\n")?.into_bytes())
+        ("directory", Some((version, id))) => writeln!(out, "{version} {id}"),
+        ("directory", None) => line(out, &["none"]),
+        ("leads", _) if text.is_empty() => leads(out, disk),
+        ("fresh", _) => {
+            let version = Version::read(alloc, text)?.ok_or(bad())?;
+            let Ok(names) = fresh_dir(alloc, disk, &version) else {
+                return line(out, &["failed"]);
+            };
+            out.extend_from_slice(&names.directory().print()?)?;
+            line(out, &[])
         }
-        ("directory", None) => line(alloc, &["none"]),
-        ("leads", _) if text.is_empty() => leads(alloc, disk),
-        ("fresh", _) => fresh(alloc, disk, &Version::read(alloc, text)?.ok_or(bad())?),
         ("flip", Some((version, id))) => {
-            done(alloc, "done", flip(disk, &names_of(alloc, &version, id)?))
+            let names = names_of(alloc, &version, id)?;
+            done(out, "done", flip(disk, &names))
         }
         _ => Err(bad()),
     }

@@ -12,7 +12,7 @@ mod journals;
 mod links;
 mod stores;
 
-use row_disks::{Disks, Words, text_of};
+use row_disks::{Disks, Words};
 use row_files::Given;
 use std::alloc::Global;
 use std::io;
@@ -22,26 +22,24 @@ use std::process::ExitCode;
 struct StoreWords;
 
 impl Words for StoreWords {
-    fn make(
-        &mut self,
-        alloc: Global,
-        disks: &mut Disks,
-        word: &str,
-        given: Given<'_>,
-    ) -> io::Result<Vec<u8>> {
+    fn new(_alloc: Global) -> StoreWords {
+        StoreWords
+    }
+
+    fn make(&mut self, out: &mut Vec<u8>, disks: &mut Disks, given: Given<'_>) -> io::Result<()> {
         let disk = &mut disks.disk;
-        match word {
-            "journal" | "change" | "recover" => journals::made(alloc, disk, word, given),
+        match given.word {
+            "journal" | "change" | "recover" => journals::tell(out, disk, given),
             "version" | "directory" | "leads" | "fresh" | "flip" => {
-                links::made(alloc, disk, word, text_of(given.text)?)
+                links::tell(out, disk, given.word, given.words()?)
             }
-            "stands" | "load" | "save" | "commit" => held::made(alloc, disk, word, given),
-            "init" | "open" | "peek" => stores::made(alloc, disk, word, text_of(given.text)?),
-            _ => disks.make(alloc, word, given),
+            "stands" | "load" | "save" | "commit" => held::tell(out, disk, given),
+            "init" | "open" | "peek" => stores::tell(out, disk, given.word, given.words()?),
+            _ => disks.make(out, given),
         }
     }
 }
 
 fn main(rt: HostRuntime) -> io::Result<ExitCode> {
-    row_disks::all_go(&rt, StoreWords)
+    row_disks::all_go::<StoreWords>(&rt)
 }

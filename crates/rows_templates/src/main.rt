@@ -10,10 +10,10 @@ mod rendering;
 mod trees;
 
 use key_names::{Bytes, Text};
-use row_files::{Given, Subject, all_go, bad};
+use row_files::{Given, Subject, all_go, bad, line};
 use settings_tree::{Content, Os};
 use std::alloc::Global;
-use std::io;
+use std::io::{self, Write};
 use std::process::ExitCode;
 use template_reader::{Templates, read};
 
@@ -26,83 +26,61 @@ struct Texts {
 }
 
 // Keeps the source for the file, which has none, or tells its fault.
-fn keep(alloc: Global, kept: &mut Templates, file: &str, source: &[u8]) -> io::Result<Vec<u8>> {
-    let file = Text::from_str(alloc, file)?;
-    let source = Bytes::of(source.to_vec(alloc)?);
+fn keep(out: &mut Vec<u8>, kept: &mut Templates, given: Given<'_>) -> io::Result<()> {
+    let file = Text::from_str(*out.allocator(), given.words()?)?;
+    let source = given.lines.ok_or(bad())?.to_vec(*out.allocator())?;
     if kept.source(file.as_str().as_bytes()).is_some() {
         return Err(bad());
     }
-    match kept.add(file, source) {
-        Ok(()) => Ok(Vec::new(alloc)),
-        Err(error) => Ok(trees::fault(alloc, error)?),
+    match kept.add(file, Bytes::of(source)) {
+        Ok(()) => Ok(()),
+        Err(error) => trees::fault(out, error),
     }
 }
 
-// How many nodes the template of the file has, and its source; or that none is kept.
-fn kept(alloc: Global, kept: &Templates, file: &[u8]) -> io::Result<Vec<u8>> {
+// Tells how many nodes the template of the file has, and its source; or that none is kept.
+fn kept(out: &mut Vec<u8>, kept: &Templates, file: &[u8]) -> io::Result<()> {
     match (kept.source(file), kept.parsed(file)) {
         (Some(source), Some(parsed)) => {
-            let count = parsed.template.nodes.as_slice().len();
-            let mut text = format!(in alloc; "{count}\n")?.into_bytes();
-            text.extend_from_slice(source)?;
-            Ok(text)
+            writeln!(out, "{}", parsed.template.nodes.as_slice().len())?;
+            Ok(out.extend_from_slice(source)?)
         }
-        (None, None) => Ok(b"none\n".to_vec(alloc)?),
+        (None, None) => line(out, &["none"]),
         _ => Err(bad()),
     }
 }
 
-impl Texts {
-    // Takes away all settings and names.
-    fn unset(&mut self, alloc: Global) -> io::Result<()> {
-        self.content = Box::new(alloc, Content::new(alloc))?;
-        self.os = rendering::no_names(alloc);
-        Ok(())
+impl Subject for Texts {
+    fn new(alloc: Global) -> io::Result<Texts> {
+        Ok(Texts {
+            content: Box::new(alloc, Content::new(alloc))?,
+            os: rendering::no_names(alloc),
+            kept: Templates::new(alloc),
+        })
     }
 
-    // Makes a step that comes to nothing.
-    fn set(&mut self, alloc: Global, word: &str, given: Given<'_>) -> io::Result<Vec<u8>> {
-        match word {
-            "unset" => self.unset(alloc)?,
+    fn make(&mut self, out: &mut Vec<u8>, given: Given<'_>) -> io::Result<()> {
+        let (alloc, input) = (*out.allocator(), given.input());
+        match given.word {
+            "read" => trees::tell(out, input, false)?,
+            "spans" => trees::tell(out, input, true)?,
+            "is-read" if read(alloc, input).is_ok() => line(out, &["yes"])?,
+            "is-read" => line(out, &["no"])?,
+            "render" => rendering::tell(out, &self.content, &self.os, input)?,
+            "keep" => keep(out, &mut self.kept, given)?,
+            "kept" => kept(out, &self.kept, input)?,
             "value" => rendering::put(alloc, &mut self.content, given.input_text()?)?,
             "os" => self.os = rendering::os_of(alloc, given.input_text()?)?,
+            "unset" => {
+                self.content = Box::new(alloc, Content::new(alloc))?;
+                self.os = rendering::no_names(alloc);
+            }
             _ => return Err(bad()),
         }
-        Ok(Vec::new(alloc))
-    }
-}
-
-impl Subject for Texts {
-    fn begin(&mut self, alloc: Global) -> io::Result<()> {
-        self.unset(alloc)?;
-        self.kept = Templates::new(alloc);
         Ok(())
-    }
-
-    fn make(&mut self, alloc: Global, word: &str, given: Given<'_>) -> io::Result<Option<Vec<u8>>> {
-        let input = given.input();
-        Ok(Some(match word {
-            "read" => trees::shown(alloc, input, false)?,
-            "spans" => trees::shown(alloc, input, true)?,
-            "is-read" if read(alloc, input).is_ok() => b"yes\n".to_vec(alloc)?,
-            "is-read" => b"no\n".to_vec(alloc)?,
-            "render" => rendering::shown(alloc, &self.content, &self.os, input)?,
-            "keep" => {
-                let source = given.lines.ok_or(bad())?;
-                keep(alloc, &mut self.kept, given.words()?, source)?
-            }
-            "kept" => kept(alloc, &self.kept, input)?,
-            _ => self.set(alloc, word, given)?,
-        }))
     }
 }
 
 fn main(rt: HostRuntime) -> io::Result<ExitCode> {
-    let alloc = rt.alloc();
-    let mut texts = Texts {
-        content: Box::new(alloc, Content::new(alloc))?,
-        os: rendering::no_names(alloc),
-        kept: Templates::new(alloc),
-    };
-    all_go(&rt, &mut texts)
+    all_go::<Texts>(&rt)
 }
