@@ -6,5 +6,6 @@ pub mod TurnsMade
 pub mod TypedHeld
 pub mod StoreOpened
 pub mod ChangesMade
+pub mod KeysForgotten
 pub mod PlansMade
 pub mod Verifications

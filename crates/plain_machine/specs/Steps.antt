@@ -1,12 +1,14 @@
 -- What the calls make of the world, in the machine's words.
-use Rattle.std.specs.Prelude.{◌≡◌}
+use Rattle.std.specs.Prelude.{◌≡◌, List, Option, Some, None, false, not, find}
 use Rattle.settings_tree.specs.declared.held.Held.{Held}
+use Rattle.pending_tx.specs.Transactions.{is_held, rising}
 use Rattle.version_links.specs.declared.version.Version.{Version}
-use Rattle.settings_machine.specs.World.{Image}
+use Rattle.settings_machine.specs.World.{Key, Image, is_running}
+use Rattle.settings_machine.specs.JobSeen.{job_seen}
 use Rattle.settings_machine.specs.Requests.{Request, Reply}
 use Rattle.settings_machine.specs.Seen.{Holds}
 use Rattle.settings_machine.specs.Step as machine
-use Rattle.settings_machine.specs.Events.{Asked, Turned, Moved, next}
+use Rattle.settings_machine.specs.Events.{Asked, Turned, Moved, Forgot, next}
 use Rattle.plain_machine.specs.Worlds.{world_of}
 use Rattle.plain_machine.specs.declared.image.PlainImage.{PlainImage}
 use Rattle.plain_machine.specs.declared.machine.PlainMachine.{PlainMachine}
@@ -38,3 +40,12 @@ IsTurned image old answer new = (I : Image) → HoldsImage I image → world_of 
 -- The store was moved to a version, with what is held there.
 abbrev pub IsMoved : PlainMachine → Version → Held → PlainMachine → Type 0
 IsMoved old version held new = (I : Image) → world_of new ≡ next I (world_of old) (Moved version held)
+
+-- Nothing changed where a key has no value; where each has one the keys were forgotten, in a world in which no job runs.
+abbrev pub Forgets : PlainMachine → List Key → PlainMachine → Option Key → Type 0
+Forgets old keys new (Some unheld) = world_of new ≡ world_of old
+Forgets old keys new None = is_running (job_seen old.job) ≡ false → (I : Image) → world_of new ≡ next I (world_of old) (Forgot (rising keys))
+
+-- What is told is the first of the keys that has no value, live or pending, if there is one; and the keys are forgotten where there is none.
+abbrev pub IsForgotten : PlainMachine → List Key → PlainMachine → Option Key → Type 0
+IsForgotten old keys new told = (told ≡ find (λ k. not (is_held old.held k)) keys) × Forgets old keys new told

@@ -16,7 +16,7 @@ use crate::machine::PlainMachine;
 use key_names::Key;
 use pending_tx::CommitError;
 use settings_machine::{Refusal, first_refusing, refused_pair};
-use settings_tree::{KeyList, Owed, Pending, TxName};
+use settings_tree::{KeyList, LiveView, Owed, Pending, TxName};
 use std::alloc::{AllocError, Global};
 
 // Why a change is refused after which this would be held: the first of the files of the changed keys whose template refuses.
@@ -28,8 +28,8 @@ fn refusal_over(
     ensures { IfOk result (IsRefusedOver image.now after) }
 {
     let files = image.manifest.files_of(&Owed::Keys(after.changed))?;
-    let live = &after.held.live;
-    match first_refusing(alloc, &image.templates, &image.os, live, &files)? {
+    let live = LiveView::of(&after.held.live);
+    match first_refusing(alloc, &image.templates, &image.os, &live, &files)? {
         Some((file, error)) => Ok(Some(Refusal::NotRendered { file, error })),
         None => Ok(None),
     }

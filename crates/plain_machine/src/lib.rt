@@ -6,6 +6,7 @@
 mod after;
 mod applying;
 mod files;
+mod forgetting;
 mod guarding;
 mod image;
 mod job_steps;

@@ -2,25 +2,17 @@
 ghost use Rattle.std.specs.Prelude.{◌≡◌, All, IfOk, OnErr, true};
 ghost use Rattle.key_names.specs.Key.{is_prefix};
 ghost use Rattle.settings_tree.specs.Content.{settings_key};
-ghost use Rattle.settings_tree.specs.Laid.{KeepsPrefixRule};
 ghost use Rattle.typed_settings.specs.Order.{IsTable};
 ghost use Rattle.settings_machine.specs.Typed.{IsTypedHeld};
 ghost use Rattle.settings_machine.specs.Requests.{Patch, DropTx};
 ghost use Rattle.plain_machine.specs.Plain.{IsAnswered, patch_reply, keys_reply};
 
 use key_names::Key;
+pub(crate) use opening_step::keep_rule;
 use settings_machine::{Refusal, refused_pair};
 use settings_tree::{Held, KeyList, Pending, TxName};
 use std::alloc::{AllocError, Global};
 use typed_settings::Types;
-
-/// What is held keeps the prefix rule. It does nothing.
-pub(crate) fn keep_rule(held: &Held)
-    ensures { KeepsPrefixRule held.now }
-{
-    held.live.weak();
-    held.pending.next_tx(None);
-}
 
 /// Makes the pairs pending in the transaction, unless the types refuse one of them: then it answers the
 /// first of these by key, and nothing changes. Each key begins with `settings`. The only error is out of

@@ -13,7 +13,7 @@ use crate::image::PlainImage;
 use crate::machine::PlainMachine;
 use key_names::{Bytes, Text};
 use settings_machine::{Plan, Refusal, file_bytes, job_plan};
-use settings_tree::{Content, KeyList, TxName};
+use settings_tree::{KeyList, LiveView, TxName};
 use std::alloc::{AllocError, Global};
 use template_eval::RenderError;
 
@@ -21,7 +21,7 @@ use template_eval::RenderError;
 fn file_over(
     alloc: Global,
     image: &PlainImage,
-    live: &Content,
+    live: &LiveView<'_>,
     file: &Text,
 ) -> Result<Result<Bytes, Refusal>, AllocError>
     ensures { IfOk result (IsFileOver image.now live.now file.now) }
@@ -80,7 +80,7 @@ impl PlainMachine {
                     &image.manifest,
                     &image.templates,
                     &image.os,
-                    &held.live,
+                    &LiveView::of(&held.live),
                     held.owed.copy()?,
                     changed,
                 )?;
@@ -108,7 +108,7 @@ impl PlainMachine {
             return Ok(Err(Refusal::NoName { name: file.copy()? }));
         }
         match self.after(alloc, image, tx)? {
-            Ok(after) => file_over(alloc, image, &after.held.live, file),
+            Ok(after) => file_over(alloc, image, &LiveView::of(&after.held.live), file),
             Err(refusal) => Ok(Err(refusal)),
         }
     }

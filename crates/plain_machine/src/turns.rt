@@ -21,7 +21,7 @@ use crate::turn_answer::TurnAnswer;
 use key_names::{Bytes, Text};
 use metadata_links::Manifest;
 use settings_machine::{Cause, Job, begun, file_bytes, owes_none, path_of};
-use settings_tree::{KeyList, Owed};
+use settings_tree::{KeyList, LiveView, Owed};
 use std::alloc::{AllocError, Global};
 use template_eval::RenderError;
 
@@ -86,7 +86,9 @@ impl PlainMachine {
         ensures kept { KeepsAllButOwed self.old.held self.new.held }
         ensures unchanged { OnErr result (world_of self.new ≡ world_of self.old) }
     {
-        match file_bytes(alloc, &image.templates, &image.os, &self.held.live, &file) {
+        let live = LiveView::of(&self.held.live);
+        let rendered: Result<_, _> = file_bytes(alloc, &image.templates, &image.os, &live, &file);
+        match rendered {
             Ok(bytes) => self.put_file(alloc, image, &file, bytes),
             Err(error) => self.refuse(file, error),
         }

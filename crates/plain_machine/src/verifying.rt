@@ -12,7 +12,7 @@ use crate::machine::PlainMachine;
 use key_names::Text;
 use outside::Path;
 use settings_machine::{VerifiedFile, file_state, marked_files, path_of};
-use settings_tree::Owed;
+use settings_tree::{LiveView, Owed};
 use std::alloc::{AllocError, Global};
 
 impl PlainMachine {
@@ -50,7 +50,7 @@ impl PlainMachine {
             alloc,
             &image.templates,
             &image.os,
-            &self.held.live,
+            &LiveView::of(&self.held.live),
             &file,
             self.found(&path),
             is_due,

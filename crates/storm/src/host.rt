@@ -6,7 +6,7 @@ use outside::{Disk, Path};
 use release_file::Release;
 use std::alloc::Global;
 use storm_machine::{Replay, Trouble, differs};
-use storm_steps::Step;
+use storm_steps::{DUMP, Step};
 use version_links::Version;
 
 // The files of the image.
@@ -81,21 +81,26 @@ const FIRST: Version = Version {
     patch: 2,
 };
 
-fn put(alloc: Global, disk: &mut MemoryDisk, path: &str, bytes: &str) -> Result<(), Trouble> {
+fn put(alloc: Global, disk: &mut MemoryDisk, path: &str, bytes: &[u8]) -> Result<(), Trouble> {
     let path = Path::read(alloc, path.as_bytes())
         .ok()
         .ok_or(Trouble::Memory)?;
-    disk.replace(&path, bytes.as_bytes())
-        .ok()
-        .ok_or(Trouble::Memory)
+    disk.replace(&path, bytes).ok().ok_or(Trouble::Memory)
 }
 
 // A disk with the files of the image, and no store.
 fn empty_disk(alloc: Global) -> Result<MemoryDisk, Trouble> {
     let mut disk = MemoryDisk::new(alloc)?;
     for (path, bytes) in FILES {
-        put(alloc, &mut disk, path, bytes)?;
+        put(alloc, &mut disk, path, bytes.as_bytes())?;
     }
+    Ok(disk.crash(&[])?)
+}
+
+/// A disk with the files of the image and this dump, and no store.
+pub fn disk_with_dump(alloc: Global, dump: &[u8]) -> Result<MemoryDisk, Trouble> {
+    let mut disk = empty_disk(alloc)?;
+    put(alloc, &mut disk, DUMP, dump)?;
     Ok(disk.crash(&[])?)
 }
 

@@ -1,13 +1,14 @@
 //! The steps of a seed.
-use crate::host::begin_again;
+use crate::host::{begin_again, disk_with_dump};
 use crate::running::run_step;
 use crate::tally::Tally;
 use disk_memory::{Bytes, MemoryDisk, Pick};
 use std::alloc::{AllocError, Global};
 use storm_machine::{
     Planned, Replay, Run, Seen, Trouble, check_planned, check_verified, follow, go_on,
+    left_no_store, move_to,
 };
-use storm_steps::{Dice, Step, step_of};
+use storm_steps::{Dice, Order, Step, step_of};
 
 fn pick(alloc: Global, dice: &mut Dice) -> Result<Pick, AllocError> {
     Ok(match dice.below(4) {
@@ -70,7 +71,57 @@ fn verify(alloc: Global, disk: &MemoryDisk) -> Result<(), Trouble> {
     check_verified(alloc, &seen)
 }
 
-// One step: it is run, the power fails after it or not, the machine follows, and becomes the one with which the next step goes on.
+// The store is dumped, and the storm goes over to a new host, which has the image and this dump, and nothing else.
+fn lose_host(alloc: Global, replay: &mut Replay, disk: &mut MemoryDisk) -> Result<(), Trouble> {
+    let dump = Step::dump(alloc)?;
+    let seen = run_step(alloc, disk, &dump)?;
+    let run = Run {
+        step: &dump,
+        seen: &seen,
+        disk,
+    };
+    follow(alloc, replay, &run)?;
+    *disk = disk_with_dump(alloc, &seen.printed)?;
+    Ok(move_to(alloc, replay, disk)?)
+}
+
+// The step is run, and the power fails after it or not.
+fn run_through(
+    alloc: Global,
+    replay: &Replay,
+    disk: &mut MemoryDisk,
+    dice: &mut Dice,
+    step: &Step,
+    tally: &mut Tally,
+) -> Result<Seen, Trouble> {
+    let seen = run_planned(alloc, replay, disk, step, tally)?;
+    if step.crash {
+        crash(alloc, disk, dice)?;
+    }
+    Ok(seen)
+}
+
+// The same. A restore is run on a new host, and again, with nothing that fails, where it left no store.
+fn make(
+    alloc: Global,
+    replay: &mut Replay,
+    disk: &mut MemoryDisk,
+    dice: &mut Dice,
+    step: &Step,
+    tally: &mut Tally,
+) -> Result<Seen, Trouble> {
+    if !matches!(step.order, Order::Restore) {
+        return run_through(alloc, replay, disk, dice, step, tally);
+    }
+    lose_host(alloc, replay, disk)?;
+    let seen = run_through(alloc, replay, disk, dice, step, tally)?;
+    if left_no_store(alloc, &seen, disk)? {
+        return Ok(run_step(alloc, disk, &Step::restore(alloc)?)?);
+    }
+    Ok(seen)
+}
+
+// One step: it is made, the machine follows, and becomes the one with which the next step goes on.
 fn go_step(
     alloc: Global,
     replay: &mut Replay,
@@ -79,9 +130,8 @@ fn go_step(
     tally: &mut Tally,
 ) -> Result<(), Trouble> {
     let step = step_of(alloc, dice)?;
-    let seen = run_planned(alloc, replay, disk, &step, tally)?;
+    let seen = make(alloc, replay, disk, dice, &step, tally)?;
     if step.crash {
-        crash(alloc, disk, dice)?;
         verify(alloc, disk)?;
     }
     let run = Run {
@@ -105,7 +155,7 @@ pub fn storm(
     let mut dice = Dice::of(seed);
     let mut disk = disk.crash(&[])?;
     begin_again(alloc, &mut replay.host)?;
-    for _ in 0..dice.below(12).saturating_add(4) {
+    for _ in 0..dice.below(14).saturating_add(8) {
         go_step(alloc, replay, &mut disk, &mut dice, tally)?;
     }
     tally.seeds = tally.seeds.saturating_add(1);

@@ -1,6 +1,7 @@
 //! How much was done.
 use std::fmt;
 use storm_machine::{Replay, Run};
+use storm_steps::Order;
 
 /// How much was done.
 #[derive(Clone, Copy, Drop)]
@@ -21,6 +22,12 @@ pub struct Tally {
     pub moves: u64,
     /// Plans that came true.
     pub plans: u64,
+    /// Runs that forgot keys.
+    pub forgets: u64,
+    /// Dumps that were printed.
+    pub dumps: u64,
+    /// Stores that were restored on a new host.
+    pub restores: u64,
 }
 
 impl Tally {
@@ -34,11 +41,25 @@ impl Tally {
         stops: 0,
         moves: 0,
         plans: 0,
+        forgets: 0,
+        dumps: 0,
+        restores: 0,
     };
 
     /// Adds a plan that came true, where there was one.
     pub fn add_plan(&mut self, came: bool) {
         self.plans = self.plans.saturating_add(u64::from(came));
+    }
+
+    // Adds a run that ended well.
+    fn add_done(&mut self, order: &Order) {
+        let count = match order {
+            Order::Forget => &mut self.forgets,
+            Order::Dump => &mut self.dumps,
+            Order::Restore => &mut self.restores,
+            _ => return,
+        };
+        *count = count.saturating_add(1);
     }
 
     /// Adds a run that the machine went through.
@@ -53,6 +74,9 @@ impl Tally {
         self.faults = self.faults.saturating_add(u64::from(faults));
         self.stops = self.stops.saturating_add(u64::from(stops));
         self.moves = self.moves.saturating_add(u64::from(replay.moved.is_some()));
+        if run.seen.status == 0 {
+            self.add_done(&run.step.order);
+        }
     }
 }
 
@@ -61,9 +85,14 @@ impl fmt::Display for Tally {
         let (seeds, steps, requests) = (self.seeds, self.steps, self.requests);
         let (programs, faults) = (self.programs, self.faults);
         let (stops, moves, plans) = (self.stops, self.moves, self.plans);
+        let (forgets, dumps, restores) = (self.forgets, self.dumps, self.restores);
         write!(
             f,
-            "{seeds} seeds, {steps} steps, {requests} requests, {programs} programs, {faults} faults, {stops} stops, {moves} moves, {plans} plans"
+            "{seeds} seeds, {steps} steps, {requests} requests, {programs} programs, {faults} faults, "
+        )?;
+        write!(
+            f,
+            "{stops} stops, {moves} moves, {plans} plans, {forgets} forgets, {dumps} dumps, {restores} restores"
         )
     }
 }

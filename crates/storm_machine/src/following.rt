@@ -6,6 +6,7 @@ use crate::outcomes::{Outcome, check_end};
 use crate::replay::Replay;
 use crate::run::{Run, Seen};
 use crate::serving::serve;
+use crate::stores::{dumps, forgets, restores};
 use crate::trouble::{Trouble, differs, same};
 use std::alloc::Global;
 use storm_steps::Order;
@@ -31,6 +32,9 @@ fn outcome(alloc: Global, replay: &mut Replay, run: &Run) -> Result<Outcome, Tro
         Order::Verify => Ok(verifies(alloc, replay)?),
         Order::Prune => prunes(alloc, replay, run.seen),
         Order::Migrate(to) => migrates(alloc, replay, to),
+        Order::Forget => forgets(alloc, replay, &run.step.words),
+        Order::Dump => Ok(dumps(alloc, replay)?),
+        Order::Restore => Ok(restores(alloc, replay)?),
     }
 }
 

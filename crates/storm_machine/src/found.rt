@@ -13,7 +13,7 @@ use key_names::{Bytes, Text};
 use machine_replies::Host;
 use plain_machine::{PlainImage, PlainMachine};
 use settings_machine::file_bytes;
-use settings_tree::{Held, Owed};
+use settings_tree::{Held, LiveView, Owed};
 use std::alloc::{AllocError, Global};
 use version_links::{Place, Version, resolve};
 
@@ -109,8 +109,9 @@ fn check_current(
     disk: &MemoryDisk,
     name: &Text,
 ) -> Result<(), Trouble> {
-    let (image, live) = (&host.image, &host.machine.held.live);
-    match file_bytes(alloc, &image.templates, &image.os, live, name) {
+    let image = &host.image;
+    let live = LiveView::of(&host.machine.held.live);
+    match file_bytes(alloc, &image.templates, &image.os, &live, name) {
         Ok(wanted) => {
             let shown = bytes_on(disk, image, name.as_str()).unwrap_or(b"no file");
             same(alloc, shown, &wanted, "what is rendered")

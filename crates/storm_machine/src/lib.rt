@@ -19,6 +19,7 @@ mod replay;
 mod run;
 mod serving;
 mod settling;
+mod stores;
 mod trouble;
 mod verified;
 
@@ -28,5 +29,6 @@ pub use programs::spawned_lines;
 pub use replay::Replay;
 pub use run::{Run, Seen};
 pub use settling::go_on;
+pub use stores::{left_no_store, move_to};
 pub use trouble::{Trouble, differs};
 pub use verified::check_verified;

@@ -11,4 +11,4 @@ mod step;
 pub use dice::Dice;
 pub use making::step_of;
 pub use planning::{FILES, LOOKS};
-pub use step::{Fault, Order, Sent, Serving, Step};
+pub use step::{DUMP, Fault, Order, Sent, Serving, Step};

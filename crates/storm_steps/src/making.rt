@@ -1,7 +1,7 @@
 //! Random steps.
 use crate::dice::Dice;
 use crate::planning::planned;
-use crate::requests::{clients, random_change};
+use crate::requests::{clients, random_change, random_keys};
 use crate::step::{Fault, Order, Sent, Serving, Step};
 use std::alloc::{AllocError, Global};
 
@@ -123,8 +123,14 @@ fn migrate(alloc: Global, dice: &mut Dice) -> Result<Step, AllocError> {
     plain(alloc, Order::Migrate(to), line.as_str())
 }
 
+fn forget(alloc: Global, dice: &mut Dice) -> Result<Step, AllocError> {
+    let keys = random_keys(alloc, dice)?;
+    let line = format!(in alloc; "forget{keys}")?;
+    plain(alloc, Order::Forget, line.as_str())
+}
+
 fn calm_step(alloc: Global, dice: &mut Dice) -> Result<Step, AllocError> {
-    match dice.below(25) {
+    match dice.below(36) {
         0..=8 => serve(alloc, dice),
         9..=12 => serve_planned(alloc, dice),
         13..=15 => set(alloc, dice),
@@ -134,6 +140,9 @@ fn calm_step(alloc: Global, dice: &mut Dice) -> Result<Step, AllocError> {
         20 => plain(alloc, Order::Prune, "prune"),
         21 => Step::begin(alloc),
         22 => Step::verify(alloc),
+        23..=27 => forget(alloc, dice),
+        28 => Step::dump(alloc),
+        29..=33 => Step::restore(alloc),
         _ => migrate(alloc, dice),
     }
 }

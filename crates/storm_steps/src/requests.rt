@@ -103,6 +103,28 @@ pub fn random_change(alloc: Global, dice: &mut Dice, gone: bool) -> Result<Chang
     Ok(change)
 }
 
+// What is forgotten: settings that mostly have a value, a key of a service, which an opening lays again, and one that never has a value.
+const KEYS: &[&str] = &[
+    "settings.motd",
+    "settings.motd",
+    "settings.ntp.time-servers",
+    "settings.ntp.time-servers",
+    "settings.kernel.sysctl.vm",
+    "settings.kernel.sysctl.0",
+    "services.motd.restart-commands",
+    "settings.none",
+];
+
+/// One to three keys, each with a space before it.
+pub fn random_keys(alloc: Global, dice: &mut Dice) -> Result<String, AllocError> {
+    let mut words = String::new(alloc);
+    for _ in 0..dice.below(3).saturating_add(1) {
+        words.push(' ')?;
+        words.push_str(dice.pick(KEYS))?;
+    }
+    Ok(words)
+}
+
 /// The line of a patch of the transaction.
 pub fn patch(alloc: Global, dice: &mut Dice, tx: &str) -> Result<String, AllocError> {
     let change = random_change(alloc, dice, true)?;

@@ -1,6 +1,9 @@
 //! One step of a seed: a run of the program, and what becomes of its devices.
 use std::alloc::{AllocError, Global};
 
+/// Where the dump is by which a store is restored.
+pub const DUMP: &str = "dump.json";
+
 /// The words of `serve`.
 #[derive(Clone, Copy)]
 pub struct Serving {
@@ -39,6 +42,12 @@ pub enum Order {
     Prune,
     /// `migrate`, to the version with this text.
     Migrate(&'static str),
+    /// `forget`.
+    Forget,
+    /// `dump`.
+    Dump,
+    /// `restore`, by the dump at `DUMP`, where no store is.
+    Restore,
 }
 
 /// What a client sends, in two pieces.
@@ -128,6 +137,17 @@ impl Step {
     /// The step that begins a store.
     pub fn begin(alloc: Global) -> Result<Step, AllocError> {
         Step::calm(alloc, Order::Init, "init --version 1.5.2", Vec::new(alloc))
+    }
+
+    /// The step that prints a dump of the store.
+    pub fn dump(alloc: Global) -> Result<Step, AllocError> {
+        Step::calm(alloc, Order::Dump, "dump", Vec::new(alloc))
+    }
+
+    /// The step that begins a store by the dump at `DUMP`.
+    pub fn restore(alloc: Global) -> Result<Step, AllocError> {
+        let line = format!(in alloc; "restore {DUMP}")?;
+        Step::calm(alloc, Order::Restore, line.as_str(), Vec::new(alloc))
     }
 
     /// The step that reads each configuration file.

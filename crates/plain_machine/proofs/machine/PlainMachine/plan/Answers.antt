@@ -8,7 +8,7 @@ returns-in-Ok c =
     let after = c.in-Ok.field-0 in
     let owed : after.held.owed ≡ c.in_ok-copy-in-Ok.field-0 = cc c.in_ok-copy-in-Ok.ensures in
     asked_plan c.args.image.now c.args.self.now c.args.tx.now after (planned_of c.in_ok-plan-in-Ok.plan) (sym c.in-Ok.is ∙ c.in_ok-held.ensures)
-    (λ I holds. c.in_ok-plan-in-Ok.ensures.is I holds.templates_are holds.os_is holds.manifest_is after.held refl owed)
+    (λ I holds. c.in_ok-plan-in-Ok.ensures.is I holds.templates_are holds.os_is holds.manifest_is after.held (sym c.of.ensures) owed)
 
 pub returns : goal.returns
 returns c = asked_plan_refused c.args.image.now c.args.self.now c.args.tx.now c.in-Err.refusal (sym c.in-Err.is ∙ c.in_ok-held.ensures)
