@@ -11,8 +11,8 @@ goes_later C old (next change h) (inl is) = let e = ap clock is in omega arith
 goes_later C old (next change h) (inr (any, more)) = let le = goes_later C old h more in omega arith
 
 -- what every crash state since old has, holds of `EachSince`
-pub since_of_left : (P : Tree → Type 0) (old new : History) → GoesOn (λ change. Unit {0}) old new → ((crashed : Tree) → LeftSince new (clock old) crashed → P crashed)
-    → EachSince P old new
+pub since_of_left : (P : Tree → Type 0) (old new : History) → GoesOn (λ change. Unit {0}) old new
+    → ((crashed : Tree) → LeftSince new (clock old) crashed → P crashed) → EachSince P old new
 since_of_left P old (begun tree) is has = (is, has)
 since_of_left P old (next change h) (inl is) has = (inl is, λ crashed here. has crashed (inl here))
 since_of_left P old (next change h) (inr (any, more)) has =

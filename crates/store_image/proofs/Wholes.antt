@@ -11,7 +11,7 @@ use Rattle.metadata_links.specs.Manifest.{IsManifestOf}
 use Rattle.metadata_links.specs.declared.manifest.Manifest.{Manifest}
 use Rattle.template_reader.specs.declared.templates.Templates.{Templates}
 use Rattle.store_image.specs.Paths.{Sources, sources_in, model_path}
-use Rattle.store_image.specs.Image.{IsTemplate, IsMadeOf, IsCrashState, IsImageOf}
+use Rattle.store_image.specs.Image.{IsTemplate, IsMadeOf, IsImage, IsImageOf}
 use Rattle.store_image.specs.Refused.{Fault, IsRefused, bad_model, bad_manifest, bad_template}
 use Rattle.store_image.specs.Reading.{IsUnlinked, no_model, no_manifest, IsFirstBadOf, IsBadTemplate, AreReadFrom}
 
@@ -40,7 +40,7 @@ module _ (text : List ℕ) (model : Model) (manifest : Manifest) (spelled : Spel
     made : IsMadeOf text from.sources model manifest templates image
     made = record { spelled = spelled; linked = linked; read = from.read; kept = from.kept; told = from.told_is }
 
-    pub whole : IsCrashState model manifest templates image
+    pub whole : IsImage model manifest templates image
     whole = record { text = text; sources = from.sources; made = made }
 
     pub image_there : WhereTold told (λ h. sources_in (tree_of h) model_path ≡ Some text → IsImageOf (sources_in (tree_of h)) model manifest templates image)

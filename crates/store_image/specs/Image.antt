@@ -44,7 +44,7 @@ pub record IsMadeOf (text : List ℕ) (sources : FinMap path_cmp (List ℕ)) (mo
   pub told : image ≡ image_text text sources
 
 -- Some text and some sources make these parts of an image.
-pub record IsCrashState (model : Model) (manifest : Manifest) (templates : Templates) (image : List ℕ) : Type 0 where
+pub record IsImage (model : Model) (manifest : Manifest) (templates : Templates) (image : List ℕ) : Type 0 where
   pub text : List ℕ
   pub sources : FinMap path_cmp (List ℕ)
   pub made : IsMadeOf text sources model manifest templates image
