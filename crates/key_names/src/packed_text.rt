@@ -1,12 +1,20 @@
 //! Segments as one text, with a zero byte between two, which no segment has. As that byte is below all others, lists of
 //! segments are ordered as their texts.
 ghost use Rattle.std.specs.Prelude.{◌≡◌, ◌<◌, ◌≤◌, ◌==◌, slice_index_or, ◌++◌, ◌∷◌, [], length, string_bytes, IfOk, IfSome, OnOk, MatchOption, IsTrue};
-ghost use Rattle.std.specs.List.{count_by};
+ghost use Rattle.std.specs.List.{count_by, position};
 ghost use Rattle.key_names.specs.Segment.{is_segment};
 ghost use Rattle.key_names.specs.Packed.{parts, segments_of, longer};
 
 use crate::Text;
 use std::alloc::{AllocError, Global};
+
+// The place of the first zero byte.
+fn zero_in(bytes: &[u8]) -> Option<usize>
+    ensures value { result ≡ position (λ b. b == 0) bytes.now }
+    ensures bound { IfSome result (λ at. at < length bytes.now) }
+{
+    bytes.iter().position(|b| *b == 0)
+}
 
 /// The first part of a text, and what comes after the zero byte at its end; None of a text of one part. It takes no
 /// memory.
@@ -15,7 +23,9 @@ pub fn cut(text: &str) -> Option<(&str, &str)>
         (λ p. parts text.now ≡ p.0.now ∷ parts p.1.now) }
     ensures shorter { IfSome result (λ p. length p.1.now < length text.now) }
 {
-    text.split_once('\0')
+    let at = zero_in(text.as_bytes())?;
+    // a zero byte is a character of its own, so the text may be cut on both its sides
+    Some((&text[..at], &text[at + 1..]))
 }
 
 fn zeros(text: &str) -> usize
