@@ -267,6 +267,42 @@ fn no_client_holds_another(rt: HostRuntime) -> Result<(), Fail> {
     remove_folder(&rt, root)
 }
 
+// The client reads what the socket took of a long answer, and then the rest.
+fn read_late<N: Door, L: Link>(
+    rt: &impl Abort,
+    door: &mut N,
+    link: &mut L,
+    piece: &[u8],
+    room: &mut [u8],
+) -> Result<(), Fail>
+    requires { N.state door.old ≡ unused }
+{
+    link.connect()?;
+    assert!(rt; link.write(b"all.") == Ok(4));
+    assert!(rt; door.accept()?);
+    let taken = door.write(piece)?;
+    assert!(rt; door.write(&piece[taken..]) == Ok(piece.len() - taken));
+    door.finish();
+    assert!(rt; !room.is_empty());
+    let first = link.read(room)?;
+    assert!(rt; first < piece.len() && !door.is_awaited() && !room.is_empty());
+    assert!(rt; link.read(room) == Ok(piece.len() - first));
+    Ok(())
+}
+
+#[test]
+fn a_client_that_reads_late_gets_its_whole_answer(rt: HostRuntime) -> Result<(), Fail> {
+    let folder = new_folder(&rt, "late")?;
+    let piece = many_bytes(rt.alloc())?;
+    let mut room = many_bytes(rt.alloc())?;
+    let mut link = link_at(&rt, folder.as_str())?;
+    let mut door = door_at(&rt, folder.as_str())?;
+    assert!(rt; door.listen().is_ok());
+    let room = room.as_mut_slice();
+    read_late(&rt, &mut door, &mut link, piece.as_slice(), room)?;
+    remove_folder(&rt, folder.as_str())
+}
+
 // The link gives up a server that is silent.
 fn give_up_server<L: Link>(rt: &(impl Abort + Clock), link: &mut L) -> Result<(), Fail> {
     link.connect()?;

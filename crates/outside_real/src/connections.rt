@@ -2,6 +2,7 @@
 use crate::draining::Draining;
 use crate::reading::Reading;
 use crate::serving::Serving;
+use crate::watched::Watched;
 use client_framing::Framing;
 use mio::net::{UnixListener, UnixStream};
 use mio::{Events, Interest, Poll, Token};
@@ -25,7 +26,7 @@ const MOST_UNSENT: usize = 67_108_864;
 /// For how many seconds the poll waits while a client is there and nothing happens.
 const TICK: u64 = 1;
 
-/// How many clients are served between two polls.
+/// How many clients are served between two polls at most.
 const BATCH: u32 = 16;
 
 /// The token of the listener.
@@ -40,6 +41,8 @@ pub struct Connections {
     listener: UnixListener,
     /// Whether an accept may find a client.
     acceptable: bool,
+    /// Whether the last one had no room for it.
+    is_full: bool,
     reading: Vec<Reading>,
     draining: Vec<Draining>,
     /// How many clients there may be.
@@ -96,6 +99,7 @@ impl Connections {
             events: Events::with_capacity(alloc, MOST_CLIENTS)?,
             listener,
             acceptable: true,
+            is_full: false,
             reading: Vec::new(alloc),
             draining: Vec::new(alloc),
             most: MOST_CLIENTS,
@@ -105,11 +109,15 @@ impl Connections {
         })
     }
 
+    // Whether something can be done at once for one that is there.
+    fn is_pressing(&self) -> bool {
+        self.reading.iter().any(|client| client.is_pressing())
+            || self.draining.iter().any(|client| client.is_pressing())
+    }
+
     // How long the poll may wait: not at all where something can be done at once, a tick while a client is there, and else as long as it takes.
     fn timeout(&self) -> Option<Duration> {
-        let pressing = self.reading.iter().any(|client| client.is_pressing())
-            || self.draining.iter().any(|client| client.is_pressing());
-        if pressing {
+        if self.is_pressing() || (self.acceptable && !self.is_full) {
             Some(Duration::ZERO)
         } else if self.acceptable || !self.reading.is_empty() || !self.draining.is_empty() {
             Some(Duration::from_secs(TICK))
@@ -201,80 +209,98 @@ impl Connections {
         false
     }
 
-    // The system has no descriptor for one more: some are left to the rest of the program while there are clients.
+    // The system has no descriptor for one more: some are left to the rest of the program while there are clients, and else one is waited for.
     fn leave_reserve(&mut self) {
+        self.is_full = self.count() == 0;
         self.most = self.count().saturating_sub(RESERVE).max(1);
     }
 
-    // Adds a client, and reads what it has sent.
+    // Reads what a client has sent, and adds it where it stays; whether it can be served. The poll watches it only where more of it is wanted.
     fn admit(
         &mut self,
         alloc: Global,
         framing: &impl Framing,
-        mut stream: UnixStream,
-    ) -> io::Result<()> {
+        stream: UnixStream,
+    ) -> io::Result<bool> {
         self.last = self.last.wrapping_add(1).max(1);
-        let token = Token(self.last);
-        self.poll
-            .registry()
-            .register(&mut stream, token, Interest::READABLE)?;
-        let mut client = Reading::new(alloc, stream, token);
-        if client.progress(framing, true, Duration::ZERO) {
-            self.reading.push(client)?;
+        let mut client = Reading::new(alloc, Watched::new(stream, Token(self.last)));
+        if !client.progress(framing, true, Duration::ZERO) {
+            return Ok(false);
         }
-        Ok(())
+        let is_servable = client.is_servable();
+        if !is_servable {
+            client.watch(self.poll.registry())?;
+        }
+        self.reading.push(client)?;
+        Ok(is_servable)
     }
 
-    // Accepts clients until none is there. Where there is no room for one more they stay in the backlog.
-    fn accept_all(&mut self, alloc: Global, framing: &impl Framing) -> io::Result<()> {
+    // Accepts clients until one can be served or no other is there. Where there is no room for one more they stay in the backlog.
+    fn accept_some(&mut self, alloc: Global, framing: &impl Framing) -> io::Result<()> {
         if self.count() == 0 {
             self.most = MOST_CLIENTS;
         }
+        self.is_full = false;
         for _ in 0..MOST_CLIENTS {
-            if !self.acceptable || !self.make_room() {
+            if !self.acceptable {
+                return Ok(());
+            }
+            self.is_full = self.is_full || !self.make_room();
+            if self.is_full {
                 return Ok(());
             }
             match self.listener.accept() {
                 Ok((stream, _)) => {
-                    let _ = self.admit(alloc, framing, stream);
+                    if self.admit(alloc, framing, stream).unwrap_or(false) {
+                        return Ok(());
+                    }
                 }
                 Err(e) if e.kind() == ErrorKind::WouldBlock => self.acceptable = false,
                 Err(e) if is_passing(&e) => {}
-                Err(e) if is_no_room(&e) => {
-                    if self.count() == 0 {
-                        return Ok(());
-                    }
-                    self.leave_reserve();
-                }
+                Err(e) if is_no_room(&e) => self.leave_reserve(),
                 Err(e) => return Err(e),
             }
         }
         Ok(())
     }
 
-    // Waits so long until something happens, and does all that can be done at once.
+    // Waits so long until something happens, and does what can be done at once for the clients that are there.
     fn round(
         &mut self,
         clock: &impl Clock,
-        alloc: Global,
         framing: &impl Framing,
         timeout: Option<Duration>,
     ) -> io::Result<()> {
         self.poll_events(timeout)?;
-        self.accept_all(alloc, framing)?;
         let elapsed = self.elapsed(clock)?;
         self.progress_all(framing, elapsed);
+        self.batch = BATCH;
         Ok(())
     }
 
-    // The first client that can be served, if there is one and no poll is due.
-    fn take_servable(&mut self, alloc: Global) -> Option<Serving> {
-        if self.batch == 0 {
-            return None;
+    // Accepts clients where none of those that are there can be served.
+    fn look_for_servable(&mut self, alloc: Global, framing: &impl Framing) -> io::Result<()> {
+        if self.reading.iter().any(|client| client.is_servable()) {
+            return Ok(());
         }
-        let at = self.reading.iter().position(|client| client.is_servable())?;
-        self.batch -= 1;
-        Some(self.reading.remove(at).into_serving(alloc))
+        self.accept_some(alloc, framing)
+    }
+
+    // The first client that can be served, if there is one and no poll is due.
+    fn take_servable(
+        &mut self,
+        alloc: Global,
+        framing: &impl Framing,
+    ) -> io::Result<Option<Serving>> {
+        if self.batch == 0 {
+            return Ok(None);
+        }
+        self.look_for_servable(alloc, framing)?;
+        let Some(at) = self.reading.iter().position(|client| client.is_servable()) else {
+            return Ok(None);
+        };
+        self.batch = self.batch.saturating_sub(1);
+        Ok(Some(self.reading.remove(at).into_serving(alloc)))
     }
 
     /// The next client that can be served, which is waited for. The system's error where polling or accepting failed.
@@ -285,12 +311,11 @@ impl Connections {
         framing: &impl Framing,
     ) -> io::Result<Serving> {
         for _ in 0..u64::MAX {
-            if let Some(client) = self.take_servable(alloc) {
+            if let Some(client) = self.take_servable(alloc, framing)? {
                 return Ok(client);
             }
             let timeout = self.timeout();
-            self.round(clock, alloc, framing, timeout)?;
-            self.batch = BATCH;
+            self.round(clock, framing, timeout)?;
         }
         Err(io::Error::from(ErrorKind::Other))
     }
@@ -303,14 +328,13 @@ impl Connections {
         alloc: Global,
         framing: &impl Framing,
     ) -> bool {
-        if self
-            .round(clock, alloc, framing, Some(Duration::ZERO))
-            .is_err()
-        {
+        if self.round(clock, framing, Some(Duration::ZERO)).is_err() {
             return true;
         }
-        self.batch = BATCH;
-        self.reading.iter().any(|client| client.is_servable())
+        match self.look_for_servable(alloc, framing) {
+            Ok(()) => self.reading.iter().any(|client| client.is_servable()),
+            Err(_) => true,
+        }
     }
 
     // Drops those that have taken nothing for longest, while too much is kept of answers.
@@ -325,10 +349,11 @@ impl Connections {
 
     /// Lets a client take the rest of its answer in the polls that follow.
     pub fn drain_client(&mut self, client: Serving) {
-        let mut draining = client.into_draining(self.poll.registry());
+        let mut draining = client.into_draining();
         if !draining.progress(Duration::ZERO) {
             return;
         }
+        let _ = draining.watch(self.poll.registry());
         let _ = self.draining.push(draining);
         self.evict_unsent();
     }
@@ -340,8 +365,8 @@ impl Connections {
             if !self.draining.iter().any(|client| client.has_unsent()) {
                 return Ok(());
             }
-            let timeout = self.timeout();
-            self.poll_events(timeout)?;
+            let timeout = if self.is_pressing() { 0 } else { TICK };
+            self.poll_events(Some(Duration::from_secs(timeout)))?;
             let elapsed = self.elapsed(clock)?;
             self.draining.retain_mut(|client| client.progress(elapsed));
         }

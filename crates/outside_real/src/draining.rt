@@ -1,6 +1,6 @@
 //! A client that takes the rest of its answer, and is then closed.
-use mio::Token;
-use mio::net::UnixStream;
+use crate::watched::Watched;
+use mio::{Interest, Registry, Token};
 use std::io::{self, ErrorKind, Read, Write};
 use std::net::Shutdown;
 use std::time::Duration;
@@ -20,8 +20,7 @@ const CALLS: u32 = 64;
 /// A client that takes the rest of its answer, and is then closed.
 #[derive(Drop)]
 pub struct Draining {
-    stream: UnixStream,
-    token: Token,
+    stream: Watched,
     /// The bytes of its answer that were kept.
     rest: Vec<u8>,
     /// How many of these it has taken.
@@ -38,10 +37,9 @@ pub struct Draining {
 
 impl Draining {
     /// One that has still to take these bytes, and whether all of its request was received.
-    pub fn new(stream: UnixStream, token: Token, rest: Vec<u8>, is_whole: bool) -> Draining {
+    pub fn new(stream: Watched, rest: Vec<u8>, is_whole: bool) -> Draining {
         Draining {
             stream,
-            token,
             rest,
             sent: 0,
             is_whole,
@@ -53,12 +51,23 @@ impl Draining {
 
     /// Whether it has this token.
     pub fn has(&self, token: Token) -> bool {
-        self.token == token
+        self.stream.has(token)
     }
 
     /// A call may go on from now on.
     pub fn wake(&mut self) {
         self.ready = true;
+    }
+
+    /// Lets the poll tell from now on when it can take more, where something is kept, or has sent more. The system's error where it has no room
+    /// for that.
+    pub fn watch(&mut self, registry: &Registry) -> io::Result<()> {
+        let interest = if self.has_unsent() {
+            Interest::READABLE | Interest::WRITABLE
+        } else {
+            Interest::READABLE
+        };
+        self.stream.watch(registry, interest)
     }
 
     /// Whether something can be done for it without waiting.
@@ -82,7 +91,7 @@ impl Draining {
         if !self.is_whole {
             return Ok(false);
         }
-        match self.stream.read(&mut [0u8; 1]) {
+        match self.stream.get().read(&mut [0u8; 1]) {
             Ok(count) => Ok(count == 0),
             Err(e) if e.kind() == ErrorKind::WouldBlock => Ok(true),
             Err(e) => Err(e),
@@ -98,19 +107,19 @@ impl Draining {
                     if self.is_done()? {
                         return Ok(false);
                     }
-                    self.stream.shutdown(Shutdown::Write)?;
+                    self.stream.get().shutdown(Shutdown::Write)?;
                     self.pieces = Some(MOST_PIECES);
                     self.left = Duration::from_secs(LINGERING);
                     return Ok(true);
                 }
-                let count = self.stream.write(more)?;
+                let count = self.stream.get().write(more)?;
                 self.sent = self.sent.saturating_add(count);
                 self.left = Duration::from_secs(PATIENCE);
                 Ok(0 < count)
             }
             Some(pieces) => {
                 self.pieces = Some(pieces.saturating_sub(1));
-                Ok(0 < pieces && 0 < self.stream.read(&mut [0u8; 4096])?)
+                Ok(0 < pieces && 0 < self.stream.get().read(&mut [0u8; 4096])?)
             }
         }
     }

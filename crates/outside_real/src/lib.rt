@@ -33,6 +33,7 @@ mod spawner;
 mod telling;
 mod unsynced;
 mod walk;
+mod watched;
 mod words;
 mod work;
 

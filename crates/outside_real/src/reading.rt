@@ -1,10 +1,10 @@
 //! A client whose request is read.
 use crate::serving::Serving;
+use crate::watched::Watched;
 use client_framing::{Framing, Wanted};
-use mio::Token;
-use mio::net::UnixStream;
+use mio::{Interest, Registry, Token};
 use std::alloc::Global;
-use std::io::{ErrorKind, Read};
+use std::io::{self, ErrorKind, Read};
 use std::time::Duration;
 
 /// How many seconds a client has to send its whole request.
@@ -32,8 +32,7 @@ enum Stage {
 /// A client whose request is read.
 #[derive(Drop)]
 pub struct Reading {
-    stream: UnixStream,
-    token: Token,
+    stream: Watched,
     /// What was received.
     bytes: Vec<u8>,
     /// How many bytes there have to be before they are looked at again.
@@ -47,10 +46,9 @@ pub struct Reading {
 
 impl Reading {
     /// One that has just connected.
-    pub fn new(alloc: Global, stream: UnixStream, token: Token) -> Reading {
+    pub fn new(alloc: Global, stream: Watched) -> Reading {
         Reading {
             stream,
-            token,
             bytes: Vec::new(alloc),
             wanted: 1,
             stage: Stage::Waits,
@@ -61,7 +59,7 @@ impl Reading {
 
     /// Whether it has this token.
     pub fn has(&self, token: Token) -> bool {
-        self.token == token
+        self.stream.has(token)
     }
 
     /// A read may find more from now on.
@@ -72,6 +70,11 @@ impl Reading {
     /// Whether it can be served.
     pub fn is_servable(&self) -> bool {
         matches!(self.stage, Stage::Whole | Stage::Early)
+    }
+
+    /// Lets the poll tell from now on when it has sent more. The system's error where it has no room for that.
+    pub fn watch(&mut self, registry: &Registry) -> io::Result<()> {
+        self.stream.watch(registry, Interest::READABLE)
     }
 
     /// Whether something can be done for it without waiting.
@@ -87,7 +90,7 @@ impl Reading {
     /// As the one that is served.
     pub fn into_serving(self, alloc: Global) -> Serving {
         let is_whole = self.stage == Stage::Whole;
-        Serving::new(alloc, self.stream, self.token, self.bytes, is_whole)
+        Serving::new(alloc, self.stream, self.bytes, is_whole)
     }
 
     // Asks whether the bytes are enough, once they may be.
@@ -107,7 +110,7 @@ impl Reading {
     // Reads once.
     fn read_once(&mut self, framing: &impl Framing) {
         let mut room = [0u8; 4096];
-        match self.stream.read(&mut room) {
+        match self.stream.get().read(&mut room) {
             Ok(0) => self.stage = Stage::Gone,
             Ok(count) => match self.bytes.extend_from_slice(&room[..count]) {
                 Ok(()) => self.look(framing),

@@ -2,16 +2,14 @@
 ghost use Rattle.std.specs.Prelude.{◌≤◌, length, IfOk};
 
 use crate::draining::Draining;
-use mio::net::UnixStream;
-use mio::{Interest, Registry, Token};
+use crate::watched::Watched;
 use std::alloc::Global;
 use std::io::{self, ErrorKind, Read, Write};
 
 /// The client that is served.
 #[derive(Drop)]
 pub struct Serving {
-    stream: UnixStream,
-    token: Token,
+    stream: Watched,
     /// What was received of it.
     bytes: Vec<u8>,
     /// How much of that was read by the door's caller.
@@ -24,16 +22,9 @@ pub struct Serving {
 
 impl Serving {
     /// One of which these bytes were received, and whether they are all of its request.
-    pub fn new(
-        alloc: Global,
-        stream: UnixStream,
-        token: Token,
-        bytes: Vec<u8>,
-        is_whole: bool,
-    ) -> Serving {
+    pub fn new(alloc: Global, stream: Watched, bytes: Vec<u8>, is_whole: bool) -> Serving {
         Serving {
             stream,
-            token,
             bytes,
             taken: 0,
             rest: Vec::new(alloc),
@@ -49,7 +40,7 @@ impl Serving {
             return Ok(0);
         };
         if more.is_empty() {
-            return self.stream.read(room);
+            return self.stream.get().read(room);
         }
         let count = more.len().min(room.len());
         room[..count].copy_from_slice(&more[..count]);
@@ -62,7 +53,7 @@ impl Serving {
         ensures { IfOk result (λ count. count ≤ length piece.now) }
     {
         for _ in 0..u64::MAX {
-            match self.stream.write(piece) {
+            match self.stream.get().write(piece) {
                 Err(e) if e.kind() == ErrorKind::Interrupted => {}
                 answer => return answer,
             }
@@ -84,12 +75,8 @@ impl Serving {
         Ok(piece.len())
     }
 
-    /// As one that takes the rest of its answer. The poll tells when it can take more, where something is kept.
-    pub fn into_draining(mut self, registry: &Registry) -> Draining {
-        if !self.rest.is_empty() {
-            let both = Interest::READABLE | Interest::WRITABLE;
-            let _ = registry.reregister(&mut self.stream, self.token, both);
-        }
-        Draining::new(self.stream, self.token, self.rest, self.is_whole)
+    /// As one that takes the rest of its answer.
+    pub fn into_draining(self) -> Draining {
+        Draining::new(self.stream, self.rest, self.is_whole)
     }
 }
