@@ -1,12 +1,9 @@
 //! The sections of a document.
 ghost use Rattle.std.specs.Prelude.{◌≡◌, ◌∷◌, [], ℕ, List, IfOk, IfErr, OnOk};
-ghost use Rattle.std.specs.List.{list_any};
-ghost use Rattle.std.specs.Ordering.{eq_by_cmp};
-ghost use Rattle.key_names.specs.Order.{bytes_cmp};
 ghost use Rattle.std.specs.Option.{option_copied};
 ghost use Rattle.toml.specs.View.{table_view};
 ghost use Rattle.toml_values.specs.Document.{members_in};
-ghost use Rattle.model_file.specs.Document.{sections, section_members};
+ghost use Rattle.model_file.specs.Document.{section_members};
 ghost use Rattle.model_file.specs.Checks.{name_checks, table_check};
 ghost use Rattle.model_file.specs.Rows.{RowTexts};
 ghost use Rattle.model_file.specs.Refused.{Passes, Refuses};
@@ -15,17 +12,7 @@ use crate::ModelKind;
 use crate::located_fault::refused;
 use std::alloc::Global;
 use toml::Table;
-use toml_values::LocatedFault;
-
-// The name is that of a section.
-fn is_section(name: &str) -> bool
-    ensures { result ≡ list_any (eq_by_cmp bytes_cmp name.now) sections }
-{
-    matches!(
-        name,
-        "os" | "types" | "settings" | "services" | "configuration-files" | "metadata"
-    )
-}
+use toml_values::{LocatedFault, other_name};
 
 /// Checks that each top-level name is that of a section.
 pub fn check_names(alloc: Global, document: &Table) -> Result<(), LocatedFault<ModelKind>>
@@ -33,12 +20,18 @@ pub fn check_names(alloc: Global, document: &Table) -> Result<(), LocatedFault<M
     ensures refused { (rows : RowTexts)
         → IfErr result (Refuses rows (name_checks (table_view document.now))) }
 {
-    for (name, _) in document.iter() {
-        if !is_section(name.as_str()) {
-            return Err(refused(alloc, ModelKind::UnknownSection, name.as_str(), &[]));
-        }
+    let sections = [
+        "os",
+        "types",
+        "settings",
+        "services",
+        "configuration-files",
+        "metadata",
+    ];
+    match other_name(document, &sections) {
+        Some(name) => Err(refused(alloc, ModelKind::UnknownSection, name, &[])),
+        None => Ok(()),
     }
-    Ok(())
 }
 
 /// The table of a section, None where the section is missing.

@@ -1,12 +1,9 @@
 //! The sections of a document.
 ghost use Rattle.std.specs.Prelude.{◌≡◌, ◌∷◌, [], IfOk, IfErr, OnOk, is_some};
-ghost use Rattle.std.specs.List.{list_any};
-ghost use Rattle.std.specs.Ordering.{eq_by_cmp};
-ghost use Rattle.key_names.specs.Order.{bytes_cmp};
 ghost use Rattle.toml.specs.View.{view, table_view};
 ghost use Rattle.toml_values.specs.Values.{text_of};
 ghost use Rattle.version_links.specs.Versions.{version_of};
-ghost use Rattle.release_file.specs.Checks.{name_checks, sections, section_check, section_members, version_check};
+ghost use Rattle.release_file.specs.Checks.{name_checks, section_check, section_members, version_check};
 ghost use Rattle.release_file.specs.Fields.{read_by};
 ghost use Rattle.release_file.specs.Refused.{Passes, Refuses};
 ghost use Rattle.toml_values.specs.Document.{members_in};
@@ -16,27 +13,18 @@ use crate::field::field;
 use crate::release_error::ReleaseKind;
 use std::alloc::{AllocError, Global};
 use toml::{Table, Value};
-use toml_values::{LocatedFault, refused, text_of};
+use toml_values::{LocatedFault, other_name, refused, text_of};
 use version_links::Version;
-
-// The name is that of a section.
-fn is_section(name: &str) -> bool
-    ensures { result ≡ list_any (eq_by_cmp bytes_cmp name.now) sections }
-{
-    matches!(name, "version" | "migrations" | "migration")
-}
 
 /// Checks that each top-level name is that of a section.
 pub fn check_names(alloc: Global, document: &Table) -> Result<(), LocatedFault<ReleaseKind>>
     ensures passes { OnOk result (Passes (name_checks (table_view document.now))) }
     ensures refused { IfErr result (Refuses (name_checks (table_view document.now))) }
 {
-    for (name, _) in document.iter() {
-        if !is_section(name.as_str()) {
-            return Err(refused(alloc, ReleaseKind::UnknownSection, name.as_str()));
-        }
+    match other_name(document, &["version", "migrations", "migration"]) {
+        Some(name) => Err(refused(alloc, ReleaseKind::UnknownSection, name)),
+        None => Ok(()),
     }
-    Ok(())
 }
 
 // Whether the value is a text of three numbers.

@@ -1,8 +1,5 @@
 //! The migration that a value is.
 ghost use Rattle.std.specs.Prelude.{◌≡◌, ◌≢◌, Some, IfOk, MatchOption, codes, map};
-ghost use Rattle.std.specs.List.{list_any};
-ghost use Rattle.std.specs.Ordering.{eq_by_cmp};
-ghost use Rattle.key_names.specs.Order.{bytes_cmp};
 ghost use Rattle.toml.specs.View.{view, table_view};
 ghost use Rattle.release_file.specs.Fields.{has_only, text_at};
 ghost use Rattle.release_file.specs.Works.{IsTableOf, SpellsWork, field_names, word_of};
@@ -15,6 +12,7 @@ use crate::kinds::work_of;
 use crate::work::Work;
 use std::alloc::{AllocError, Global};
 use toml::{Table, Value};
+use toml_values::other_name;
 
 // The kind that the field `kind` tells, None exactly where it tells none.
 fn kind_field(table: &Table) -> Result<Option<Kind>, AllocError>
@@ -43,23 +41,11 @@ fn field_names(kind: Kind) -> &'static [&'static str]
     }
 }
 
-// Whether the name is one of these.
-fn is_among(name: &str, names: &[&str]) -> bool
-    ensures { result ≡ list_any (eq_by_cmp bytes_cmp name.now) (map (λ n. n.now) names.now) }
-{
-    names.iter().any(|known| name.cmp(*known).is_eq())
-}
-
 // Whether each name of the table is one of these.
 fn has_only(table: &Table, names: &[&str]) -> bool
     ensures { result ≡ has_only (map (λ n. n.now) names.now) (table_view table.now) }
 {
-    for (name, _) in table.iter() {
-        if !is_among(name.as_str(), names) {
-            return false;
-        }
-    }
-    true
+    other_name(table, names).is_none()
 }
 
 // The work of which this is the table, None exactly where it is that of none.

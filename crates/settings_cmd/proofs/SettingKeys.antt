@@ -9,10 +9,10 @@ use Rattle.json_trees.specs.declared.scalar.Scalar.{Scalar}
 use Rattle.outside.specs.Spawner.{Question}
 use Rattle.settings_tree.specs.Content.{Contents, settings_key}
 use Rattle.toml.specs.Data.{Data, string, integer, float, boolean, datetime, array, table, Members, no_members, member, get_member}
-use Rattle.toml_values.specs.Document.{table_of}
+use Rattle.toml_values.specs.Document.{table_of, other_name}
 use Rattle.toml_values.specs.Values.{scalar_of}
 use Rattle.typed_settings.specs.declared.row.Row.{Row}
-use Rattle.user_data.specs.Pairs.{Path, Pairs, settings, other_name, fault_at, printed_path, where_key}
+use Rattle.user_data.specs.Pairs.{Path, Pairs, settings, fault_at, printed_path, where_key}
 use Rattle.user_data.specs.Pairs.{joined, value_pairs, members_pairs, settings_pairs, where_none, document_pairs, pairs_of}
 use Rattle.user_data.specs.declared.user_data_error.UserDataError.{UserDataError}
 use Rattle.user_data.specs.declared.user_data_error.UserDataKind.TheVariants.{NotToml, BadValue}
@@ -88,7 +88,8 @@ data_begin text pairs is = by (table_of text) is where
   by : (o : Option Members) → result_and_then document_pairs (ok_or o (fault_at NotToml (codes "-"))) ≡ Ok pairs → AllBegin pairs
   by None is = absurd (cc is)
   by (Some document) is =
-      under_settings (get_member settings document) pairs (without_others (other_name document) (settings_pairs (get_member settings document)) pairs is)
+      under_settings (get_member settings document) pairs
+      (without_others (other_name (settings ∷ []) document) (settings_pairs (get_member settings document)) pairs is)
 
 -- ---- generators
 

@@ -2,7 +2,10 @@
 use Rattle.std.specs.Prelude.{ℕ, List, [], ◌∷◌, Option, Some, None, String, if◌then◌else◌}
 use Rattle.std.specs.BTreeMap.{BTreeMap}
 use Rattle.std.specs.declared.alloc.Global.{Global}
+use Rattle.std.specs.List.{list_any}
+use Rattle.std.specs.Ordering.{eq_by_cmp}
 use Rattle.std.specs.Str.{is_utf8}
+use Rattle.key_names.specs.Order.{bytes_cmp}
 use Rattle.toml.specs.Data.{Data, Members, no_members, member}
 use Rattle.toml.specs.Parse.{parse_document}
 use Rattle.toml.specs.View.{table_view}
@@ -16,6 +19,11 @@ table_of text = if is_utf8 text then parse_document text else None
 abbrev pub named : Members → List (List ℕ × Data)
 named no_members = []
 named (member name d ms) = (name, d) ∷ named ms
+
+-- The first name that is none of these.
+abbrev pub other_name : List (List ℕ) → Members → Option (List ℕ)
+other_name names no_members = None
+other_name names (member name d ms) = if list_any (eq_by_cmp bytes_cmp name) names then other_name names ms else Some name
 
 -- For private clauses: the members of a table that may be missing.
 abbrev pub members_in : Option (BTreeMap (String Global) Value) → Members

@@ -7,10 +7,12 @@
 
 mod document;
 mod located_fault;
+mod names;
 mod values;
 mod words;
 
 pub use document::table_of;
 pub use located_fault::{LocatedFault, refused};
+pub use names::other_name;
 pub use values::{items_of, scalar_of, text_of};
 pub use words::words_in;

@@ -1,14 +1,12 @@
 -- The top-level names of a document, and its table `settings`.
-use Rattle.std.proofs.Common.{◌≡◌, ℕ, List, [], Option, Some, None, Err, true, false, if◌then◌else◌, refl, sym, ap, ◌∙◌}
+use Rattle.std.proofs.Common.{◌≡◌, ℕ, List, [], Option, Some, None, Err, refl, sym, ap, ◌∙◌}
 use Rattle.std.specs.Map.{keys_of}
-use Rattle.std.specs.Ordering.{eq_by_cmp}
-use Rattle.key_names.specs.Order.{bytes_cmp}
 use Rattle.json_trees.specs.Apart.{AreApart}
 use Rattle.json_trees.specs.declared.scalar.Scalar.{Scalar}
 use Rattle.json_trees.proofs.Parting.{AreApart-from_Pairwise}
 use Rattle.settings_tree.specs.Content.{settings_key}
-use Rattle.toml.specs.Data.{Data, string, integer, float, boolean, datetime, array, table, as_table, Members, member}
-use Rattle.user_data.specs.Pairs.{Path, Pairs, settings, other_name, settings_pairs, members_pairs, fault_at}
+use Rattle.toml.specs.Data.{Data, string, integer, float, boolean, datetime, array, table, as_table, Members}
+use Rattle.user_data.specs.Pairs.{Path, Pairs, settings, settings_pairs, members_pairs, fault_at}
 use Rattle.user_data.specs.Refused.{Refuses, RefusesName}
 use Rattle.toml_values.specs.Refused.{IsAt}
 use Rattle.toml_values.specs.declared.located_fault.LocatedFault.{LocatedFault}
@@ -16,28 +14,10 @@ use Rattle.toml_values.specs.declared.located_fault.LocatedFault.TheVariants.{Fa
 use Rattle.user_data.specs.declared.user_data_error.UserDataKind.{UserDataKind}
 use Rattle.user_data.specs.declared.user_data_error.UserDataKind.TheVariants.{NotSettings}
 
--- A name other than `settings` is the first such.
-other_first : (name : List ℕ) (d : Data) (left : Members) → eq_by_cmp bytes_cmp name settings ≡ false → other_name (member name d left) ≡ Some name
-other_first name d left other = ap (λ b. if b then other_name left else Some name) other
-
-refuses_name : (found : Option (List ℕ)) (name : List ℕ) (e : LocatedFault UserDataKind) → found ≡ Some name → IsAt NotSettings name e → RefusesName found e
+-- The refusal of a name is that of the first other name.
+pub refuses_name : (found : Option (List ℕ)) (name : List ℕ) (e : LocatedFault UserDataKind) → found ≡ Some name → IsAt NotSettings name e → RefusesName found e
 refuses_name found name Memory is at = tt
 refuses_name found name (Fault kind text) is at = (at.0, is ∙ ap Some (sym at.1))
-
-pub name_refused : (document rest left : Members) (name bytes printed : List ℕ) (d : Data) (e : LocatedFault UserDataKind)
-    → other_name document ≡ other_name rest
-    → rest ≡ member name d left → bytes ≡ name → printed ≡ name
-    → false ≡ eq_by_cmp bytes_cmp bytes settings → IsAt NotSettings printed e → RefusesName (other_name document) e
-name_refused document rest left name bytes printed d e so_far is same also other at =
-    refuses_name (other_name document) printed e
-    (so_far ∙ ap other_name is ∙ other_first name d left (ap (λ (n : List ℕ). eq_by_cmp bytes_cmp n settings) (sym same) ∙ sym other) ∙ ap Some (sym also)) at
-
--- A name that is `settings` is passed.
-pub name_passed : (document rest left : Members) (name bytes : List ℕ) (d : Data) → other_name document ≡ other_name rest → rest ≡ member name d left
-    → bytes ≡ name → true ≡ eq_by_cmp bytes_cmp bytes settings
-    → other_name document ≡ other_name left
-name_passed document rest left name bytes d so_far is same tie =
-    so_far ∙ ap other_name is ∙ ap (λ b. if b then other_name left else Some name) (ap (λ (n : List ℕ). eq_by_cmp bytes_cmp n settings) (sym same) ∙ sym tie)
 
 refuses_as : (pairs : Pairs) (e : LocatedFault UserDataKind) → pairs ≡ Err (fault_at NotSettings settings) → IsAt NotSettings settings e → Refuses pairs e
 refuses_as pairs Memory is at = tt

@@ -1,14 +1,12 @@
 -- Which pairs of a key and a scalar a text gives, or the first refusal.
 use Rattle.std.specs.Prelude.{ℕ, List, [], ◌∷◌, ◌++◌, codes, Option, Some, None, Result, Ok, Err, ok_or, option_map, if◌then◌else◌}
 use Rattle.std.specs.List.{join_with_byte}
-use Rattle.std.specs.Ordering.{eq_by_cmp}
 use Rattle.key_names.specs.Key.{is_key}
-use Rattle.key_names.specs.Order.{bytes_cmp}
 use Rattle.json_trees.specs.Collected.{result_and_then, result_map}
 use Rattle.json_trees.specs.declared.scalar.Scalar.{Scalar}
 use Rattle.settings_tree.specs.Content.{settings_key}
 use Rattle.toml.specs.Data.{Data, string, integer, float, boolean, datetime, array, table, Members, no_members, member, get_member}
-use Rattle.toml_values.specs.Document.{table_of}
+use Rattle.toml_values.specs.Document.{table_of, other_name}
 use Rattle.toml_values.specs.Values.{scalar_of}
 use Rattle.user_data.specs.declared.user_data_error.UserDataError.{UserDataError}
 use Rattle.user_data.specs.declared.user_data_error.UserDataKind.{UserDataKind}
@@ -65,11 +63,6 @@ abbrev mutual
 abbrev pub settings : List ℕ
 settings = codes "settings"
 
--- The first name other than `settings`. A table's names rise, so that it is the least.
-abbrev pub other_name : Members → Option (List ℕ)
-other_name no_members = None
-other_name (member name d ms) = if eq_by_cmp bytes_cmp name settings then other_name ms else Some name
-
 -- The pairs of what is under the name `settings`: a table, or nothing.
 abbrev pub settings_pairs : Option Data → Pairs
 settings_pairs None = Ok []
@@ -81,9 +74,9 @@ abbrev pub where_none : Option (List ℕ) → Pairs → Pairs
 where_none None pairs = pairs
 where_none (Some name) pairs = Err (fault_at NotSettings name)
 
--- The pairs of a document.
+-- The pairs of a document. A table's names rise, so that the first name other than `settings` is the least.
 abbrev pub document_pairs : Members → Pairs
-document_pairs document = where_none (other_name document) (settings_pairs (get_member settings document))
+document_pairs document = where_none (other_name (settings ∷ []) document) (settings_pairs (get_member settings document))
 
 -- The pairs of a text, or its first refusal.
 abbrev pub pairs_of : List ℕ → Pairs

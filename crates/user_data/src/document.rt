@@ -1,11 +1,10 @@
 //! The table `settings` of a document.
-ghost use Rattle.std.specs.Prelude.{◌≡◌, None, Ok, IfOk, IfErr, OnOk, option_map};
-ghost use Rattle.std.specs.Ordering.{eq_by_cmp};
-ghost use Rattle.key_names.specs.Order.{bytes_cmp};
+ghost use Rattle.std.specs.Prelude.{◌≡◌, ◌∷◌, [], None, Ok, IfOk, IfErr, OnOk, option_map};
 ghost use Rattle.toml.specs.View.{view, table_view};
 ghost use Rattle.json_trees.specs.Apart.{AreApart};
 ghost use Rattle.std.specs.Map.{keys_of};
-ghost use Rattle.user_data.specs.Pairs.{document_pairs, settings_pairs, other_name, settings};
+ghost use Rattle.user_data.specs.Pairs.{document_pairs, settings_pairs, settings};
+ghost use Rattle.toml_values.specs.Document.{other_name};
 ghost use Rattle.toml.specs.Data.{get_member};
 ghost use Rattle.user_data.specs.Refused.{Refuses, RefusesName};
 
@@ -16,7 +15,7 @@ use json_trees::Scalar;
 use key_names::Key;
 use std::alloc::Global;
 use toml::{Table, Value};
-use toml_values::{LocatedFault, refused};
+use toml_values::{LocatedFault, other_name, refused};
 
 /// The pairs of a document.
 pub fn document_pairs(
@@ -31,24 +30,15 @@ pub fn document_pairs(
     settings_pairs(alloc, document)
 }
 
-// The name is that of the table.
-fn is_settings(name: &str) -> bool
-    ensures { result ≡ eq_by_cmp bytes_cmp name.now settings }
-{
-    matches!(name, "settings")
-}
-
 // Checks that no top-level name is another than `settings`.
 fn check_names(alloc: Global, document: &Table) -> Result<(), LocatedFault<UserDataKind>>
-    ensures none { OnOk result (other_name (table_view document.now) ≡ None) }
-    ensures refused { IfErr result (RefusesName (other_name (table_view document.now))) }
+    ensures none { OnOk result (other_name (settings ∷ []) (table_view document.now) ≡ None) }
+    ensures refused { IfErr result (RefusesName (other_name (settings ∷ []) (table_view document.now))) }
 {
-    for (name, _) in document.iter() {
-        if !is_settings(name.as_str()) {
-            return Err(refused(alloc, UserDataKind::NotSettings, name.as_str()));
-        }
+    match other_name(document, &["settings"]) {
+        Some(name) => Err(refused(alloc, UserDataKind::NotSettings, name)),
+        None => Ok(()),
     }
-    Ok(())
 }
 
 // What is under the name `settings`, None exactly where nothing does.

@@ -3,8 +3,8 @@ use Rattle.std.specs.Ordering.{eq_by_cmp}
 use Rattle.std.proofs.lemmas.Iterator.{YieldsList-from_slice}
 use Rattle.std.proofs.lemmas.Iterator.Search.{any_from_yields_List}
 use Rattle.key_names.specs.Order.{bytes_cmp}
-use Rattle.release_file.proofs.SectionNames.{any_mapped}
-use Rattle.release_file.proofs.migration.is_among.Goals as goal
+use Rattle.toml_values.proofs.OtherNames.{any_mapped}
+use Rattle.toml_values.proofs.names.is_among.Goals as goal
 
 pub returns : goal.returns
 returns c =
