@@ -8,7 +8,7 @@
 #include <sys/un.h>
 #include <unistd.h>
 
-static char taken[1 << 16], given[1 << 16] = "HTTP/1.1 200 OK\r\n";
+static char taken[1 << 16], given[1 << 22] = "HTTP/1.1 200 OK\r\n";
 
 int main(int count, char **words)
 {
