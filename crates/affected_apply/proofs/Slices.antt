@@ -122,7 +122,7 @@ pub held_more : (a b c : Held) → KeepsAllButOwed a b → KeepsAllButOwed b c �
 held_more a b c one two = two ∙ ap (λ (h : Held). let k : Held = record h { owed = c.owed } in k) one
 
 -- Where nothing is left of the slice or no job runs, no more turns are a slice.
-ended : (I : Image) (left : Option ℕ) (W : World) → (left ≡ Some 0) ⊎ (is_running W.job ≡ false) → AreTurns I left W []
+pub ended : (I : Image) (left : Option ℕ) (W : World) → (left ≡ Some 0) ⊎ (is_running W.job ≡ false) → AreTurns I left W []
 ended I None W (inl e) = absurd (cc e)
 ended I None W (inr e) = e
 ended I (Some n) W (inl e) = inl (cc e)

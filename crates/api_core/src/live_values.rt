@@ -1,6 +1,5 @@
 //! Copies of live values and of names of the operating system.
 ghost use Rattle.std.specs.Prelude.{◌≡◌, [], ◌∷◌, IfOk, map};
-ghost use Rattle.std.specs.FinMap.{entries};
 ghost use Rattle.key_names.specs.Key.{is_prefix};
 ghost use Rattle.settings_tree.specs.Walks.{entries_below};
 ghost use Rattle.settings_machine.specs.Answers.{settings_where};
@@ -8,19 +7,6 @@ ghost use Rattle.settings_machine.specs.Answers.{settings_where};
 use key_names::{Key, Text};
 use settings_tree::{Content, OsName, Scalar, is_setting};
 use std::alloc::{AllocError, Global};
-
-/// All live values, rising by key. The only error is out of memory. It takes a logarithmic step for each.
-pub(crate) fn all_values(alloc: Global, live: &Content) -> Result<Vec<(Key, Scalar)>, AllocError>
-    ensures { IfOk result (λ pairs. pairs.items ≡ entries live.now.values) }
-{
-    let mut pairs = Vec::new(alloc);
-    let mut after = None;
-    while let Some((key, value)) = live.next_value(after) {
-        pairs.push((key.copy()?, value.copy()?))?;
-        after = Some(key);
-    }
-    Ok(pairs)
-}
 
 /// The live values whose keys begin with this segment, rising by key. The only error is out of memory. It takes a
 /// logarithmic step for each.

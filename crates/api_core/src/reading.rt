@@ -9,12 +9,12 @@ ghost use Rattle.api_core.specs.Plans.{MayMake, IsSoundCore, IsReading, KnowsFil
 ghost use Rattle.api_core.specs.Prints.{CanPrint};
 
 use crate::Core;
-use crate::live_values::{all_values, settings_below, texts_of, values_of};
+use crate::live_values::{settings_below, texts_of, values_of};
 use crate::named_values::{missing_name, named_values};
 use crate::nearest::nearest_lists;
 use crate::planned::Planned;
 use crate::planning::without_effect;
-use crate::settings_at::{missing_key, settings_at};
+use crate::settings_at::{missing_key, pairs_of, settings_at};
 use key_names::{Key, Text};
 use machine_answers::{Answer, Body};
 use settings_machine::Refusal;
@@ -49,7 +49,7 @@ impl Core {
         ensures reads { IfOk result (IsReading self.now machine.Root) }
         ensures prints { IfOk result CanPrint }
     {
-        let pairs = all_values(alloc, &self.held.live)?;
+        let pairs = pairs_of(alloc, self.held.live.values())?;
         Ok(tree(0, pairs))
     }
 

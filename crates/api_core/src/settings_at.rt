@@ -71,10 +71,8 @@ pub(crate) fn pairs_of(
     ensures { IfOk result (λ pairs. pairs.items ≡ entries map.now) }
 {
     let mut pairs = Vec::new(alloc);
-    let mut after = None;
-    while let Some((key, value)) = map.next_after(after) {
+    for (key, value) in map.iter() {
         pairs.push((key.copy()?, value.copy()?))?;
-        after = Some(key);
     }
     Ok(pairs)
 }

@@ -20,6 +20,7 @@ use Rattle.affected_apply.specs.Turning.{broken}
 use Rattle.api_core.specs.Cores.{core_state}
 use Rattle.api_core.specs.Turned.{IsTurned}
 use Rattle.api_core.specs.declared.serving.Core.{Core}
+use Rattle.api_core.proofs.Soundness.{still_failed}
 use Rattle.api_server.specs.Causes.{fails_disk, fails_to_spawn, one_more, count_of, RoseBy, fault_counts, AreCounted}
 use Rattle.api_server.specs.Rounds.{AreIdle}
 
@@ -81,11 +82,6 @@ module _ (I : Image) (W : World) where
   turn_spawns (FileFault left) fitting fault = absurd (cc fault)
   turn_spawns SyncFault fitting fault = absurd (cc fault)
   turn_spawns (OwedFault stored) fitting fault = absurd (cc fault)
-
-failed_stops : (j : Job) → failed_with_disk j ≡ true → is_running j ≡ false
-failed_stops Idle failed = refl
-failed_stops (Failed c) failed = refl
-failed_stops (Running w) failed = absurd (cc failed)
 
 unspawned_stops : (j : Job) → failed_to_spawn j ≡ true → is_running j ≡ false
 unspawned_stops Idle failed = refl
@@ -249,7 +245,7 @@ pub turns_counted : (I : Image) (slice : Option ℕ) (W : World) (es : List Even
 turns_counted I slice W es are before now before_is now_is d d' s s' disk spawner =
     let fit = turns_fit I slice W es are in
     record {
-      disk = rose_by I fails_disk failed_with_disk failed_stops
+      disk = rose_by I fails_disk failed_with_disk still_failed
           (λ X a running fitting fault. ap failed_with_disk (turn_fails I X a running fault)) W es fit before now before_is now_is d d' disk;
       spawner = rose_by I fails_to_spawn failed_to_spawn unspawned_stops (λ X a running fitting fault. turn_spawns I X a fitting fault)
           W es fit before now before_is now_is s s' spawner;

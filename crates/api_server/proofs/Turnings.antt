@@ -1,5 +1,5 @@
 -- Turns one after another, each of which is logged.
-use Rattle.std.proofs.Common.{◌≡◌, ◌≢◌, ◌≤◌, ◌⊎◌, inl, inr, ◌-◌, ◌&&◌, ℕ, zero, suc, Bool, true, false, List, [], ◌∷◌, ◌++◌, Option, Some, None}
+use Rattle.std.proofs.Common.{◌≡◌, ◌≢◌, ◌≤◌, ◌⊎◌, inl, inr, ◌-◌, ◌&&◌, ℕ, Bool, true, false, List, [], ◌∷◌, ◌++◌, Option, Some}
 use Rattle.std.proofs.Common.{refl, sym, ◌∙◌, ap, subst, append_assoc, arith}
 use Rattle.std.proofs.lemmas.List.{append-nil}
 use Rattle.std.specs.Option.{option_map}
@@ -17,10 +17,10 @@ use Rattle.machine_disk.proofs.Runs.{ran_none, ran_more}
 use Rattle.store_open.specs.Laws.{HoldsImage}
 use Rattle.affected_apply.specs.Jobs.{failed_with_disk, failed_to_spawn, answer_of}
 use Rattle.affected_apply.specs.Turned.{AreTurns}
+use Rattle.affected_apply.proofs.Slices.{ended}
 use Rattle.event_lines.specs.Lines.{due_in, turn_lines}
 use Rattle.event_lines.specs.Logs.{LogState, Logs, Tells}
 use Rattle.event_lines.proofs.Logging.{logs_none, logs_then, logs_event}
-use Rattle.metadata_links.specs.declared.manifest.Manifest.{Manifest}
 use Rattle.api_core.specs.Cores.{core_state}
 use Rattle.api_core.specs.Turned as core
 use Rattle.api_core.specs.declared.serving.Core.{Core}
@@ -149,13 +149,6 @@ one_turn_more slice left left_after some fewer c mid now counts counts_mid count
             counted = counted_then es fs counts counts_mid counts_now was.counted next.counted;
             logged = logs_then I W es fs log log_mid log_now was.logged next.logged;
           }
-
--- Where nothing is left of the slice or no job runs, no more turns are a slice.
-ended : (I : Image) (left : Option ℕ) (W : World) → (left ≡ Some 0) ⊎ (is_running W.job ≡ false) → AreTurns I left W []
-ended I None W (inl e) = absurd (cc e)
-ended I None W (inr e) = e
-ended I (Some n) W (inl e) = inl (cc e)
-ended I (Some n) W (inr e) = inr e
 
 -- Then the turns so far are the slice.
 pub all_made : (slice left : Option ℕ) (c now : Core) (counts counts_now : FaultCounts) (ran_before ran_now : Option (List Run)) (log log_now : LogState)

@@ -1,21 +1,14 @@
 -- How many bytes are waited for.
-use Rattle.std.proofs.Common.{◌≡◌, ◌≤◌, ◌<◌, ◌+◌, ◌⊎◌, inl, inr, ℕ, List, [], ◌∷◌, ◌++◌, length, sym, ◌∙◌, ap, subst, arith}
+use Rattle.std.proofs.Common.{◌≡◌, ◌≤◌, ◌<◌, ◌+◌, ℕ, List, [], ◌∷◌, ◌++◌, length, sym, ◌∙◌, ap, subst, arith}
 use Rattle.std.proofs.Common.{length-append, append_assoc}
-use Rattle.std.proofs.lemmas.Bool.{cases_lt}
 use Rattle.std.proofs.lemmas.List.{append-nil}
 use Rattle.httparse.specs.Grammar.{RequestHead, print_request, print_blank, print_version, print_end, print_section}
 use Rattle.httparse.specs.Ascii.{space}
 use Rattle.api_http.specs.Heads.{HoldsNoHead, HasFewLines, line_feeds}
 use Rattle.api_http.specs.Fields.{body_length}
-use Rattle.api_http.specs.Requests.{Told, told, IsClean, IsCleanHead, long_body, Waits, for_head, for_body, WaitsUntil}
+use Rattle.api_http.specs.Requests.{told, IsCleanHead, Waits, for_head, for_body, WaitsUntil}
+use Rattle.api_http.proofs.Waiting.{short_body}
 use Rattle.api_server.specs.Reading.{IsLonger, IsWaiting}
-
-short_body : (t : Told) → IsClean t → body_length t.fields ≤ 1048576
-short_body t clean = by (cases_lt 1048576 (body_length t.fields))
-  where
-    by : ((1048576 < body_length t.fields) ⊎ (body_length t.fields ≤ 1048576)) → body_length t.fields ≤ 1048576
-    by (inl over) = absurd (clean _ (long_body over))
-    by (inr within) = within
 
 -- no more bytes are wanted than a head and a body may have
 wanted_most : (bytes : List ℕ) (n : ℕ) → (HoldsNoHead bytes → n ≡ length bytes + 1)

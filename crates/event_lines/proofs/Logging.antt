@@ -1,15 +1,11 @@
 -- What is written to the log for events, one after another.
-use Rattle.std.proofs.Common.{◌≡◌, ◌≤◌, ℕ, List, [], ◌∷◌, ◌++◌, append_assoc, refl, sym, ◌∙◌, ap, subst, arith, inl, inr}
+use Rattle.std.proofs.Common.{◌≡◌, ◌≤◌, ℕ, List, [], ◌∷◌, ◌++◌, append_assoc, append-nil, refl, sym, ◌∙◌, ap, subst, arith, inl, inr}
 use Rattle.outside.specs.Faults.{Rose}
 use Rattle.outside.proofs.Told.{moves_stay, moves_map, moves_then}
 use Rattle.settings_machine.specs.World.{Image, World}
 use Rattle.settings_machine.specs.Events.{Event, next, after}
 use Rattle.event_lines.specs.Lines.{lines_of}
 use Rattle.event_lines.specs.Logs.{LogState, IsWritten, AreWritten, Appends, Logs, Tells}
-
-nothing_more : (xs : List ℕ) → xs ≡ xs ++ []
-nothing_more [] = refl
-nothing_more (x ∷ xs) = ap (λ (l : List ℕ). x ∷ l) (nothing_more xs)
 
 -- ---- a failure counts in a longer run too
 
@@ -59,7 +55,7 @@ both_appended F G Whole I W es fs s t u f g one two = record {
 pub logs_none : (I : Image) (W : World) (s : LogState) → Logs I W [] s s
 logs_none I W s = record {
   later = omega arith;
-  wrote = moves_stay (λ told. record { written = []; is = nothing_more told; are = refl });
+  wrote = moves_stay (λ told. record { written = []; is = sym (append-nil told); are = refl });
 }
 
 -- Events are logged, and then others.
@@ -77,7 +73,7 @@ pub logs_event : (I : Image) (W : World) (e : Event) (a b : LogState) → Tells 
 logs_event I W e a b tells = record {
   later = tells.later;
   wrote = moves_map
-      (λ s t one. record { written = one.written; is = one.is; are = (one.written, [], nothing_more one.written, one.are, refl) })
+      (λ s t one. record { written = one.written; is = one.is; are = (one.written, [], sym (append-nil one.written), one.are, refl) })
       tells.wrote;
 }
 
@@ -85,5 +81,5 @@ logs_event I W e a b tells = record {
 pub logs_silent : (I : Image) (W : World) (e : Event) (s : LogState) → lines_of I W e ≡ [] → Logs I W (e ∷ []) s s
 logs_silent I W e s silent = record {
   later = omega arith;
-  wrote = moves_stay (λ told. record { written = []; is = nothing_more told; are = ([], [], refl, inl (sym silent), refl) });
+  wrote = moves_stay (λ told. record { written = []; is = sym (append-nil told); are = ([], [], refl, inl (sym silent), refl) });
 }

@@ -1,5 +1,5 @@
 -- A line, as far as it is written.
-use Rattle.std.proofs.Common.{◌≡◌, ℕ, List, [], ◌∷◌, ◌++◌, append_assoc, refl, sym, ◌∙◌, ap}
+use Rattle.std.proofs.Common.{◌≡◌, ℕ, List, [], ◌∷◌, ◌++◌, append_assoc, append-nil, sym, ◌∙◌, ap}
 use Rattle.std.specs.List.{flat_map}
 use Rattle.std.proofs.lemmas.List.Concat.{flat_map-append}
 use Rattle.event_lines.specs.Logfmt.{Pair, pair_text, line}
@@ -8,13 +8,9 @@ use Rattle.event_lines.specs.Logfmt.{Pair, pair_text, line}
 pub record Begun (before word : List ℕ) (pairs : List Pair) (text : List ℕ) : Type 0 where
   pub is : text ≡ before ++ (word ++ flat_map pair_text pairs)
 
-nothing_more : (xs : List ℕ) → xs ≡ xs ++ []
-nothing_more [] = refl
-nothing_more (x ∷ xs) = ap (λ (l : List ℕ). x ∷ l) (nothing_more xs)
-
 -- It has the word.
 pub worded : (before word text : List ℕ) → text ≡ before ++ word → Begun before word [] text
-worded before word text is = record { is = is ∙ ap (λ (w : List ℕ). before ++ w) (nothing_more word) }
+worded before word text is = record { is = is ∙ ap (λ (w : List ℕ). before ++ w) (sym (append-nil word)) }
 
 -- Several pairs follow.
 pub more_pairs : {before word text : List ℕ} {pairs : List Pair} (more : List Pair) (next : List ℕ) → Begun before word pairs text
@@ -32,7 +28,7 @@ pub one_pair : {before word text : List ℕ} {pairs : List Pair} (name value see
     → next ≡ text ++ pair_text (name, seen) → Begun before word (pairs ++ (name, value) ∷ []) next
 one_pair {text = text} name value seen next begun same is =
     more_pairs ((name, value) ∷ []) next begun
-    (is ∙ ap (λ (v : List ℕ). text ++ pair_text (name, v)) same ∙ ap (λ (t : List ℕ). text ++ t) (nothing_more (pair_text (name, value))))
+    (is ∙ ap (λ (v : List ℕ). text ++ pair_text (name, v)) same ∙ ap (λ (t : List ℕ). text ++ t) (sym (append-nil (pair_text (name, value)))))
 
 -- The line ends.
 pub ended : {before word text : List ℕ} {pairs : List Pair} (next : List ℕ) → Begun before word pairs text → next ≡ text ++ 10 ∷ []
@@ -45,4 +41,4 @@ pub two_pairs : (before between text : List ℕ) (first second : Pair) → betwe
     → text ≡ before ++ flat_map pair_text (first ∷ second ∷ [])
 two_pairs before between text first second one two =
     two ∙ ap (λ (t : List ℕ). t ++ pair_text second) one ∙ append_assoc before (pair_text first) (pair_text second)
-    ∙ ap (λ (t : List ℕ). before ++ (pair_text first ++ t)) (nothing_more (pair_text second))
+    ∙ ap (λ (t : List ℕ). before ++ (pair_text first ++ t)) (sym (append-nil (pair_text second)))

@@ -3,7 +3,8 @@ ghost use Rattle.std.specs.Prelude.{◌≡◌, IfOk};
 ghost use Rattle.event_lines.specs.Lines.{opened_line, refused_line};
 
 use crate::logfmt::Lines;
-use crate::values::{owed_text, version_text};
+use crate::values::owed_text;
+use held_text::version_text;
 use key_names::Bytes;
 use settings_tree::Owed;
 use std::alloc::{AllocError, Global};

@@ -2,7 +2,6 @@
 ghost use Rattle.std.specs.Prelude.{◌≡◌, ◌++◌, OnOk, IfOk, codes, map, string_bytes};
 ghost use Rattle.std.specs.List.{flat_map};
 ghost use Rattle.key_names.specs.Key.{printed};
-ghost use Rattle.version_links.specs.Versions.{version_text};
 ghost use Rattle.event_lines.specs.Lines.{separated, listed, owed_text, cause_text};
 
 use key_names::{Key, Text};
@@ -10,7 +9,6 @@ use machine_answers::{cause_words, render_path, render_word};
 use settings_machine::Cause;
 use settings_tree::{Owed, Pending};
 use std::alloc::{AllocError, Global};
-use version_links::Version;
 
 // Puts a comma and the key at the end.
 fn push_key(text: &mut String, key: &Key) -> Result<(), AllocError>
@@ -64,14 +62,6 @@ pub fn owed_text(alloc: Global, owed: &Owed) -> Result<Text, AllocError>
         Owed::All => Text::from_str(alloc, "all"),
         Owed::Keys(keys) => listed(alloc, keys.as_slice()),
     }
-}
-
-/// The version, as in `1.5.2`.
-pub fn version_text(alloc: Global, version: Version) -> Result<Text, AllocError>
-    ensures { IfOk result (λ text. text ≡ version_text version) }
-{
-    let text = format!(in alloc; "{version}")?;
-    Ok(Text::of(text))
 }
 
 /// The words, with spaces between.

@@ -31,7 +31,7 @@ pub none_else : (v : Option Value) → or_else v None ≡ v
 none_else None = refl
 none_else (Some v) = refl
 
-either_first : (a b c : Option Value) → or_else a (or_else b c) ≡ or_else (or_else a b) c
+pub either_first : (a b c : Option Value) → or_else a (or_else b c) ≡ or_else (or_else a b) c
 either_first None b c = refl
 either_first (Some v) b c = refl
 

@@ -1,5 +1,5 @@
 -- What is held is saved below a data directory.
-use Rattle.std.specs.Prelude.{◌≡◌, ℕ, List, ◌∷◌, Bool, true, if◌then◌else◌, Option, Some, None, option_map, Result, OnOk}
+use Rattle.std.specs.Prelude.{◌≡◌, ℕ, List, ◌∷◌, Bool, true, if◌then◌else◌, Option, Some, None, IsSome, IsTrue, option_map, Result, OnOk}
 use Rattle.std.specs.FinMap.{FinMap, get}
 use Rattle.std.specs.Ordering.{eq_by_cmp}
 use Rattle.outside.specs.Names.{Names}
@@ -12,6 +12,7 @@ use Rattle.key_names.specs.Order.{bytes_cmp, key_cmp}
 use Rattle.json_trees.specs.declared.pending.Pending.{Pending}
 use Rattle.json_trees.specs.declared.scalar.Scalar.{Scalar}
 use Rattle.settings_maps.specs.Maps.{value_at}
+use Rattle.settings_maps.specs.TxName.{is_meta_name}
 use Rattle.settings_tree.specs.Change.{Place, is_same}
 use Rattle.settings_tree.specs.Change.{Live, Meta, Pend, TheOwed, TheImage, TheWeak}
 use Rattle.settings_tree.specs.declared.held.Held.{Held}
@@ -32,6 +33,10 @@ pub record Saves {E : Type 0} (dir : Names) (held : Held) (result : Result Unit 
   pub others : ChangesOnlyBelow dir old new
 
 -- ---- for private clauses: what is put there, step by step
+
+-- Each name has 1 to 127 bare characters.
+pub record HasBareNames (names : FinMap bytes_cmp Scalar) : Type 0 where
+  pub bare : (name : List ℕ) → IsSome (get names name) → IsTrue (is_meta_name name)
 
 -- A value for some of the places.
 abbrev pub Values : Type 0

@@ -3,13 +3,12 @@ ghost use Rattle.std.specs.Prelude.{◌≡◌, length, IsTrue, Some, OnOk};
 ghost use Rattle.outside.specs.DiskCalls.{Syncs, Writes};
 ghost use Rattle.outside.specs.Told.{Moves};
 ghost use Rattle.outside.specs.Faults.{HasCauseOf};
-ghost use Rattle.settings_maps.specs.Maps.{inner};
 ghost use Rattle.settings_maps.specs.TxName.{is_meta_name};
 ghost use Rattle.settings_tree.specs.Change.{Live, Meta, Pend, TheOwed, TheImage, TheWeak};
 ghost use Rattle.settings_tree.specs.Content.{IsContent, IsNamed};
 ghost use Rattle.settings_tree.specs.Pending.{IsPending};
 ghost use Rattle.fs_datastore.specs.Values.{live, pending, owed, image, weak, value_in};
-ghost use Rattle.fs_datastore.specs.Saving.{Saves, SavesTo, TellsFormat, value_at_place, live_values};
+ghost use Rattle.fs_datastore.specs.Saving.{Saves, SavesTo, TellsFormat, HasBareNames, value_at_place, live_values};
 ghost use Rattle.fs_datastore.specs.Saving.{names_of_key, all_metadata, keys_of_transaction, all_pending, single_values};
 
 use crate::place_paths::{live_path, meta_path, pending_path, top_path};
@@ -17,7 +16,7 @@ use crate::scalar_texts::{owed_text, pending_text, weak_text};
 use json_trees::{Pending, Scalar};
 use key_names::{Bytes, Key, Text};
 use outside::{Disk, DiskErr, Failed, Path};
-use settings_maps::{KeyList, KeyMap, Metadata, Transactions, TxName};
+use settings_maps::{KeyList, KeyMap, Metadata, NamedValues, Transactions, TxName};
 use settings_tree::{Held, Owed};
 use std::alloc::Global;
 
@@ -114,10 +113,8 @@ fn save_values<D: Disk>(
     ensures saves { Moves (D.told disk.old) (D.told disk.new) (SavesTo dir.now (live_values values.now) result) }
     ensures cause { HasCauseOf DiskErr.Failed (D.faults disk.old) (D.faults disk.new) result }
 {
-    let mut after = None;
-    while let Some((key, value)) = values.next_after(after) {
+    for (key, value) in values.iter() {
         save_value(alloc, disk, dir, key, value)?;
-        after = Some(key);
     }
     Ok(())
 }
@@ -129,18 +126,15 @@ fn save_names<D: Disk>(
     disk: &mut D,
     dir: &Path,
     key: &Key,
-    metadata: &Metadata,
+    names: &NamedValues,
 ) -> Result<(), DiskErr>
     requires length { length dir.now ≡ 2 }
-    requires named { IsNamed metadata.now }
-    ensures saves { Moves (D.told disk.old) (D.told disk.new) (SavesTo dir.now (names_of_key key.now (inner metadata.now key.now)) result) }
+    requires named { HasBareNames names.now }
+    ensures saves { Moves (D.told disk.old) (D.told disk.new) (SavesTo dir.now (names_of_key key.now names.now) result) }
     ensures cause { HasCauseOf DiskErr.Failed (D.faults disk.old) (D.faults disk.new) result }
 {
-    let mut after = None;
-    while let Some((name, value)) = metadata.next_name(key, after) {
-        let name = name.as_str().as_bytes();
-        save_meta(alloc, disk, dir, key, name, value)?;
-        after = Some(name);
+    for (name, value) in names.as_slice() {
+        save_meta(alloc, disk, dir, key, name.as_str().as_bytes(), value)?;
     }
     Ok(())
 }
@@ -157,10 +151,8 @@ fn save_metadata<D: Disk>(
     ensures saves { Moves (D.told disk.old) (D.told disk.new) (SavesTo dir.now (all_metadata metadata.now) result) }
     ensures cause { HasCauseOf DiskErr.Failed (D.faults disk.old) (D.faults disk.new) result }
 {
-    let mut after = None;
-    while let Some(key) = metadata.next_key(after) {
-        save_names(alloc, disk, dir, key, metadata)?;
-        after = Some(key);
+    for (key, names) in metadata.iter() {
+        save_names(alloc, disk, dir, key, names)?;
     }
     Ok(())
 }
@@ -178,10 +170,8 @@ fn save_keys<D: Disk>(
     ensures saves { Moves (D.told disk.old) (D.told disk.new) (SavesTo dir.now (keys_of_transaction tx.now keys.now) result) }
     ensures cause { HasCauseOf DiskErr.Failed (D.faults disk.old) (D.faults disk.new) result }
 {
-    let mut after = None;
-    while let Some((key, value)) = keys.next_after(after) {
+    for (key, value) in keys.iter() {
         save_pending(alloc, disk, dir, tx, key, value)?;
-        after = Some(key);
     }
     Ok(())
 }
@@ -197,10 +187,8 @@ fn save_pending_maps<D: Disk>(
     ensures saves { Moves (D.told disk.old) (D.told disk.new) (SavesTo dir.now (all_pending transactions.now) result) }
     ensures cause { HasCauseOf DiskErr.Failed (D.faults disk.old) (D.faults disk.new) result }
 {
-    let mut after = None;
-    while let Some((tx, keys)) = transactions.next_keys(after) {
+    for (tx, keys) in transactions.iter() {
         save_keys(alloc, disk, dir, tx, keys)?;
-        after = Some(tx);
     }
     Ok(())
 }
@@ -280,7 +268,7 @@ fn save_held<D: Disk>(alloc: Global, disk: &mut D, dir: &Path, held: &Held) -> R
 }
 
 /// Writes what is held into a data directory of two names with nothing below it, in format 2, and syncs at the end. It
-/// takes a logarithmic step for each file, and copies no value.
+/// takes a constant step for each file, and copies no value.
 ///
 /// After Ok the files represent what is held in format 2, and are on the disk. After an error some of them may be there.
 /// Nothing changes elsewhere. `Failed` where the disk failed, `Memory` where it runs out of memory.

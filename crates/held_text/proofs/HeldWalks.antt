@@ -1,11 +1,8 @@
 -- Walks through what is held that write each part.
-use Rattle.std.proofs.Common.{arith, ◌≡◌, List, [], ◌∷◌, ◌++◌, map, Option, Some, None, IsSome, unwrap_or, append_assoc, append-nil, refl, sym, ap, ◌∙◌, subst}
-use Rattle.std.specs.declared.cmp.Ordering.{Ordering}
-use Rattle.std.specs.FinMap.{FinMap, empty, get}
+use Rattle.std.proofs.Common.{◌≡◌, List, [], ◌∷◌, ◌++◌, map, append_assoc, append-nil, refl, sym, ap, ◌∙◌, subst}
 use Rattle.std.specs.List.{flat_map, AllByRecursion}
 use Rattle.json.specs.Written.{Written}
 use Rattle.serde_json.specs.Data.{Data}
-use Rattle.settings_maps.specs.Maps.{IsLeastAfter, IsLeastKeyAfter, inner}
 use Rattle.held_text.specs.HeldRules.{WroteEach}
 use Rattle.held_text.proofs.JsonLists.{none_written, more_written}
 
@@ -67,13 +64,3 @@ module _ {E F : Type 0} (each : E → List F) (as_data : F → Data) (P : F → 
   valid_all all left start now fs w none is =
       subst (λ (l : List F). AllByRecursion P l) (ap (flat_map each) (sym (append-nil w.done) ∙ ap (λ (l : List E). w.done ++ l) (sym none) ∙ w.split) ∙ is)
       w.valid
-
--- Where something is there, it is what unwrapping gives.
-some_inner : {X : Type 0} (z : Option X) (d : X) → IsSome z → z ≡ Some (unwrap_or z d)
-some_inner None d has = absurd (grind (arith, has))
-some_inner (Some i) d has = refl
-
-module _ {K N X : Type 0} {R : K → K → Ordering} {S : N → N → Ordering} where
-  -- What is at the least key is its map of names.
-  pub least_inner : (m : FinMap R (FinMap S X)) (after : Option K) (k : K) → IsLeastKeyAfter m after k → IsLeastAfter m after k (inner m k)
-  least_inner m after k least = record { stands = some_inner (get m k) empty least.stands; past = least.past; least = least.least }

@@ -36,7 +36,8 @@ pub struct Dump {
     pub held: Held,
 }
 
-fn text_of_version(alloc: Global, version: Version) -> Result<Text, AllocError>
+/// The text of a version, as in `1.5.2`. The only error is out of memory.
+pub fn version_text(alloc: Global, version: Version) -> Result<Text, AllocError>
     ensures { IfOk result (λ text. text ≡ version_text version) }
 {
     let text = format!(in alloc; "{version}")?;
@@ -54,7 +55,7 @@ fn write_members(
         (WroteMembers (dump_members version held.now) writer.old writer.new) }
     ensures valid { OnOk result (IsUtf8 (held_text held.now) → IsHeld held.now) }
 {
-    let version = text_of_version(alloc, version)?;
+    let version = version_text(alloc, version)?;
     writer.key("held")?;
     write_held(writer, alloc, held)?;
     writer.key("version")?;

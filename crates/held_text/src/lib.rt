@@ -10,7 +10,7 @@ mod reading;
 mod text;
 mod writing;
 
-pub use dump::{Dump, dump_text, read_dump};
+pub use dump::{Dump, dump_text, read_dump, version_text};
 pub use dump_error::DumpError;
 pub use held_error::HeldError;
 pub use text::HeldText;

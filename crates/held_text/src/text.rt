@@ -57,7 +57,7 @@ fn write_last(writer: &mut Writer, held: &Held) -> Result<(), AllocError>
     write_keys(writer, held.live.weak())
 }
 
-/// Writes the held text. The only error is out of memory, after which a part of it may have been written. It takes a logarithmic
+/// Writes the held text. The only error is out of memory, after which a part of it may have been written. It takes a constant
 /// step for each entry.
 pub(crate) fn write_held(writer: &mut Writer, alloc: Global, held: &Held) -> Result<(), AllocError>
     ensures wrote { OnOk result (Wrote (held_data held.now) writer.old writer.new) }
@@ -108,7 +108,7 @@ pub trait HeldText: Sized {
     ///   which is `null` for a removal
     /// - `weak`: a list of keys
     ///
-    /// Keys are printed, and every list rises. It takes a logarithmic step for each entry. The only
+    /// Keys are printed, and every list rises. It takes a constant step for each entry. The only
     /// error is out of memory.
     fn print(&self) -> Result<Text, AllocError>;
 

@@ -5,7 +5,6 @@ ghost use Rattle.std.specs.FinMap.{entries};
 ghost use Rattle.base64.specs.GeneralPurpose.{IsBytes};
 ghost use Rattle.key_names.specs.Key.{is_key};
 ghost use Rattle.json_trees.specs.Nested.{IsSound};
-ghost use Rattle.settings_maps.specs.Maps.{inner};
 ghost use Rattle.held_text.specs.HeldText.{key_data, keys_data, pair_data, map_data, rows, rows_at, row_data, metadata_data};
 ghost use Rattle.held_text.specs.HeldText.{transaction_data, pending_maps_data, owed_data, image_data};
 ghost use Rattle.held_text.specs.HeldRules.{IsRow, IsTransaction, ArePending, Wrote, WroteEach};
@@ -15,7 +14,7 @@ use base64::engine::general_purpose::STANDARD;
 use json::Writer;
 use json_trees::{Leaf, Pending, Scalar};
 use key_names::{Bytes, Key, Text};
-use settings_maps::{KeyList, KeyMap, Metadata, TxName};
+use settings_maps::{KeyList, KeyMap, Metadata, NamedValues, TxName};
 use settings_tree::{Owed, PendMaps};
 use std::alloc::{AllocError, Global};
 
@@ -37,7 +36,7 @@ fn write_pair<L: Leaf>(writer: &mut Writer, key: &Key, leaf: &L) -> Result<(), A
     writer.end_array()
 }
 
-/// Writes the pairs of a map, rising by key. It takes a logarithmic step for each.
+/// Writes the pairs of a map, rising by key. It takes a constant step for each.
 pub(crate) fn write_map<L: Leaf + Drop>(
     writer: &mut Writer,
     map: &KeyMap<L>,
@@ -46,10 +45,8 @@ pub(crate) fn write_map<L: Leaf + Drop>(
     ensures valid { OnOk result (AllByRecursion (IsSound L.leaf L.written) (entries map.now)) }
 {
     writer.begin_array()?;
-    let mut after = None;
-    while let Some((key, leaf)) = map.next_after(after) {
+    for (key, leaf) in map.iter() {
         write_pair(writer, key, leaf)?;
-        after = Some(key);
     }
     writer.end_array()
 }
@@ -66,28 +63,24 @@ fn write_row(writer: &mut Writer, key: &Key, name: &Text, value: &Scalar) -> Res
 }
 
 // Writes the rows of one key.
-fn write_rows(writer: &mut Writer, metadata: &Metadata, key: &Key) -> Result<(), AllocError>
-    ensures wrote { OnOk result (WroteEach row_data (rows_at (key.now, inner metadata.now key.now)) writer.old writer.new) }
-    ensures valid { OnOk result (AllByRecursion IsRow (rows_at (key.now, inner metadata.now key.now))) }
+fn write_rows(writer: &mut Writer, key: &Key, names: &NamedValues) -> Result<(), AllocError>
+    ensures wrote { OnOk result (WroteEach row_data (rows_at (key.now, names.now)) writer.old writer.new) }
+    ensures valid { OnOk result (AllByRecursion IsRow (rows_at (key.now, names.now))) }
 {
-    let mut after = None;
-    while let Some((name, value)) = metadata.next_name(key, after) {
+    for (name, value) in names.as_slice() {
         write_row(writer, key, name, value)?;
-        after = Some(name.as_str().as_bytes());
     }
     Ok(())
 }
 
-/// Writes the rows of metadata, rising by key and then by name. It takes a logarithmic step for each.
+/// Writes the rows of metadata, rising by key and then by name. It takes a constant step for each.
 pub(crate) fn write_metadata(writer: &mut Writer, metadata: &Metadata) -> Result<(), AllocError>
     ensures wrote { OnOk result (Wrote (metadata_data metadata.now) writer.old writer.new) }
     ensures valid { OnOk result (AllByRecursion IsRow (rows metadata.now)) }
 {
     writer.begin_array()?;
-    let mut after = None;
-    while let Some(key) = metadata.next_key(after) {
-        write_rows(writer, metadata, key)?;
-        after = Some(key);
+    for (key, names) in metadata.iter() {
+        write_rows(writer, key, names)?;
     }
     writer.end_array()
 }
@@ -106,17 +99,14 @@ fn write_transaction(
     writer.end_array()
 }
 
-/// Writes the pending maps, rising by transaction. It takes a logarithmic step for each.
+/// Writes the pending maps, rising by transaction. It takes a constant step for each.
 pub(crate) fn write_pending(writer: &mut Writer, pending: &PendMaps) -> Result<(), AllocError>
     ensures wrote { OnOk result (Wrote (pending_maps_data pending.now) writer.old writer.new) }
     ensures valid { OnOk result (ArePending pending.now) }
 {
-    let transactions = pending.transactions();
     writer.begin_array()?;
-    let mut after = None;
-    while let Some((tx, keys)) = transactions.next_keys(after) {
+    for (tx, keys) in pending.transactions().iter() {
         write_transaction(writer, tx, keys)?;
-        after = Some(tx);
     }
     writer.end_array()
 }

@@ -347,18 +347,3 @@ ordered_sorted (e ∷ es) rises = and_from _ _ (below_ordered e.0 es (sorted_hea
 pub tree_entries : {X : Type 0} (es all : List (List ℕ × X)) → IsStrictlySortedBy bytes_cmp (map (λ e. e.0) es)
     → entries (from_entries {R = bytes_cmp} es) ≡ all → es ≡ all
 tree_entries es all rises is = sym (entries-seen es (ordered_sorted es rises)) ∙ is
-
--- ---- one value more, from one step of a walk to the next
-
--- A walk begins with all values and no name.
-pub begun : {X Y : Type 0} (f : FinMap bytes_cmp X → Y → FinMap bytes_cmp X) (es : List (List ℕ × X)) (past all : List Y) → es ≡ [] → past ≡ all
-    → fold f (from_entries es) past ≡ fold f empty all
-begun f es past all none whole = ap (λ l. fold f (from_entries l) past) none ∙ ap (fold f empty) whole
-
--- And each step puts one value in.
-pub folded_more : {S Y : Type 0} (f : S → Y → S) (m now : S) (x : Y) (left rest : List Y) (all : S) → left ≡ x ∷ rest → now ≡ f m x → fold f m left ≡ all
-    → fold f now rest ≡ all
-folded_more f m now x left rest all is put whole = ap (λ n. fold f n rest) put ∙ sym (ap (fold f m) is) ∙ whole
-
-pub folded_all : {S Y : Type 0} (f : S → Y → S) (m : S) (left : List Y) (all : S) → left ≡ [] → fold f m left ≡ all → m ≡ all
-folded_all f m left all none whole = sym (ap (fold f m) none) ∙ whole

@@ -1,16 +1,12 @@
 -- The lists of the metadata, from one key to the next.
-use Rattle.std.proofs.Common.{arith, ◌≡◌, ◌<◌, ◌++◌, suc, length, Bool, true, false, T, ℕ, List}
-use Rattle.std.proofs.Common.{[], ◌∷◌, Option, Some, None, IsSome, unwrap_or, refl, sym, ◌∙◌, ap, append_assoc}
-use Rattle.std.specs.FinMap.{FinMap, get, empty, entries, entries_sorted, is_sorted}
+use Rattle.std.proofs.Common.{◌≡◌, ◌++◌, Bool, true, false, T, ℕ, List, [], ◌∷◌, Option, Some, None, refl, sym, ◌∙◌, ap, append_assoc}
+use Rattle.std.specs.FinMap.{FinMap, get, entries, entries_sorted, is_sorted}
 use Rattle.std.specs.FinMap.Entries.{below_all}
 use Rattle.std.specs.Ordering.{is_lt}
 use Rattle.std.proofs.lemmas.Bool.{and_parts, and_from}
 use Rattle.std.specs.List.{flat_map}
-use Rattle.key_names.specs.Order.{bytes_cmp, key_cmp, key_total, key_cmp-IsAntisymmetric}
+use Rattle.key_names.specs.Order.{bytes_cmp, key_cmp}
 use Rattle.json_trees.specs.declared.scalar.Scalar.{Scalar}
-use Rattle.settings_maps.specs.Maps.{IsLeastKeyAfter, inner, value_at}
-use Rattle.settings_tree.specs.Walks.{entries_past}
-use Rattle.settings_tree.proofs.Walks.{walk_next}
 use Rattle.metadata_links.specs.Faults.{first_of}
 use Rattle.metadata_links.specs.Lists.{affected_services, lists_at, lists_of, lists_in}
 use Rattle.metadata_links.proofs.Filtered.{sound, sorted_sound}
@@ -21,23 +17,10 @@ pub flat_both : {X E : Type 0} (f : X → List E) (xs ys : List X) → flat_map 
 flat_both f [] ys = refl
 flat_both f (x ∷ xs) ys = ap (λ l. f x ++ l) (flat_both f xs ys) ∙ sym (append_assoc (f x) (flat_map f xs) (flat_map f ys))
 
-there : {X : Type 0} (o : Option X) (d : X) → IsSome o → o ≡ Some (unwrap_or o d)
-there None d has = absurd (cc has)
-there (Some x) d has = refl
-
-module _ (m : FinMap key_cmp (FinMap bytes_cmp Scalar)) (after : Option (List (List ℕ))) (k : List (List ℕ)) (next : IsLeastKeyAfter m after k) where
-  past_next : entries_past m after ≡ (k, inner m k) ∷ entries_past m (Some k)
-  past_next = walk_next key_total key_cmp-IsAntisymmetric m after k (inner m k)
-      (record { stands = there (get m k) empty next.stands; past = next.past; least = next.least })
-
-  -- So the number of keys that are left falls.
-  pub keys_fall : length (entries_past m (Some k)) < length (entries_past m after)
-  keys_fall = let one : length (entries_past m after) ≡ suc (length (entries_past m (Some k))) = ap length past_next in omega (arith, one)
-
-  -- The walk's next key has its list, if it has one.
-  pub lists_next : (o : Option Scalar) → o ≡ value_at m k affected_services → lists_of (entries_past m after) ≡ lists_at k o ++ lists_of
-      (entries_past m (Some k))
-  lists_next o is = ap lists_of past_next ∙ ap (λ v. lists_at k v ++ lists_of (entries_past m (Some k))) (sym is)
+-- The next key has its list, if it has one.
+pub lists_next : (k : List (List ℕ)) (names : FinMap bytes_cmp Scalar) (left rest : List (List (List ℕ) × FinMap bytes_cmp Scalar)) (o : Option Scalar)
+    → left ≡ (k, names) ∷ rest → o ≡ get names affected_services → lists_of left ≡ lists_at k o ++ lists_of rest
+lists_next k names left rest o is found = ap lists_of is ∙ ap (λ v. lists_at k v ++ lists_of rest) (sym found)
 
 -- ---- the order of the lists
 

@@ -103,8 +103,8 @@ fn push_list(
 /// The lists of the content's metadata, by key.
 ///
 /// The first fault by key is answered: `BadMeta`, or, where services are given, `UnknownService` for
-/// the first service of a list that isn't among them. `Memory` may come at any place. It takes a
-/// logarithmic step for each key with metadata.
+/// the first service of a list that isn't among them. `Memory` may come at any place. It takes one
+/// pass over the keys with metadata, and a search among the names of each.
 pub(crate) fn lists_in(
     alloc: Global,
     content: &Content,
@@ -117,11 +117,9 @@ pub(crate) fn lists_in(
         (list_faults (is_among (option_copied services.entry))) (lists_in content.now.metadata)) ≡ Some e) }
 {
     let mut lists = Vec::new(alloc);
-    let mut after = None;
-    while let Some(key) = content.next_meta_key(after) {
-        let value = content.meta(key, b"affected-services");
+    for (key, names) in content.metadata().iter() {
+        let value = names.get(b"affected-services");
         push_list(alloc, &mut lists, services, key, value)?;
-        after = Some(key);
     }
     Ok(Index::of_rising(lists))
 }

@@ -74,16 +74,16 @@ fn put(
     one: &str,
     other: &str,
     key: &Key,
-    value: &Scalar,
+    value: Scalar,
 ) -> Result<(), AllocError>
     ensures { OnOk result (from_entries found.new.entries
-        ≡ with_value one.now other.now (from_entries {R = bytes_cmp} found.old.entries) (key.now, value.now)) }
+        ≡ with_value one.now other.now (from_entries {R = bytes_cmp} found.old.entries) (key.now, value)) }
 {
     if key.len() != 3 {
         return Ok(());
     }
     let name = segment_text(alloc, key.segment(1))?;
-    put_named(found, one, other, name, key.segment(2), value.copy()?)
+    put_named(found, one, other, name, key.segment(2), value)
 }
 
 // Puts all values below the prefix into their names' fields.
@@ -98,10 +98,8 @@ fn gather(
         ≡ fold (with_value one.now other.now) map.empty (entries_below content.now.values prefix.now)) }
 {
     let mut found = BTreeMap::new(alloc);
-    let mut after = None;
-    while let Some((key, value)) = content.next_below(prefix, after) {
-        put(alloc, &mut found, one, other, key, value)?;
-        after = Some(key);
+    for (key, value) in content.below(prefix)? {
+        put(alloc, &mut found, one, other, &key, value)?;
     }
     Ok(found)
 }

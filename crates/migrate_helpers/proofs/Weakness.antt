@@ -1,5 +1,5 @@
 -- Live settings with their weakness, and the contents that they are parts of.
-use Rattle.std.proofs.Common.{arith, ◌≡◌, ℕ, List, [], ◌∷◌, ◌++◌, Option, Some, None, Bool, true}
+use Rattle.std.proofs.Common.{arith, ◌≡◌, ℕ, List, [], ◌∷◌, ◌++◌, Some, Bool, true}
 use Rattle.std.proofs.Common.{false, cond, filter, map, is_some, option_map, append_assoc, append-nil, refl, sym, ◌∙◌, ap, subst}
 use Rattle.std.specs.Prelude.{All}
 use Rattle.std.specs.List.{AllByRecursion}
@@ -15,11 +15,8 @@ use Rattle.std.proofs.lemmas.Cmp.{tied_itself}
 use Rattle.key_names.specs.Order.{bytes_cmp, key_cmp, key_total, key_cmp-IsAntisymmetric}
 use Rattle.json_trees.specs.declared.scalar.Scalar.{Scalar}
 use Rattle.settings_maps.specs.KeyList.{IsRising}
-use Rattle.settings_maps.specs.Maps.{IsLeastAfter, HasNoneAfter}
 use Rattle.settings_tree.specs.Content.{Contents, IsContent, MayBeWeak}
 use Rattle.settings_tree.specs.Rule.{IsPrefixFree}
-use Rattle.settings_tree.specs.Walks.{entries_past}
-use Rattle.settings_tree.proofs.Walks.{walk_start, walk_next, walk_end}
 use Rattle.migrate_helpers.specs.declared.setting.Setting.{Setting}
 use Rattle.migrate_helpers.specs.Entries.{removed}
 use Rattle.migrate_helpers.specs.Mapped.{strong}
@@ -45,28 +42,15 @@ weak_first k x es = by x.weak where
   by true = refl
   by false = refl
 
--- The weak keys that a walk has not come to yet.
-abbrev pub weak_past : FinMap key_cmp Setting → Option (List (List ℕ)) → List (List (List ℕ))
-weak_past s after = weak_keys (entries_past s after)
+-- The weak keys so far, with those of the entries that are left.
+pub weak_next : (left rest : List (List (List ℕ) × Setting)) (k : List (List ℕ)) (x : Setting) (keys now all : List (List (List ℕ)))
+    → left ≡ (k, x) ∷ rest → keys ++ weak_keys left ≡ all → now ≡ keys ++ weak_keys ((k, x) ∷ []) → now ++ weak_keys rest ≡ all
+weak_next left rest k x keys now all next whole pushed = ap (λ (l : List (List (List ℕ))). l ++ weak_keys rest) pushed
+    ∙ append_assoc keys (weak_keys ((k, x) ∷ [])) (weak_keys rest)
+    ∙ ap (λ (l : List (List (List ℕ))). keys ++ l) (sym (weak_first k x rest) ∙ sym (ap weak_keys next)) ∙ whole
 
-pub weak_start : (s : FinMap key_cmp Setting) (keys : List (List (List ℕ))) → keys ≡ [] → keys ++ weak_past s None ≡ weak_keys (entries s)
-weak_start s keys none = ap (λ (l : List (List (List ℕ))). l ++ weak_past s None) none ∙ ap weak_keys (walk_start key_total key_cmp-IsAntisymmetric s)
-
-pub weak_next : (s : FinMap key_cmp Setting) (after : Option (List (List ℕ))) (k : List (List ℕ)) (x : Setting) (keys now : List (List (List ℕ)))
-    → IsLeastAfter s after k x → keys ++ weak_past s after ≡ weak_keys (entries s)
-    → now ≡ keys ++ weak_keys ((k, x) ∷ []) → now ++ weak_past s (Some k) ≡ weak_keys (entries s)
-weak_next s after k x keys now next left pushed = ap (λ (l : List (List (List ℕ))). l ++ weak_past s (Some k)) pushed
-    ∙ assoc keys (weak_keys ((k, x) ∷ [])) (weak_past s (Some k))
-    ∙ ap (λ (l : List (List (List ℕ))). keys ++ l) (sym (weak_first k x (entries_past s (Some k)))
-    ∙ sym (ap weak_keys (walk_next key_total key_cmp-IsAntisymmetric s after k x next))) ∙ left
-  where
-    assoc : (a b c : List (List (List ℕ))) → (a ++ b) ++ c ≡ a ++ (b ++ c)
-    assoc a b c = append_assoc a b c
-
-pub weak_end : (s : FinMap key_cmp Setting) (after : Option (List (List ℕ))) (keys : List (List (List ℕ))) → HasNoneAfter s after
-    → keys ++ weak_past s after ≡ weak_keys (entries s) → keys ≡ weak_keys (entries s)
-weak_end s after keys none left = sym (ap (λ (l : List (List (List ℕ))). keys ++ l) (ap weak_keys (walk_end key_total key_cmp-IsAntisymmetric s after none))
-    ∙ append-nil keys) ∙ left
+pub weak_end : (left : List (List (List ℕ) × Setting)) (keys all : List (List (List ℕ))) → left ≡ [] → keys ++ weak_keys left ≡ all → keys ≡ all
+weak_end left keys all none whole = sym (ap (λ (l : List (List (List ℕ))). keys ++ l) (ap weak_keys none) ∙ append-nil keys) ∙ whole
 
 all_above : (k : List (List ℕ)) (es : List (List (List ℕ) × Setting)) → below_all key_cmp k es ≡ true → AllByRecursion (λ y. key_cmp k y ≡ Less) (weak_keys es)
 all_above k [] below = tt

@@ -27,14 +27,12 @@ fn settings_of(content: &Content) -> Result<KeyMap<Setting>, AllocError>
 {
     let weak = content.weak();
     let mut settings = KeyMap::new(weak.allocator());
-    let mut after = None;
-    while let Some((key, value)) = content.next_value(after) {
+    for (key, value) in content.values().iter() {
         let setting = Setting {
             value: value.copy()?,
             weak: weak.contains(key),
         };
         settings.put(key.copy()?, setting)?;
-        after = Some(key);
     }
     Ok(settings)
 }
@@ -89,10 +87,8 @@ fn weak_keys(alloc: Global, settings: &KeyMap<Setting>) -> Result<KeyList, Alloc
     ensures { IfOk result (λ keys. keys ≡ weak_keys (entries settings.now)) }
 {
     let mut keys = Vec::new(alloc);
-    let mut after = None;
-    while let Some((key, setting)) = settings.next_after(after) {
+    for (key, setting) in settings.iter() {
         push_if_weak(&mut keys, key, setting)?;
-        after = Some(key);
     }
     Ok(KeyList::of(keys))
 }

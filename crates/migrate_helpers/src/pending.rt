@@ -27,13 +27,10 @@ pub(crate) fn edited_pending(
     ensures err { IfErr result (λ e. e ≢ Memory → (let step = step_of edit.now
         in unless_conflict (first_conflict step (entries pending.now)) (transactions_edited step pending.now) ≡ Err e)) }
 {
-    let transactions = pending.transactions();
     let mut made = Transactions::new(alloc);
-    let mut after = None;
-    while let Some((tx, keys)) = transactions.next_keys(after) {
+    for (tx, keys) in pending.transactions().iter() {
         let keys = edited(edit, keys.copied()?)?;
         made.set_keys(tx.copy()?, keys)?;
-        after = Some(tx);
     }
     Ok(PendMaps::of(made))
 }

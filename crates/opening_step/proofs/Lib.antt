@@ -1,5 +1,3 @@
-pub mod Begins
-pub mod WalkedLists
 pub mod AddedKeys
 pub mod InOrder
 pub mod Parts

@@ -312,15 +312,12 @@ module _ (image live : Metadata) (image_full : IsFull image) (live_full : IsFull
   put_at q r = put_keys_at live (entries image) live q r (entries_rise image)
       ∙ ap (λ (o : Option Scalar). wanted_at (value_at live q r) o (value_at live q r)) (sym (name_of image q r))
 
-  same_value : (v w : Scalar) → scalar_eq w v ≡ true → w ≡ v
-  same_value v w e = (scalar_eq-Decides w v).0 e
-
   wanted_now : (v : Scalar) (l : Option Scalar) → wanted_at l (Some v) l ≡ Some v
   unfolding wanted_at put_or
   wanted_now v None = refl
   wanted_now v (Some w) = by (scalar_eq w v) refl where
     by : (b : Bool) → scalar_eq w v ≡ b → put_or (not b) v (Some w) ≡ Some v
-    by true same = ap Some (same_value v w same)
+    by true same = ap Some ((scalar_eq-Decides w v).0 same)
     by false same = refl
 
   at : (q : Key) (r : List ℕ) (i : Option Scalar) → value_at image q r ≡ i → (l : Option Scalar) → value_at live q r ≡ l → value_at all q r ≡ i

@@ -212,9 +212,6 @@ module _ (image live : Values) where
   there : (q : Key) (w : Scalar) → get live q ≡ Some w → IsSome (find key_cmp q (entries live))
   there q w is = ap is_some (sym (get-entries live q) ∙ is)
 
-  same_value : (v w : Scalar) → scalar_eq w v ≡ true → w ≡ v
-  same_value v w e = (scalar_eq-Decides w v).0 e
-
   -- the cases of a key
   at_setting : (q : Key) → is_of_store q ≡ true → (i l : Option Scalar) → get live q ≡ l → wanted_at live q i l ≡ or_else l i
   unfolding wanted_at put_or or_else
@@ -230,7 +227,7 @@ module _ (image live : Values) where
   at_other q other v (Some w) is = ap (λ (o : Option Scalar). put_or (is_wanted (is_of_store q) v o) v (Some w)) is
       ∙ ap (λ (b : Bool). put_or (not b && not (scalar_eq w v)) v (Some w)) other ∙ by (scalar_eq w v) refl where
         by : (b : Bool) → scalar_eq w v ≡ b → put_or (not b) v (Some w) ≡ Some v
-        by true same = ap Some (same_value v w same)
+        by true same = ap Some ((scalar_eq-Decides w v).0 same)
         by false same = refl
 
   at : (q : Key) (s : Bool) → is_of_store q ≡ s → (i : Option Scalar) → get image q ≡ i → (l : Option Scalar) → get live q ≡ l

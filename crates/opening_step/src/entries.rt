@@ -4,7 +4,6 @@ ghost use Rattle.std.specs.Str.{bytes_eq};
 ghost use Rattle.std.specs.Option.{option_copied};
 ghost use Rattle.std.specs.FinMap as map;
 ghost use Rattle.settings_maps.specs.KeyList.{IsRising};
-ghost use Rattle.settings_maps.specs.Maps.{inner};
 ghost use Rattle.settings_tree.specs.Content.{IsContent};
 ghost use Rattle.settings_tree.specs.Laid.{laid, KeepsPrefixRule, NamesWeak, TellsWeak};
 ghost use Rattle.opening_step.specs.Entries.{is_wanted, is_absent, differs, value_entries, gone_entries, name_entries};
@@ -16,6 +15,7 @@ ghost use Rattle.settings_machine.specs.Opening.{is_of_store, added_keys};
 use crate::sections::is_of_store;
 use json_trees::Scalar;
 use key_names::{Bytes, Key, Text};
+use settings_maps::NamedValues;
 use settings_tree::{Change, Content, Entry, Held, KeyList, Owed};
 use std::alloc::{AllocError, Global};
 
@@ -67,10 +67,8 @@ fn set_values(entries: &mut Vec<Entry>, image: &Content, live: &Content) -> Resu
     ensures { OnOk result (entries.new.items ≡ entries.old.items
         ++ flat_map (value_entries live.now.values) (map.entries image.now.values)) }
 {
-    let mut after = None;
-    while let Some((key, value)) = image.next_value(after) {
+    for (key, value) in image.values().iter() {
         set_value(entries, live, key, value)?;
-        after = Some(key);
     }
     Ok(())
 }
@@ -89,10 +87,8 @@ fn take_values(entries: &mut Vec<Entry>, image: &Content, live: &Content) -> Res
     ensures { OnOk result (entries.new.items ≡ entries.old.items
         ++ flat_map (λ e. gone_entries image.now.values e.0) (map.entries live.now.values)) }
 {
-    let mut after = None;
-    while let Some((key, _)) = live.next_value(after) {
+    for (key, _) in live.values().iter() {
         take_value(entries, image, key)?;
-        after = Some(key);
     }
     Ok(())
 }
@@ -120,17 +116,15 @@ fn set_name(
 // The image's metadata of one key that differs from the live one.
 fn set_names(
     entries: &mut Vec<Entry>,
-    image: &Content,
     live: &Content,
     key: &Key,
+    names: &NamedValues,
 ) -> Result<(), AllocError>
     ensures { OnOk result (entries.new.items ≡ entries.old.items
-        ++ key_entries live.now.metadata (key.now, inner image.now.metadata key.now)) }
+        ++ key_entries live.now.metadata (key.now, names.now)) }
 {
-    let mut after = None;
-    while let Some((name, value)) = image.next_meta(key, after) {
+    for (name, value) in names.as_slice() {
         set_name(entries, live, key, name, value)?;
-        after = Some(name.as_str().as_bytes());
     }
     Ok(())
 }
@@ -139,10 +133,8 @@ fn set_metadata(entries: &mut Vec<Entry>, image: &Content, live: &Content) -> Re
     ensures { OnOk result (entries.new.items ≡ entries.old.items
         ++ flat_map (key_entries live.now.metadata) (map.entries image.now.metadata)) }
 {
-    let mut after = None;
-    while let Some(key) = image.next_meta_key(after) {
-        set_names(entries, image, live, key)?;
-        after = Some(key);
+    for (key, names) in image.metadata().iter() {
+        set_names(entries, live, key, names)?;
     }
     Ok(())
 }
@@ -169,16 +161,14 @@ fn take_name(
 fn take_names(
     entries: &mut Vec<Entry>,
     image: &Content,
-    live: &Content,
     key: &Key,
+    names: &NamedValues,
 ) -> Result<(), AllocError>
     ensures { OnOk result (entries.new.items ≡ entries.old.items
-        ++ gone_key_entries image.now.metadata (key.now, inner live.now.metadata key.now)) }
+        ++ gone_key_entries image.now.metadata (key.now, names.now)) }
 {
-    let mut after = None;
-    while let Some((name, _)) = live.next_meta(key, after) {
+    for (name, _) in names.as_slice() {
         take_name(entries, image, key, name)?;
-        after = Some(name.as_str().as_bytes());
     }
     Ok(())
 }
@@ -191,10 +181,8 @@ fn take_metadata(
     ensures { OnOk result (entries.new.items ≡ entries.old.items
         ++ flat_map (gone_key_entries image.now.metadata) (map.entries live.now.metadata)) }
 {
-    let mut after = None;
-    while let Some(key) = live.next_meta_key(after) {
-        take_names(entries, image, live, key)?;
-        after = Some(key);
+    for (key, names) in live.metadata().iter() {
+        take_names(entries, image, key, names)?;
     }
     Ok(())
 }
@@ -214,10 +202,8 @@ fn added_list(alloc: Global, image: &Content, live: &Content) -> Result<Vec<Key>
         ≡ flat_map (λ e. added_key live.now.values e.0) (map.entries image.now.values)) }
 {
     let mut keys = Vec::new(alloc);
-    let mut after = None;
-    while let Some((key, _)) = image.next_value(after) {
+    for (key, _) in image.values().iter() {
         push_added(&mut keys, live, key)?;
-        after = Some(key);
     }
     Ok(keys)
 }

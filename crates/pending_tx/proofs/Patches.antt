@@ -26,9 +26,6 @@ use Rattle.pending_tx.proofs.Changing.{all_set_change}
 use Rattle.pending_tx.proofs.Drops.{names_none, tells_none}
 use Rattle.pending_tx.proofs.Effects.{set_laid, news_suffice}
 use Rattle.pending_tx.proofs.Named.{set_once, set_bare, set_no_live, set_no_weak}
-use Rattle.settings_maps.specs.Maps.{IsLeastAfter}
-use Rattle.settings_tree.specs.Walks.{entries_past}
-use Rattle.settings_tree.proofs.Walks.{walk_next}
 use Rattle.settings_tree.proofs.Rising.{entries_rise, sorted_some}
 use Rattle.settings_tree.proofs.Found.{not_found}
 
@@ -173,12 +170,6 @@ put_free m es free fit = record { alone = λ k q has other begins. by k q begins
       let too : (slice_index_or es b.0 (q, gone)).0 ≡ q = b.1.1 (q, gone) in
       sym at ∙ fit.apart a.0 (k, gone) a.1.0 b.0 (q, gone) b.1.0 (subst (λ (z : Key). IsTrue (is_prefix z (slice_index_or es b.0 (q, gone)).0)) (sym at)
       (subst (λ (z : Key). IsTrue (is_prefix k z)) (sym too) begins)) ∙ too
-
--- Each step of a walk through what counts gives the next.
-pub next_last : (pairs : List (List (List ℕ) × Pending)) (last : FinMap key_cmp Pending) (after : Option (List (List ℕ))) (k : List (List ℕ)) (x : Pending)
-    → last ≡ last_of pairs → IsLeastAfter last after k x → entries_past (last_of pairs) after ≡ (k, x) ∷ entries_past (last_of pairs) (Some k)
-next_last pairs last after k x is next = walk_next key_total key_cmp-IsAntisymmetric (last_of pairs) after k x
-    (subst (λ (m : Keyed). IsLeastAfter m after k x) is next)
 
 module _ (h : Held) (tx : List ℕ) (pairs : List (List (List ℕ) × Pending)) where
   abbrev news : Pairs

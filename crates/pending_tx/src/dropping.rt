@@ -11,8 +11,8 @@ use settings_tree::{Change, Held, TxName};
 use std::alloc::{AllocError, Global};
 
 /// Ends the transaction; nothing else changes. Where there is none, it has no keys and the change
-/// is empty. It takes a logarithmic step for each key of the transaction. The only error is out of
-/// memory.
+/// is empty. It takes a logarithmic step and a constant one for each key of the transaction. The only
+/// error is out of memory.
 pub fn drop_tx(alloc: Global, held: &Held, tx: &TxName) -> Result<Dropped, AllocError>
     ensures keys { IfOk result (λ d. d.keys ≡ keys_of held.now tx.now) }
     ensures laid { IfOk result (λ d. laid held.now d.change ≡ dropped held.now tx.now) }

@@ -72,10 +72,8 @@ pub fn changed_in(
     ensures { IfOk result (λ changed. changed ≡ changed_in held.now pending.now) }
 {
     let mut keys = Vec::new(alloc);
-    let mut after = None;
-    while let Some((key, value)) = pending.next_after(after) {
+    for (key, value) in pending.iter() {
         push_changed(&mut keys, held, key, value)?;
-        after = Some(key);
     }
     Ok(KeyList::of(keys))
 }

@@ -20,6 +20,21 @@ pub fn last_of(alloc: Global, pairs: &[(Key, Pending)]) -> Result<KeyMap<Pending
     Ok(last)
 }
 
+/// Copies of the entries, rising by key. It takes a constant step for each. The only error is out of
+/// memory.
+pub(crate) fn pairs_of(
+    alloc: Global,
+    map: &KeyMap<Pending>,
+) -> Result<Vec<(Key, Pending)>, AllocError>
+    ensures { IfOk result (λ pairs. pairs.items ≡ entries map.now) }
+{
+    let mut pairs = Vec::new(alloc);
+    for (key, value) in map.iter() {
+        pairs.push((key.copy()?, value.copy()?))?;
+    }
+    Ok(pairs)
+}
+
 /// Copies of the last pair of each key, rising by key. It takes a logarithmic step for each pair. The
 /// only error is out of memory.
 pub(crate) fn last_pairs(
@@ -29,11 +44,5 @@ pub(crate) fn last_pairs(
     ensures { IfOk result (λ counted. counted.items ≡ entries (last_of pairs.now)) }
 {
     let last = last_of(alloc, pairs)?;
-    let mut counted = Vec::new(alloc);
-    let mut after = None;
-    while let Some((key, value)) = last.next_after(after) {
-        counted.push((key.copy()?, value.copy()?))?;
-        after = Some(key);
-    }
-    Ok(counted)
+    pairs_of(alloc, &last)
 }

@@ -41,10 +41,8 @@ fn patch_entries(
 {
     let last = last_of(alloc, pairs)?;
     let mut entries = Vec::new(alloc);
-    let mut after = None;
-    while let Some((key, value)) = last.next_after(after) {
+    for (key, value) in last.iter() {
         set_pending(&mut entries, held, tx, key, value)?;
-        after = Some(key);
     }
     Ok(entries)
 }

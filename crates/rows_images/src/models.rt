@@ -2,11 +2,9 @@
 use key_names::Key;
 use model_file::{Model, ModelError};
 use row_files::line;
+use settings_maps::NamedValues;
 use settings_tree::Content;
 use std::io::{self, Write};
-
-// No model file of the rows says more values than this.
-const MOST: usize = 10_000;
 
 /// Tells the kind of a fault and where it is, as a line.
 pub fn fault(out: &mut Vec<u8>, error: &ModelError) -> io::Result<()> {
@@ -14,44 +12,29 @@ pub fn fault(out: &mut Vec<u8>, error: &ModelError) -> io::Result<()> {
 }
 
 fn tell_values(out: &mut Vec<u8>, content: &Content) -> io::Result<()> {
-    let mut after = None;
-    for _ in 0..MOST {
-        let Some((key, value)) = content.next_value(after) else {
-            break;
-        };
+    for (key, value) in content.values().iter() {
         let (key_text, json) = (key.print()?, value.print(*out.allocator())?);
         line(out, &["value", key_text.as_str(), json.as_str()])?;
-        after = Some(key);
     }
     Ok(())
 }
 
 // Tells the metadata of the key.
-fn tell_named(out: &mut Vec<u8>, content: &Content, key: &Key) -> io::Result<()> {
+fn tell_named(out: &mut Vec<u8>, key: &Key, names: &NamedValues) -> io::Result<()> {
     let key_text = key.print()?;
-    let mut after = None;
-    for _ in 0..MOST {
-        let Some((name, value)) = content.next_meta(key, after) else {
-            break;
-        };
+    for (name, value) in names.as_slice() {
         let json = value.print(*out.allocator())?;
         line(
             out,
             &["meta", key_text.as_str(), name.as_str(), json.as_str()],
         )?;
-        after = Some(name.as_str().as_bytes());
     }
     Ok(())
 }
 
 fn tell_metadata(out: &mut Vec<u8>, content: &Content) -> io::Result<()> {
-    let mut after = None;
-    for _ in 0..MOST {
-        let Some(key) = content.next_meta_key(after) else {
-            break;
-        };
-        tell_named(out, content, key)?;
-        after = Some(key);
+    for (key, names) in content.metadata().iter() {
+        tell_named(out, key, names)?;
     }
     Ok(())
 }

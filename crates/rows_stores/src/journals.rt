@@ -1,12 +1,11 @@
 //! Changes of files below a data directory, their journals, and recoveries.
 ghost use Rattle.std.specs.Prelude.{◌≡◌, length, IsTrue};
 ghost use Rattle.std.specs.List.{list_all};
-ghost use Rattle.std.specs.Str.{bytes_eq};
-ghost use Rattle.std.specs.Ordering.{is_lt};
-ghost use Rattle.outside.specs.Names.{path_cmp};
-ghost use Rattle.commit_journal.specs.Entries.{is_first_name, has_first_name, are_rising};
+ghost use Rattle.commit_journal.specs.Entries.{has_first_name};
 
-use commit_journal::{Batch, BatchError, JournalError, change, recover};
+use commit_journal::{
+    Batch, BatchError, JournalError, are_rising, change, has_first_name, recover,
+};
 use disk_memory::MemoryDisk;
 use key_names::Bytes;
 use outside::Path;
@@ -35,62 +34,19 @@ fn entries_of(alloc: Global, lines: &str) -> io::Result<Vec<Entry>> {
     Ok(entries)
 }
 
-fn are_same(one: &[u8], other: &[u8]) -> bool
-    ensures { result ≡ bytes_eq one.now other.now }
-{
-    one == other
-}
-
-fn is_first_name(name: &[u8]) -> bool
-    ensures { result ≡ is_first_name name.now }
-{
-    let live = are_same(name, b"live");
-    let pending = are_same(name, b"pending");
-    let owed = are_same(name, b"owed");
-    let image = are_same(name, b"image");
-    let weak = are_same(name, b"weak");
-    live || pending || owed || image || weak
-}
-
-fn is_named(entry: &Entry) -> bool
-    ensures { result ≡ has_first_name entry.now.0 }
-{
-    match entry.0.names() {
-        [] => false,
-        [first, ..] => is_first_name(first.as_slice()),
-    }
-}
-
-fn is_before(one: &Entry, other: &Entry) -> bool
-    ensures { result ≡ is_lt (path_cmp one.now.0 other.now.0) }
-{
-    one.0 < other.0
-}
-
 // Whether each path begins with a name that a path of a batch may begin with. Rows have four entries at most.
 fn are_named(entries: &[Entry]) -> bool
     ensures { IsTrue result → IsTrue (list_all (λ e. has_first_name e.0) entries.now) }
 {
     match entries {
         [] => true,
-        [a] => is_named(a),
-        [a, b] => is_named(a) && is_named(b),
-        [a, b, c] => is_named(a) && is_named(b) && is_named(c),
-        [a, b, c, d] => is_named(a) && is_named(b) && is_named(c) && is_named(d),
-        _ => false,
-    }
-}
-
-// Whether the paths rise strictly. A single one rises, and is to be named all the same.
-fn are_rising(entries: &[Entry]) -> bool
-    ensures { IsTrue result → IsTrue (are_rising entries.now) }
-{
-    match entries {
-        [] => true,
-        [a] => is_named(a),
-        [a, b] => is_before(a, b),
-        [a, b, c] => is_before(a, b) && is_before(b, c),
-        [a, b, c, d] => is_before(a, b) && is_before(b, c) && is_before(c, d),
+        [a] => has_first_name(&a.0),
+        [a, b] => has_first_name(&a.0) && has_first_name(&b.0),
+        [a, b, c] => has_first_name(&a.0) && has_first_name(&b.0) && has_first_name(&c.0),
+        [a, b, c, d] => has_first_name(&a.0)
+            && has_first_name(&b.0)
+            && has_first_name(&c.0)
+            && has_first_name(&d.0),
         _ => false,
     }
 }

@@ -9,7 +9,8 @@ use Rattle.command_outcome.specs.declared.refusal.Refusal.TheVariants as refused
 use Rattle.core_commands.specs.Handing.{HasSpawnCause}
 use Rattle.settings_cmd.specs.Checks.{IsOfCheck}
 
-same_error : (y e : Refusal) → ◌≡◌ {A = Outcome} (Err y) (Err e) → y ≡ e
+-- Two errors of one outcome are one refusal.
+pub same_error : (y e : Refusal) → ◌≡◌ {A = Outcome} (Err y) (Err e) → y ≡ e
 same_error y e is = cc
 
 -- A refusal of a check tells of no failure of the spawner, and of no door.

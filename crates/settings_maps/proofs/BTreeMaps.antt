@@ -1,14 +1,21 @@
 -- A `BTreeMap` seen as a finite map.
 use Rattle.std.proofs.Common.{arith, ℕ, ◌<◌, length, ◌++◌, IsSome, is_some, ◌∷◌, ◌≡◌, List, []}
-use Rattle.std.proofs.Common.{Option, Some, None, Bool, true, false, cond, refl, sym, ◌∙◌, ap, subst}
+use Rattle.std.proofs.Common.{Option, Some, None, Bool, true, false, cond, T, filter, ◌&&◌, refl, sym, ◌∙◌, ap, subst}
 use Rattle.std.specs.Prelude.{◌↔◌, ◌==◌, IfSome, IfNone}
 use Rattle.std.specs.BTreeMap as tree
 use Rattle.std.specs.declared.cmp.Ordering.{Ordering}
 use Rattle.std.specs.declared.cmp.Ordering.TheVariants.{Less, Equal, Greater}
 use Rattle.std.specs.Ordering.{eq_by_cmp, is_lt, is_gt, ordering_reverse}
 use Rattle.std.specs.Cmp.{IsTotalOrder, eq_by_cmp_equiv}
-use Rattle.std.specs.FinMap.{FinMap, IsAntisymmetric, empty, get, insert, remove}
-use Rattle.std.specs.FinMap.{from_entries, len-empty, get-empty, get-insert, get-remove, get-from_entries, same_map}
+use Rattle.std.specs.FinMap.{FinMap, IsAntisymmetric, empty, get, insert, remove, is_sorted, entries, entries_sorted}
+use Rattle.std.specs.FinMap.{from_entries, len-empty, get-empty, get-insert, get-remove, get-from_entries, get-entries, same_map}
+use Rattle.std.specs.FinMap.Entries.{below_all, same_entries}
+use Rattle.std.specs.List.{AllByRecursion}
+use Rattle.std.specs.List.Sorted.{IsStrictlySortedBy}
+use Rattle.std.specs.Map.{keys_of}
+use Rattle.std.proofs.Math.Bool.{and-true}
+use Rattle.std.proofs.lemmas.Bool.{and_from}
+use Rattle.std.proofs.lemmas.Map.Keys.{sorted_head, sorted_tail}
 use Rattle.std.specs.BTreeMap.Range.{IsRangeOf}
 use Rattle.std.specs.declared.ops.Bound.TheVariants.{Included, Excluded, Unbounded}
 use Rattle.key_names.specs.Order.{key_total, key_cmp-IsAntisymmetric, bytes_total, bytes_cmp-IsAntisymmetric}
@@ -131,6 +138,29 @@ module _ {K X : Type 0} {R : K → K → Ordering} (o : IsTotalOrder R) where
   pub none_below : (m : tree.BTreeMap K X) (a : K) (r : List (K × X)) → IsRangeOf R Unbounded (Excluded a) m r → r ≡ []
       → HasNoneBefore {R = R} (from_entries m.entries) a
   none_below m a r range none = record { none = λ q below. get-seen m q ∙ range.5 none q (tt, below) }
+
+  all_above : (k : K) (es : List (K × X)) → AllByRecursion (λ q. R k q ≡ Less) (keys_of es) → below_all R k es ≡ true
+  all_above k [] above = refl
+  all_above k (e ∷ es) above = and_from _ _ (ap is_lt above.0) (all_above k es above.1)
+
+  keys_sorted : (es : List (K × X)) → IsStrictlySortedBy R (keys_of es) → is_sorted R es ≡ true
+  keys_sorted [] rises = refl
+  keys_sorted (e ∷ es) rises = and_from _ _ (all_above e.0 es (sorted_head R e.0 _ rises)) (keys_sorted es (sorted_tail R e.0 _ rises))
+
+  -- The entries of the tree are those of the map.
+  pub seen-entries : IsAntisymmetric R → (m : tree.BTreeMap K X) (v : FinMap R X) → from_entries m.entries ≡ v → tree.IsOrdered R m → m.entries ≡ entries v
+  seen-entries same m v is rises = sym (ap entries (sym is) ∙ same_entries R o same _ m.entries (entries_sorted _) (subst T (sym (keys_sorted m.entries rises)) tt)
+      (λ q. sym (get-entries _ q) ∙ get-from_entries o m.entries q))
+
+  -- A range with no end is what its start lets through.
+  with_no_end : (p : K → Bool) (es : List (K × X)) → filter (λ e. p e.0 && true) es ≡ filter (λ e. p e.0) es
+  with_no_end p [] = refl
+  with_no_end p (e ∷ es) = ap (λ b. cond b (e ∷ filter (λ e. p e.0 && true) es) (filter (λ e. p e.0 && true) es)) (and-true (p e.0))
+      ∙ ap (λ (l : List (K × X)). cond (p e.0) (e ∷ l) l) (with_no_end p es)
+
+  pub seen-range : IsAntisymmetric R → (m : tree.BTreeMap K X) (v : FinMap R X) (r : List (K × X)) (p : K → Bool) → from_entries m.entries ≡ v → tree.IsOrdered R m
+      → r ≡ filter (λ e. p e.0 && true) m.entries → r ≡ filter (λ e. p e.0) (entries v)
+  seen-range same m v r p is rises range = range ∙ with_no_end p m.entries ∙ ap (filter (λ e. p e.0)) (seen-entries same m v is rises)
 
   -- What is put into the tree is put into the map.
   pub seen-insert : IsAntisymmetric R → (m n : tree.BTreeMap K X) (v : FinMap R X) (k : K) (x : X) → from_entries m.entries ≡ v → tree.Updates R m n k (Some x)

@@ -166,6 +166,10 @@ module _ {K X : Type 0} {R : K → K → Ordering} (o : IsTotalOrder R) where
       turned_cond true x y = refl
       turned_cond false x y = refl
 
+  -- The entries of the list are those of the map.
+  pub entries_seen : (es : List (K × X)) (v : FinMap R X) → from_sorted es ≡ v → IsTrue (is_sorted R es) → es ≡ entries v
+  entries_seen es v is rises = sym (entries-from_sorted R es (T_of _ rises)) ∙ ap entries is
+
   -- The empty list has no entry.
   pub empty_seen : (es : List (K × X)) → es ≡ [] → from_sorted {R = R} es ≡ empty
   empty_seen es none = same_entries_map _ _ (entries-from_sorted R es (subst (λ (l : List (K × X)). T (is_sorted R l)) (sym none) tt) ∙ none

@@ -1,14 +1,18 @@
 //! Finite maps by key.
-ghost use Rattle.std.specs.Prelude.{◌≡◌, OnOk, OnErr, IsSome, IfSome, IfNone, Some, None};
+ghost use Rattle.std.specs.Prelude.{◌≡◌, OnOk, OnErr, IsSome, IfSome, IfNone, Some, None, filter};
 ghost use Rattle.std.specs.Option.{option_copied};
 ghost use Rattle.std.specs.FinMap as map;
+ghost use Rattle.std.specs.Ordering.{is_le, is_lt};
+ghost use Rattle.key_names.specs.Order.{key_cmp};
 ghost use Rattle.settings_maps.specs.Maps.{IsLeastAfter, HasNoneAfter, IsLeastFrom, HasNoneFrom, IsLastBefore, HasNoneBefore, is_empty};
 
 use crate::tree_maps::{self, Copied};
 use key_names::Key;
 use std::alloc::{AllocError, Global};
 use std::collections::BTreeMap;
+use std::collections::btree_map::{Iter, Range};
 use std::marker::Model;
+use std::ops::Bound;
 
 /// A finite map from keys to values. It keeps the allocator that it was made with.
 #[derive(Drop)]
@@ -83,6 +87,29 @@ impl<V: Drop> KeyMap<V> {
         ensures gone { self.new ≡ map.remove self.old key.now }
     {
         self.map.remove(key)
+    }
+
+    /// The entries, rising by key. Each is a constant step. It takes no memory.
+    pub fn iter(&self) -> Iter<'_, Key, V>
+        ensures { result ≡ map.entries self.now }
+    {
+        self.map.iter()
+    }
+
+    /// The entries from this key on, rising by key. The first is a logarithmic step, each other a
+    /// constant one. It takes no memory.
+    pub fn entries_from(&self, key: &Key) -> Range<'_, Key, V>
+        ensures { result ≡ filter (λ e. is_le (key_cmp key.now e.0)) (map.entries self.now) }
+    {
+        self.map.range((Bound::Included(key), Bound::Unbounded))
+    }
+
+    /// The entries past this key, rising by key. The first is a logarithmic step, each other a
+    /// constant one. It takes no memory.
+    pub fn entries_after(&self, key: &Key) -> Range<'_, Key, V>
+        ensures { result ≡ filter (λ e. is_lt (key_cmp key.now e.0)) (map.entries self.now) }
+    {
+        self.map.range((Bound::Excluded(key), Bound::Unbounded))
     }
 
     /// The entry of the least key that is greater than `after`, or of the least of all where none is

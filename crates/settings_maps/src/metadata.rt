@@ -10,6 +10,7 @@ use json_trees::Scalar;
 use key_names::{Key, Text};
 use std::alloc::{AllocError, Global};
 use std::collections::BTreeMap;
+use std::collections::btree_map::Iter;
 use std::marker::Model;
 
 /// A finite map from keys to finite maps from names to values. It keeps the allocator that it was
@@ -131,28 +132,12 @@ impl Metadata {
         }
     }
 
-    /// The least key that is greater than `after`, or the least of all where none is given; None
-    /// exactly where there is none. It is logarithmic and takes no memory.
-    pub fn next_key(&self, after: Option<&Key>) -> Option<&Key>
-        ensures least { IfSome result (λ k. IsLeastKeyAfter self.now (option_copied after.entry) k.now) }
-        ensures none { IfNone result (HasNoneAfter self.now (option_copied after.entry)) }
+    /// The keys with their names and values, rising by key. Each is a constant step. It takes no
+    /// memory.
+    pub fn iter(&self) -> Iter<'_, Key, NamedValues>
+        ensures { result ≡ map.entries self.now }
     {
-        match tree_maps::next_after(&self.map, after) {
-            Some((key, _)) => Some(key),
-            None => None,
-        }
-    }
-
-    /// The entry of the least name at the key that is greater than `after`, or of the least of all
-    /// where none is given; None exactly where there is none. It is logarithmic and takes no memory.
-    pub fn next_name(&self, key: &Key, after: Option<&[u8]>) -> Option<(&Text, &Scalar)>
-        ensures least { IfSome result (λ e. IsLeastAfter (inner self.now key.now) (option_copied after.entry) e.0.now e.1.now) }
-        ensures none { IfNone result (HasNoneAfter (inner self.now key.now) (option_copied after.entry)) }
-    {
-        match self.map.get(key) {
-            Some(names) => names.next_after(after),
-            None => None,
-        }
+        self.map.iter()
     }
 }
 

@@ -162,6 +162,13 @@ impl NamedValues {
         }
     }
 
+    /// The names and their values, rising by name. It takes no memory.
+    pub fn as_slice(&self) -> &[(Text, Scalar)]
+        ensures { result.now ≡ map.entries self.now }
+    {
+        self.entries.as_slice()
+    }
+
     /// The entry of the least name that is greater than `after`, or of the least of all where none is
     /// given; None exactly where there is none. It takes no memory.
     pub fn next_after(&self, after: Option<&[u8]>) -> Option<(&Text, &Scalar)>

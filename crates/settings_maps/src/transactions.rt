@@ -11,6 +11,7 @@ use json_trees::Pending;
 use key_names::Key;
 use std::alloc::{AllocError, Global};
 use std::collections::BTreeMap;
+use std::collections::btree_map::Iter;
 use std::marker::Model;
 
 /// A finite map from transactions to finite maps from keys to what is pending. It keeps the allocator
@@ -140,6 +141,14 @@ impl Transactions {
         }
     }
 
+    /// The transactions with what they have pending by key, rising by name. Each is a constant step.
+    /// It takes no memory.
+    pub fn iter(&self) -> Iter<'_, TxName, KeyMap<Pending>>
+        ensures { result ≡ map.entries self.now }
+    {
+        self.map.iter()
+    }
+
     /// The least transaction that is greater than `after`, or the least of all where none is given;
     /// None exactly where there is none. It is logarithmic and takes no memory.
     pub fn next_tx(&self, after: Option<&TxName>) -> Option<&TxName>
@@ -150,16 +159,6 @@ impl Transactions {
             Some((tx, _)) => Some(tx),
             None => None,
         }
-    }
-
-    /// The least transaction that is greater than `after`, or the least of all where none is given,
-    /// with what it has pending by key; None exactly where there is none. It is logarithmic and takes
-    /// no memory.
-    pub fn next_keys(&self, after: Option<&TxName>) -> Option<(&TxName, &KeyMap<Pending>)>
-        ensures least { IfSome result (λ e. IsLeastAfter self.now (option_copied after.entry) e.0.now e.1.now) }
-        ensures none { IfNone result (HasNoneAfter self.now (option_copied after.entry)) }
-    {
-        tree_maps::next_after(&self.map, after)
     }
 
     /// Makes this what the transaction has pending by key. A transaction that is to have no key goes.
@@ -173,18 +172,6 @@ impl Transactions {
             Ok(())
         } else {
             tree_maps::put(&mut self.map, tx, keys)
-        }
-    }
-
-    /// The entry of the transaction's least key that is greater than `after`, or of its least of all
-    /// where none is given; None exactly where there is none. It is logarithmic and takes no memory.
-    pub fn next_key(&self, tx: &TxName, after: Option<&Key>) -> Option<(&Key, &Pending)>
-        ensures least { IfSome result (λ e. IsLeastAfter (inner self.now tx.now) (option_copied after.entry) e.0.now e.1.now) }
-        ensures none { IfNone result (HasNoneAfter (inner self.now tx.now) (option_copied after.entry)) }
-    {
-        match self.map.get(tx) {
-            Some(pending) => pending.next_after(after),
-            None => None,
         }
     }
 }

@@ -6,13 +6,11 @@ use Rattle.command_outcome.specs.Ends.{Outcome, status_in, Ends}
 use Rattle.command_outcome.specs.Lines.{status_of}
 use Rattle.command_outcome.specs.declared.refusal.Refusal.{Refusal}
 use Rattle.command_outcome.specs.declared.refusal.Refusal.TheVariants as refused
+use Rattle.settings_cmd.proofs.Spawned.{same_error}
 
 -- Another refusal than that of the disk has another status.
 by_disk : (refusal : Refusal) → (status_of refusal ≡ 3 → ⊥) → refusal ≡ refused.Disk → ⊥
 by_disk refusal other is = other (ap status_of is)
-
-same_error : (y e : Refusal) → ◌≡◌ {A = Outcome} (Err y) (Err e) → y ≡ e
-same_error y e is = cc
 
 kept : (outcome : Outcome) (before now : ℕ) → HasCauseOf refused.Disk before now outcome → (status_in outcome ≡ 3 → ⊥) → now ≡ before
 kept (Ok text) before now cause other = cause.kept

@@ -7,9 +7,7 @@ use Rattle.command_outcome.specs.Lines.{status_of}
 use Rattle.command_outcome.specs.declared.refusal.Refusal.{Refusal}
 use Rattle.command_outcome.specs.declared.refusal.Refusal.TheVariants as refused
 use Rattle.core_commands.specs.Handing.{HasSpawnCause}
-
-same_error : (y e : Refusal) → ◌≡◌ {A = Outcome} (Err y) (Err e) → y ≡ e
-same_error y e is = cc
+use Rattle.settings_cmd.proofs.Spawned.{same_error}
 
 memory_status : (outcome : Outcome) → IsErrOf outcome refused.Memory → status_in outcome ≡ 1
 memory_status (Ok text) is = absurd (cc is)

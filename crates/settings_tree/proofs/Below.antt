@@ -24,7 +24,7 @@ greater Equal gt = absurd (grind arith)
 greater Greater gt = refl
 
 -- A prefix is not above what begins with it.
-prefix_le : (p q : List (List ℕ)) → IsTrue (is_prefix p q) → IsLeBy key_cmp p q
+pub prefix_le : (p q : List (List ℕ)) → IsTrue (is_prefix p q) → IsLeBy key_cmp p q
 prefix_le p q begins = by (prefix_order p q begins) where
   by : (p ≡ q) ⊎ (key_cmp p q ≡ Less) → is_gt (key_cmp p q) ≡ false
   by (inl e) = ap is_gt (ap (key_cmp p) (sym e) ∙ tied_itself key_total p)

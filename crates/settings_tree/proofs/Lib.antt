@@ -7,6 +7,7 @@ pub mod LaidAt
 pub mod Laying
 pub mod PendingMaps
 pub mod PrefixRule
+pub mod Ranges
 pub mod Rising
 pub mod RoomsLaid
 pub mod RoomsUndone

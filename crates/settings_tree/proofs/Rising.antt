@@ -15,7 +15,8 @@ of_T : (b : Bool) → T b → b ≡ true
 of_T true holds = refl
 of_T false holds = absurd holds
 
-less : (r : Ordering) → is_lt r ≡ true → r ≡ Less
+-- What is tested to be less is less.
+pub less : (r : Ordering) → is_lt r ≡ true → r ≡ Less
 less Less lt = refl
 less Equal lt = absurd (cc lt)
 less Greater lt = absurd (cc lt)

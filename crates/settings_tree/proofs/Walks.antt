@@ -3,10 +3,10 @@ use Rattle.std.proofs.Common.{arith, ◌≡◌, ◌&&◌, ◌<◌, ℕ, suc, Lis
 use Rattle.std.proofs.Common.{Some, None, Bool, true, false, cond, IsSome, T, filter, refl, sym, ◌∙◌, ap, subst}
 use Rattle.std.specs.declared.cmp.Ordering.{Ordering}
 use Rattle.std.specs.declared.cmp.Ordering.TheVariants.{Less, Equal, Greater}
-use Rattle.std.specs.Ordering.{eq_by_cmp, is_eq, is_lt, is_gt}
+use Rattle.std.specs.Ordering.{eq_by_cmp, is_eq, is_lt, is_gt, ordering_reverse}
 use Rattle.std.specs.Cmp.{IsTotalOrder}
 use Rattle.std.specs.FinMap.{FinMap, IsAntisymmetric, find, is_sorted, entries, entries_sorted, get, get-entries}
-use Rattle.std.specs.FinMap.Entries.{below_all}
+use Rattle.std.specs.FinMap.Entries.{below_all, is_sorted-where_key, find-where_key}
 use Rattle.std.proofs.lemmas.Bool.{and_parts, and_from, cond-true, cond-false, and_right}
 use Rattle.std.proofs.Math.Bool.{and-true}
 use Rattle.std.proofs.lemmas.Cmp.{tied_itself}
@@ -152,6 +152,59 @@ module _ {K X : Type 0} {R : K → K → Ordering} (o : IsTotalOrder R) (same : 
   pub walk_end : (m : FinMap R X) (after : Option K) → HasNoneAfter m after → entries_past m after ≡ []
   walk_end m after end = none_pass (entries m) (is_past R after) (λ z past. sym (get-entries m z) ∙ end.none z (past_fact R after z past))
 
+  some_none : (o : Option X) → IsSome o → o ≡ None → ⊥
+  some_none o some none = cc (some, none)
+
+  -- The first that passes a test passes it.
+  head_passes : (p : K × X → Bool) (es : List (K × X)) (e : K × X) (more : List (K × X)) → filter p es ≡ e ∷ more → p e ≡ true
+  head_passes p [] e more is = absurd (cc is)
+  head_passes p (f ∷ es) e more is = by (p f) refl is (head_passes p es e more) where
+    by : (b : Bool) → p f ≡ b → cond b (f ∷ filter p es) (filter p es) ≡ e ∷ more → (filter p es ≡ e ∷ more → p e ≡ true) → p e ≡ true
+    by true passes is rest = let one : f ≡ e = cc is in ap p (sym one) ∙ passes
+    by false passes is rest = rest is
+
+  past_sorted : (m : FinMap R X) (after : Option K) → is_sorted R (entries_past m after) ≡ true
+  past_sorted m after = of_T _ (is_sorted-where_key R (is_past R after) (entries m) (entries_sorted m))
+
+  find_past : (m : FinMap R X) (after : Option K) (q : K) → IsPast R after q → find R q (entries_past m after) ≡ get m q
+  find_past m after q past = find-where_key R (is_past R after) q (alike after) (entries m) ∙ cond-true _ _ _ (past_test R after q past) ∙ sym (get-entries m q) where
+    alike : (o : Option K) (z : K) → R q z ≡ Equal → is_past R o z ≡ is_past R o q
+    alike o z tied = ap (is_past R o) (sym (same q z tied))
+
+  -- The first of the entries past a key is the least, and the others are those past it.
+  pub first_past : (m : FinMap R X) (after : Option K) (k : K) (x : X) (more : List (K × X)) → entries_past m after ≡ (k, x) ∷ more
+      → IsLeastAfter m after k x × (more ≡ entries_past m (Some k))
+  first_past m after k x more is = (least, ap tail (sym is ∙ walk_next m after k x least)) where
+    tail : List (K × X) → List (K × X)
+    tail [] = []
+    tail (e ∷ es) = es
+
+    passes : IsPast R after k
+    passes = past_fact R after k (head_passes (λ e. is_past R after e.0) (entries m) (k, x) more is)
+
+    sorted : below_all R k more ≡ true
+    sorted = (and_parts (below_all R k more) (is_sorted R more) (subst (λ es. is_sorted R es ≡ true) is (past_sorted m after))).0
+
+    low : (q : K) → IsPast R after q → IsSome (get m q) → (r : Ordering) → R k q ≡ r → is_gt r ≡ false
+    low q past has Less e = refl
+    low q past has Equal e = refl
+    low q past has Greater e = absurd (some_none (find R q ((k, x) ∷ more)) (subst IsSome (sym (find_past m after q past) ∙ ap (find R q) is) has)
+        (cond-false (eq_by_cmp R q k) (Some x) (find R q more) (ap is_eq less_k) ∙ none_above more q (below_trans q k more less_k sorted)))
+      where
+        less_k : R q k ≡ Less
+        less_k = o.antisymm q k ∙ ap ordering_reverse e
+
+    least : IsLeastAfter m after k x
+    least = record {
+      stands = sym (find_past m after k passes) ∙ ap (find R k) is ∙ cond-true _ _ _ (ap is_eq (tied_itself o k));
+      past = passes;
+      least = λ q past has. low q past has (R k q) refl;
+    }
+
+  -- Where there is none, nothing is past the key.
+  pub none_past : (m : FinMap R X) (after : Option K) → entries_past m after ≡ [] → HasNoneAfter m after
+  none_past m after is = record { none = λ q past. sym (find_past m after q past) ∙ ap (find R q) is }
+
   -- So the number of entries that are left falls.
   pub walk_falls : (m : FinMap R X) (after : Option K) (k : K) (x : X) → IsLeastAfter m after k x
       → length (entries_past m (Some k)) < length (entries_past m after)
@@ -159,15 +212,7 @@ module _ {K X : Type 0} {R : K → K → Ordering} (o : IsTotalOrder R) (same : 
       omega arith
 
 module _ {X : Type 0} where
-  -- A walk below a prefix begins with all entries whose key begins with it.
-  pub walk_below_start : (m : FinMap key_cmp X) (prefix : List (List ℕ)) → entries_below_past m prefix None ≡ entries_below m prefix
-  walk_below_start m prefix = all (entries m) where
-    all : (es : List (List (List ℕ) × X)) → filter (λ e. is_prefix prefix e.0 && true) es ≡ filter (λ e. is_prefix prefix e.0) es
-    all [] = refl
-    all (e ∷ es) = ap (λ (l : List (List (List ℕ) × X)). cond (is_prefix prefix e.0 && true) (e ∷ l) l) (all es)
-        ∙ ap (λ b. cond b (e ∷ filter (λ e. is_prefix prefix e.0) es) (filter (λ e. is_prefix prefix e.0) es)) (and-true (is_prefix prefix e.0))
-
-  -- Each step gives the next of them.
+  -- Each step of a walk below a prefix gives the next of the entries whose key begins with it.
   pub walk_below_next : (m : FinMap key_cmp X) (prefix : List (List ℕ)) (after : Option (List (List ℕ))) (k : List (List ℕ)) (x : X)
       → IsLeastBelow m prefix after k x
       → entries_below_past m prefix after ≡ (k, x) ∷ entries_below_past m prefix (Some k)
@@ -177,13 +222,6 @@ module _ {X : Type 0} where
       (λ z passes has. next.least z (past_fact key_cmp after z ((and_parts (is_prefix prefix z) _ passes).1)) ((and_parts (is_prefix prefix z) _ passes).0) has)
       (λ z l. ap (λ b. is_prefix prefix z && b) (ap is_lt l ∙ sym (past_test key_cmp after z (past_trans key_total after k z next.past l))))
       (λ z not. and_right _ _ not)
-
-  -- And the walk ends with none left.
-  pub walk_below_end : (m : FinMap key_cmp X) (prefix : List (List ℕ)) (after : Option (List (List ℕ))) → HasNoneBelow m prefix after
-      → entries_below_past m prefix after ≡ []
-  walk_below_end m prefix after end = none_pass key_total key_cmp-IsAntisymmetric (entries m) (λ z. is_prefix prefix z && is_past key_cmp after z)
-      (λ z passes. sym (get-entries m z) ∙ end.none z (past_fact key_cmp after z ((and_parts (is_prefix prefix z) _ passes).1))
-      ((and_parts (is_prefix prefix z) _ passes).0))
 
   -- So the number of entries that are left falls.
   pub walk_below_falls : (m : FinMap key_cmp X) (prefix : List (List ℕ)) (after : Option (List (List ℕ))) (k : List (List ℕ)) (x : X)

@@ -3,7 +3,7 @@ ghost use Rattle.std.specs.Prelude.{◌≡◌, ◌↔◌, ◌<◌, ℕ, take, le
 ghost use Rattle.std.specs.Map.{keys_of};
 ghost use Rattle.json_trees.specs.Apart.{AreApart};
 ghost use Rattle.json_trees.specs.Nested.{ShareFirst};
-ghost use Rattle.settings_tree.specs.Walks.{IsLeastBelow, HasNoneBelow, entries_below};
+ghost use Rattle.settings_tree.specs.Walks.{IsLeastBelow, HasNoneBelow, entries_below, entries_past};
 ghost use Rattle.std.specs.Option.{option_copied};
 ghost use Rattle.std.specs.FinMap as map;
 ghost use Rattle.settings_tree.specs.Content.{IsContent, MayBeWeak, no_content};
@@ -19,6 +19,7 @@ use json_trees::Scalar;
 use key_names::{Key, Text};
 use settings_maps::{Copied, KeyList, KeyMap, Metadata};
 use std::alloc::{AllocError, Global};
+use std::collections::btree_map::Range;
 use std::marker::Model;
 
 /// Values by key, metadata by key and name, and the set of the weak keys, each of which has a value
@@ -168,26 +169,6 @@ impl Content {
         self.values.next_after(after)
     }
 
-    /// The least key with metadata that is greater than `after`, or the least of all where none is
-    /// given; None exactly where there is no such key. It is logarithmic and takes no memory.
-    pub fn next_meta_key(&self, after: Option<&Key>) -> Option<&Key>
-        ensures least { IfSome result (λ k. IsLeastKeyAfter self.now.metadata (option_copied after.entry) k.now) }
-        ensures none { IfNone result (HasNoneAfter self.now.metadata (option_copied after.entry)) }
-        ensures valid { IsContent self.now }
-    {
-        self.metadata.next_key(after)
-    }
-
-    /// The metadata at the key of the least name that is greater than `after`, or of the least name
-    /// of all where none is given; None exactly where there is no such name. It is logarithmic and
-    /// takes no memory.
-    pub fn next_meta(&self, key: &Key, after: Option<&[u8]>) -> Option<(&Text, &Scalar)>
-        ensures least { IfSome result (λ e. IsLeastAfter (inner self.now.metadata key.now) (option_copied after.entry) e.0.now e.1.now) }
-        ensures none { IfNone result (HasNoneAfter (inner self.now.metadata key.now) (option_copied after.entry)) }
-    {
-        self.metadata.next_name(key, after)
-    }
-
     /// The entry of the least key that begins with the prefix, as the prefix itself does, and that is
     /// greater than `after` where it is given; None exactly where there is no such key. It is
     /// logarithmic and takes no memory.
@@ -198,14 +179,37 @@ impl Content {
         steps::next_below(&self.values, prefix, after)
     }
 
+    /// The entries past this key, rising by key. The first is a logarithmic step, each other a
+    /// constant one. It takes no memory.
+    pub fn entries_after(&self, key: &Key) -> Range<'_, Key, Scalar>
+        ensures { result ≡ entries_past self.now.values (Some key.now) }
+    {
+        self.values.entries_after(key)
+    }
+
     fn allocator(&self) -> Global
         ensures { IsContent self.now }
     {
         self.weak.allocator()
     }
 
+    // Copies of the entries whose key begins with the prefix: the first of those from it on.
+    fn copied_below(&self, prefix: &Key) -> Result<Vec<(Key, Scalar)>, AllocError>
+        ensures values { IfOk result (λ pairs. pairs.items ≡ entries_below self.now.values prefix.now) }
+        ensures valid { OnOk result (IsContent self.now) }
+    {
+        let mut pairs = Vec::new(self.allocator());
+        for (key, value) in self.values.entries_from(prefix) {
+            if !prefix.is_prefix(key) {
+                return Ok(pairs);
+            }
+            pairs.push((key.copy()?, value.copy()?))?;
+        }
+        Ok(pairs)
+    }
+
     /// Copies of the values whose key begins with the prefix, as the prefix itself does, rising by
-    /// key. It takes a logarithmic step for each. The only error is out of memory.
+    /// key. It takes a logarithmic step and a constant one for each. The only error is out of memory.
     pub fn below(&self, prefix: &Key) -> Result<Vec<(Key, Scalar)>, AllocError>
         ensures values { IfOk result (λ pairs. pairs.items ≡ entries_below self.now.values prefix.now) }
 
@@ -216,12 +220,7 @@ impl Content {
         ensures fewer { (n : ℕ) → n < length prefix.now → IfOk result (λ pairs. ShareFirst n (keys_of pairs.items)) }
         ensures shared { map.get self.now.values prefix.now ≡ None → IfOk result (λ pairs. ShareFirst (length prefix.now) (keys_of pairs.items)) }
     {
-        let mut pairs = Vec::new(self.allocator());
-        let mut after = None;
-        while let Some((key, value)) = self.next_below(prefix, after) {
-            pairs.push((key.copy()?, value.copy()?))?;
-            after = Some(key);
-        }
+        let pairs = self.copied_below(prefix)?;
         Ok(pairs)
     }
 

@@ -1,16 +1,17 @@
 //! Live settings to be read, as they are or with what is pending laid over them.
-ghost use Rattle.std.specs.Prelude.{◌≡◌, IfSome, IfNone};
+ghost use Rattle.std.specs.Prelude.{◌≡◌, IfSome, IfNone, Some};
 ghost use Rattle.std.specs.Option.{option_copied};
 ghost use Rattle.std.specs.declared.cmp.Ordering.TheVariants.{Less};
 ghost use Rattle.key_names.specs.Order.{key_cmp};
 ghost use Rattle.settings_tree.specs.Over.{laid_over};
-ghost use Rattle.settings_tree.specs.Walks.{IsLeastBelow, HasNoneBelow, HasNoneUntil};
+ghost use Rattle.settings_tree.specs.Walks.{IsLeastBelow, HasNoneBelow, HasNoneUntil, entries_past};
 
 use crate::content::Content;
 use crate::steps;
 use json_trees::{Pending, Scalar};
 use key_names::Key;
 use settings_maps::KeyMap;
+use std::collections::btree_map::Range;
 use std::marker::Model;
 
 /// Live settings to be read, as they are or with values and removals laid over them. It keeps
@@ -113,6 +114,18 @@ impl<'a> LiveView<'a> {
         match self.over {
             Some(over) => next_over(self.live, over, prefix, after),
             None => self.live.next_below(prefix, after),
+        }
+    }
+
+    /// The entries past this key, rising by key, where nothing is laid over the live settings; None
+    /// where something is. The first is a logarithmic step, each other a constant one. It takes no
+    /// memory.
+    pub fn entries_after(&self, key: &Key) -> Option<Range<'_, Key, Scalar>>
+        ensures { IfSome result (λ rest. rest ≡ entries_past self.now.values (Some key.now)) }
+    {
+        match self.over {
+            Some(_) => None,
+            None => Some(self.live.entries_after(key)),
         }
     }
 }

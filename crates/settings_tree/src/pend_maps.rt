@@ -110,17 +110,6 @@ impl PendMaps {
         self.transactions.next_tx(after)
     }
 
-    /// The entry of the transaction's least key that is greater than `after`, or of its least key of
-    /// all where none is given; None exactly where there is no such key. It is logarithmic and takes
-    /// no memory.
-    pub fn next_key(&self, tx: &TxName, after: Option<&Key>) -> Option<(&Key, &Pending)>
-        ensures least { IfSome result (λ e. IsLeastAfter (inner self.now tx.now) (option_copied after.entry) e.0.now e.1.now) }
-        ensures none { IfNone result (HasNoneAfter (inner self.now tx.now) (option_copied after.entry)) }
-        ensures valid { IsPending self.now }
-    {
-        self.transactions.next_key(tx, after)
-    }
-
     /// A copy. The only error is out of memory.
     pub fn copy(&self) -> Result<PendMaps, AllocError>
         ensures { IfOk result (λ copy. copy ≡ self.now) }

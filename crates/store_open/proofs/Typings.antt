@@ -1,19 +1,20 @@
 -- Whether what is held fits a table, key by key.
-use Rattle.std.proofs.Common.{◌≡◌, ℕ, List, Option, Some, None, IsSome, is_some, Bool, true, false, refl, sym, ◌∙◌, ap, subst}
+use Rattle.std.proofs.Common.{◌≡◌, ℕ, List, [], ◌∷◌, Option, Some, None, IsSome, is_some, Bool, true, false, refl, sym, ◌∙◌, ap, subst}
 use Rattle.std.specs.Prelude.{IsTrue, ◌↔◌, unwrap_or, IfOk, Result, Ok, Err}
 use Rattle.key_names.specs.Key.{is_prefix}
 use Rattle.settings_tree.specs.Content.{settings_key}
-use Rattle.std.specs.FinMap.{FinMap, get, empty, get-empty}
+use Rattle.std.specs.FinMap.{FinMap, entries, get, empty, get-empty}
 use Rattle.key_names.specs.Order.{key_cmp, bytes_total, key_total, bytes_cmp-IsAntisymmetric, key_cmp-IsAntisymmetric}
 use Rattle.json_trees.specs.declared.scalar.Scalar.{Scalar}
 use Rattle.json_trees.specs.declared.pending.Pending.{Pending}
-use Rattle.settings_maps.specs.Maps.{inner, value_at, IsLeastAfter, IsLeastKeyAfter, HasNoneAfter}
+use Rattle.settings_maps.specs.Maps.{inner, value_at, IsLeastKeyAfter, HasNoneAfter}
+use Rattle.settings_tree.proofs.Walks.{none_past}
 use Rattle.settings_tree.specs.declared.held.Held.{Held}
 use Rattle.typed_settings.specs.Row.{IsTyped}
 use Rattle.typed_settings.specs.declared.row.Row.{Row}
 use Rattle.settings_machine.specs.Typed.{IsTypedHeld, is_of_image, IsTaken, MayPend, HasTypedSettings}
 use Rattle.store_open.specs.Typed.{HasTypedPendingOf, HasTypedPending, IsFirstBadLive, IsFirstBadPendingOf, IsFirstBadPending}
-use Rattle.store_open.proofs.Walked.{Fine, fine_none, fine_next, fine_all, fine_before}
+use Rattle.store_open.proofs.Walked.{Fine, FineBefore, fine_none, fine_next, fine_all, fine_before, before_all, least_left}
 
 present : {A : Type 0} (o : Option A) (x : A) → o ≡ Some x → IsSome o
 present o x is = ap is_some is
@@ -34,65 +35,85 @@ module _ (types : List Row) (held : Held) where
   abbrev pub FineLive : List (List ℕ) → Type 0
   FineLive k = (v : Scalar) → get held.live.values k ≡ Some v → is_of_image k ≡ false → IsTyped types k v
 
-  abbrev pub LiveUpTo : Option (List (List ℕ)) → Type 0
-  LiveUpTo after = Fine FineLive held.live.values after
+  -- those before these last live values may be there
+  abbrev pub LiveBefore : List (List (List ℕ) × Scalar) → Type 0
+  LiveBefore left = FineBefore FineLive held.live.values left
 
-  pub live_none : LiveUpTo None
-  live_none = fine_none key_total key_cmp-IsAntisymmetric FineLive held.live.values
+  pub live_first : (left : List (List (List ℕ) × Scalar)) → left ≡ entries held.live.values → LiveBefore left
+  live_first = before_all key_total key_cmp-IsAntisymmetric FineLive held.live.values
 
   one_value : (k : List (List ℕ)) (v w : Scalar) → get held.live.values k ≡ Some v → get held.live.values k ≡ Some w → v ≡ w
   one_value k v w is also = let same : Some v ≡ Some w = sym is ∙ also in cc same
 
-  pub live_next : (after : Option (List (List ℕ))) (k : List (List ℕ)) (v : Scalar) → IsLeastAfter held.live.values after k v → LiveUpTo after
-      → (is_of_image k ≡ false → IsTyped types k v) → LiveUpTo (Some k)
-  live_next after k v next fine here = fine_next key_total key_cmp-IsAntisymmetric FineLive held.live.values after k next.least fine
-      (λ w is setting. subst (IsTyped types k) (one_value k v w next.stands is) (here setting))
+  pub live_next : (left more : List (List (List ℕ) × Scalar)) (k : List (List ℕ)) (v : Scalar) → left ≡ (k, v) ∷ more → LiveBefore left
+      → (is_of_image k ≡ false → IsTyped types k v) → LiveBefore more
+  live_next left more k v is before here =
+      let next = least_left key_total key_cmp-IsAntisymmetric FineLive held.live.values left more k v is before in record {
+        after = Some k;
+        rest = next.1;
+        fine = fine_next key_total key_cmp-IsAntisymmetric FineLive held.live.values before.after k next.0.least before.fine
+            (λ w also setting. subst (IsTyped types k) (one_value k v w next.0.stands also) (here setting));
+      }
 
-  pub live_all : (after : Option (List (List ℕ))) → HasNoneAfter held.live.values after → LiveUpTo after → HasTypedSettings types held.live
-  live_all after end fine = record {
-    typed = λ k v is setting. fine_all key_total key_cmp-IsAntisymmetric FineLive held.live.values after end fine k
+  pub live_all : (left : List (List (List ℕ) × Scalar)) → left ≡ [] → LiveBefore left → HasTypedSettings types held.live
+  live_all left none before = record {
+    typed = λ k v is setting. fine_all key_total key_cmp-IsAntisymmetric FineLive held.live.values before.after
+        (none_past key_total key_cmp-IsAntisymmetric held.live.values before.after (sym before.rest ∙ none)) before.fine k
         (present _ v is) v is setting;
   }
 
-  pub live_bad : (after : Option (List (List ℕ))) (k : List (List ℕ)) (v : Scalar) → IsLeastAfter held.live.values after k v → LiveUpTo after
+  pub live_bad : (left more : List (List (List ℕ) × Scalar)) (k : List (List ℕ)) (v : Scalar) → left ≡ (k, v) ∷ more → LiveBefore left
       → is_of_image k ≡ false → (IsTyped types k v → ⊥) → IsFirstBadLive types held k
-  live_bad after k v next fine setting bad = record {
-    bad = record { value = v; there = next.stands; setting = setting; untyped = bad };
-    first = λ q less is. is.untyped (fine_before key_total key_cmp-IsAntisymmetric FineLive held.live.values after k next.least fine q
-        (present _ is.value is.there) less is.value is.there is.setting);
-  }
+  live_bad left more k v is before setting bad =
+      let next = least_left key_total key_cmp-IsAntisymmetric FineLive held.live.values left more k v is before in record {
+        bad = record { value = v; there = next.0.stands; setting = setting; untyped = bad };
+        first = λ q less ill. ill.untyped (fine_before key_total key_cmp-IsAntisymmetric FineLive held.live.values before.after k next.0.least before.fine q
+            (present _ ill.value ill.there) less ill.value ill.there ill.setting);
+      }
 
   module _ (tx : List ℕ) where
+    -- what the transaction has that is there
+    pub values_of : (m : FinMap key_cmp Pending) → Some m ≡ get held.pending tx → m ≡ inner held.pending tx
+    values_of m is = ap (λ (o : Option (FinMap key_cmp Pending)). unwrap_or o empty) is
+
     abbrev pub FinePending : List (List ℕ) → Type 0
     FinePending k = (v : Pending) → value_at held.pending tx k ≡ Some v → MayPend types k v
 
-    abbrev pub PendingUpTo : Option (List (List ℕ)) → Type 0
-    PendingUpTo after = Fine FinePending (inner held.pending tx) after
+    -- those before these last pending ones may be there
+    abbrev pub PendingBefore : List (List (List ℕ) × Pending) → Type 0
+    PendingBefore left = FineBefore FinePending (inner held.pending tx) left
 
-    pub pending_none : PendingUpTo None
-    pending_none = fine_none key_total key_cmp-IsAntisymmetric FinePending (inner held.pending tx)
+    pub pending_first : (left : List (List (List ℕ) × Pending)) → left ≡ entries (inner held.pending tx) → PendingBefore left
+    pending_first = before_all key_total key_cmp-IsAntisymmetric FinePending (inner held.pending tx)
 
     one_pending : (k : List (List ℕ)) (v w : Pending) → value_at held.pending tx k ≡ Some v → value_at held.pending tx k ≡ Some w → v ≡ w
     one_pending k v w is also = let same : Some v ≡ Some w = sym is ∙ also in cc same
 
-    pub pending_next : (after : Option (List (List ℕ))) (k : List (List ℕ)) (v : Pending) → IsLeastAfter (inner held.pending tx) after k v → PendingUpTo after
-        → MayPend types k v → PendingUpTo (Some k)
-    pending_next after k v next fine here = fine_next key_total key_cmp-IsAntisymmetric FinePending (inner held.pending tx) after k next.least fine
-        (λ w is. subst (MayPend types k) (one_pending k v w next.stands is) here)
+    pub pending_next : (left more : List (List (List ℕ) × Pending)) (k : List (List ℕ)) (v : Pending) → left ≡ (k, v) ∷ more → PendingBefore left
+        → MayPend types k v → PendingBefore more
+    pending_next left more k v is before here =
+        let next = least_left key_total key_cmp-IsAntisymmetric FinePending (inner held.pending tx) left more k v is before in record {
+          after = Some k;
+          rest = next.1;
+          fine = fine_next key_total key_cmp-IsAntisymmetric FinePending (inner held.pending tx) before.after k next.0.least before.fine
+              (λ w also. subst (MayPend types k) (one_pending k v w next.0.stands also) here);
+        }
 
-    pub pending_all : (after : Option (List (List ℕ))) → HasNoneAfter (inner held.pending tx) after → PendingUpTo after → HasTypedPendingOf types held tx
-    pending_all after end fine = record {
-      pending = λ k v is. fine_all key_total key_cmp-IsAntisymmetric FinePending (inner held.pending tx) after end fine k
+    pub pending_all : (left : List (List (List ℕ) × Pending)) → left ≡ [] → PendingBefore left → HasTypedPendingOf types held tx
+    pending_all left none before = record {
+      pending = λ k v is. fine_all key_total key_cmp-IsAntisymmetric FinePending (inner held.pending tx) before.after
+          (none_past key_total key_cmp-IsAntisymmetric (inner held.pending tx) before.after (sym before.rest ∙ none)) before.fine k
           (present _ v is) v is;
     }
 
-    pub pending_bad : (after : Option (List (List ℕ))) (k : List (List ℕ)) (v : Pending) → IsLeastAfter (inner held.pending tx) after k v → PendingUpTo after
+    pub pending_bad : (left more : List (List (List ℕ) × Pending)) (k : List (List ℕ)) (v : Pending) → left ≡ (k, v) ∷ more → PendingBefore left
         → (MayPend types k v → ⊥) → IsFirstBadPendingOf types held tx k
-    pending_bad after k v next fine bad = record {
-      bad = record { value = v; there = next.stands; unfit = bad };
-      first = λ q less is. is.unfit (fine_before key_total key_cmp-IsAntisymmetric FinePending (inner held.pending tx) after k next.least fine q
-          (present _ is.value is.there) less is.value is.there);
-    }
+    pending_bad left more k v is before bad =
+        let next = least_left key_total key_cmp-IsAntisymmetric FinePending (inner held.pending tx) left more k v is before in record {
+          bad = record { value = v; there = next.0.stands; unfit = bad };
+          first = λ q less ill. ill.unfit (fine_before key_total key_cmp-IsAntisymmetric FinePending (inner held.pending tx) before.after k next.0.least
+              before.fine q (present _ ill.value ill.there) less ill.value ill.there);
+        }
 
   abbrev pub TxUpTo : Option (List ℕ) → Type 0
   TxUpTo after = Fine (HasTypedPendingOf types held) held.pending after
@@ -105,7 +126,7 @@ module _ (types : List Row) (held : Held) where
   tx_next after tx next fine here = fine_next bytes_total bytes_cmp-IsAntisymmetric (HasTypedPendingOf types held) held.pending after tx next.least fine here
 
   -- a transaction that is not there has nothing pending
-  absent : (tx : List ℕ) → get held.pending tx ≡ None → HasTypedPendingOf types held tx
+  pub absent : (tx : List ℕ) → get held.pending tx ≡ None → HasTypedPendingOf types held tx
   absent tx none = record {
     pending = λ k v is. absurd (cc (sym is ∙ ap (λ (o : Option (FinMap key_cmp Pending)). get (unwrap_or o empty) k) none
         ∙ get-empty key_cmp k));

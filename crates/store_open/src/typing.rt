@@ -62,12 +62,10 @@ fn bad_live<'a>(types: &Types, held: &'a Held) -> Result<Option<&'a Key>, AllocE
     ensures found { IfOk result (λ found. IfSome found (λ key. IsFirstBadLive types.now held.now key.now)) }
     ensures none { IfOk result (λ found. IfNone found (HasTypedSettings types.now held.now.live)) }
 {
-    let mut after = None;
-    while let Some((key, value)) = held.live.next_value(after) {
+    for (key, value) in held.live.values().iter() {
         if !may_live(types, key, value)? {
             return Ok(Some(key));
         }
-        after = Some(key);
     }
     Ok(None)
 }
@@ -81,12 +79,13 @@ fn bad_pending_of<'a>(
     ensures found { IfOk result (λ found. IfSome found (λ key. IsFirstBadPendingOf types.now held.now tx.now key.now)) }
     ensures none { IfOk result (λ found. IfNone found (HasTypedPendingOf types.now held.now tx.now)) }
 {
-    let mut after = None;
-    while let Some((key, value)) = held.pending.next_key(tx, after) {
+    let Some(values) = held.pending.keys(tx) else {
+        return Ok(None);
+    };
+    for (key, value) in values.iter() {
         if !may_pend(types, key, value)? {
             return Ok(Some(key));
         }
-        after = Some(key);
     }
     Ok(None)
 }
@@ -115,7 +114,8 @@ fn ill_typed(key: &Key) -> Result<OpenError, AllocError>
 
 /// Checks that each live setting is typed, and that all that is pending may be at its key: it is typed, or of a removal
 /// the key is matched by a row. `IllTyped` exactly where this is not so, with the first such live setting, and else with the
-/// first such key of the first transaction. It takes a logarithmic step for each value, and the time of its check.
+/// first such key of the first transaction. It takes a constant step for each value, a logarithmic one or two for each
+/// transaction, and the time of each value's check.
 #[tactic(auto, using(crate::proofs::Typings::typed_whole))]
 pub fn check_types(types: &Types, held: &Held) -> Result<(), OpenError>
     ensures typed { OnOk result (IsTypedHeld types.now held.now) }

@@ -40,10 +40,8 @@ fn push_all_live(
 ) -> Result<(), AllocError>
     ensures { OnOk result (found.new.items ≡ found.old.items ++ ill_live types.now live.now.values) }
 {
-    let mut after = None;
-    while let Some((key, value)) = live.next_value(after) {
+    for (key, value) in live.values().iter() {
         push_live(alloc, found, types, key, value)?;
-        after = Some(key);
     }
     Ok(())
 }
@@ -78,10 +76,8 @@ fn push_all_of(
 ) -> Result<(), AllocError>
     ensures { OnOk result (found.new.items ≡ found.old.items ++ ill_of types.now (tx.now, pending.now)) }
 {
-    let mut after = None;
-    while let Some((key, value)) = pending.next_after(after) {
+    for (key, value) in pending.iter() {
         push_pending(alloc, found, types, tx, key, value)?;
-        after = Some(key);
     }
     Ok(())
 }
@@ -95,15 +91,13 @@ fn push_all_pending(
 ) -> Result<(), AllocError>
     ensures { OnOk result (found.new.items ≡ found.old.items ++ ill_pending types.now transactions.now) }
 {
-    let mut after = None;
-    while let Some((tx, pending)) = transactions.next_keys(after) {
+    for (tx, pending) in transactions.iter() {
         push_all_of(alloc, found, types, tx, pending)?;
-        after = Some(tx);
     }
     Ok(())
 }
 
-/// The values that the types refuse: the live ones by key, and then the pending ones by transaction and key. It takes a logarithmic
+/// The values that the types refuse: the live ones by key, and then the pending ones by transaction and key. It takes a constant
 /// step for each value, and the time of its check.
 pub fn ill_typed(alloc: Global, types: &Types, held: &Held) -> Result<Vec<IllTyped>, AllocError>
     ensures { IfOk result (λ found. found.items ≡ ill_typed types.now held.now) }

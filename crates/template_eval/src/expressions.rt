@@ -4,7 +4,7 @@ ghost use Rattle.base64.specs.Engines.{standard};
 ghost use Rattle.base64.specs.GeneralPurpose.{decode_of};
 ghost use Rattle.template_eval.specs.Written.{path_text, literal_text};
 ghost use Rattle.template_eval.specs.Render.{node_text, default_text, decoded, decode_text, json_node, join_array_text, join_map_text};
-ghost use Rattle.template_eval.specs.Kept.{KeepsHere};
+ghost use Rattle.template_eval.specs.Kept.{KeepsHere, NodeFollows};
 ghost use Rattle.template_eval.specs.Steps.{Adds};
 ghost use Rattle.template_eval.specs.Views.{atom_node, node_in, seen, pair_of, printing, expression};
 
@@ -194,19 +194,20 @@ struct MapForm<'a> {
 // Adds the children of a map, joined.
 fn push_map(
     inputs: &Inputs<'_>,
-    node: &Node<'_>,
+    node: Node<'_>,
     form: MapForm<'_>,
     path: &Walk,
     out: &mut Vec<u8>,
 ) -> Result<(), RenderError>
+    requires { NodeFollows inputs.now.content.now node }
     ensures ok { OnOk result
         (Adds (join_map_text (pair_of inputs.now form.entry.joiner.now path.now)
         form.entry.separator.now
-        form.entry.fail (path_text path.now) (node_in inputs.now node.now)) out.old.items out.new.items) }
+        form.entry.fail (path_text path.now) (node_in inputs.now node.entry)) out.old.items out.new.items) }
     ensures err { IfErr result (λ e. e ≢ RenderError.Memory
         → join_map_text (pair_of inputs.now form.entry.joiner.now path.now)
         form.entry.separator.now
-        form.entry.fail (path_text path.now) (node_in inputs.now node.now) ≡ Err e) }
+        form.entry.fail (path_text path.now) (node_in inputs.now node.entry) ≡ Err e) }
 {
     match node {
         Node::Missing => {
@@ -218,7 +219,7 @@ fn push_map(
         }
         Node::Children(places) => push_children(
             inputs,
-            *places,
+            places,
             form.joiner.as_str().as_bytes(),
             form.separator.as_str().as_bytes(),
             path,
@@ -233,20 +234,21 @@ fn push_map(
 fn push_print(
     inputs: &Inputs<'_>,
     expr: &Expr,
-    node: &Node<'_>,
+    node: Node<'_>,
     out: &mut Vec<u8>,
 ) -> Result<(), RenderError>
+    requires { NodeFollows inputs.now.content.now node }
     ensures ok { OnOk result
-        (Adds (printing inputs.now expr.now (node_in inputs.now node.now)) out.old.items out.new.items) }
+        (Adds (printing inputs.now expr.now (node_in inputs.now node.entry)) out.old.items out.new.items) }
     ensures err { IfErr result (λ e. e ≢ RenderError.Memory
-        → printing inputs.now expr.now (node_in inputs.now node.now) ≡ Err e) }
+        → printing inputs.now expr.now (node_in inputs.now node.entry) ≡ Err e) }
 {
     match expr {
-        Expr::Plain { path } => push_node(inputs, node, path, out),
-        Expr::Default { literal, path } => push_default(inputs, node, literal, path, out),
-        Expr::Decode { path } => push_decoded_node(inputs, node, path, out),
-        Expr::Json { path } => push_json_node(inputs, node, path, out),
-        Expr::JoinArray { joiner, path } => push_array(inputs, node, joiner, path, out),
+        Expr::Plain { path } => push_node(inputs, &node, path, out),
+        Expr::Default { literal, path } => push_default(inputs, &node, literal, path, out),
+        Expr::Decode { path } => push_decoded_node(inputs, &node, path, out),
+        Expr::Json { path } => push_json_node(inputs, &node, path, out),
+        Expr::JoinArray { joiner, path } => push_array(inputs, &node, joiner, path, out),
         Expr::JoinMap {
             joiner,
             separator,
@@ -277,5 +279,5 @@ pub fn push_expr(
         → expression inputs.now (seen here.entry) expr.now ≡ Err e) }
 {
     let place = place_at(here, expr.path())?;
-    push_print(inputs, expr, &node(inputs.content, inputs.os, &place), out)
+    push_print(inputs, expr, node(inputs.content, inputs.os, &place), out)
 }

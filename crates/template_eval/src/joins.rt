@@ -4,7 +4,7 @@ ghost use Rattle.std.specs.List.{join_by};
 ghost use Rattle.template_eval.specs.Written.{item_text};
 ghost use Rattle.template_eval.specs.Rendered.{onto, joined};
 ghost use Rattle.template_eval.specs.Render.{name_of};
-ghost use Rattle.template_eval.specs.Kept.{Keeps};
+ghost use Rattle.template_eval.specs.Kept.{Keeps, Follows};
 ghost use Rattle.template_eval.specs.Steps.{Adds};
 ghost use Rattle.template_eval.specs.Views.{place_of, places_in, pair_of};
 
@@ -108,6 +108,7 @@ pub fn push_children(
     path: &Walk,
     out: &mut Vec<u8>,
 ) -> Result<(), RenderError>
+    requires { Follows inputs.now.content.now places }
     ensures ok { OnOk result
         (Adds (joined separator.now
         (map (pair_of inputs.now joiner.now path.now) (places_in inputs.now places.entry)))

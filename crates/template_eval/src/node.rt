@@ -16,7 +16,7 @@ pub enum Atom<'a> {
 }
 
 /// What is at a place: nothing, a scalar, the items of a list, or the children of a map.
-#[derive(Clone, Copy, Drop)]
+#[derive(Drop)]
 pub enum Node<'a> {
     Missing,
     Atom(Atom<'a>),

@@ -8,7 +8,7 @@ ghost use Rattle.std.specs.Option.{option_copied};
 ghost use Rattle.std.specs.Str.{bytes_eq};
 ghost use Rattle.template_eval.specs.Children.{children_below};
 ghost use Rattle.settings_tree.specs.Content.{Contents};
-ghost use Rattle.template_eval.specs.Kept.{Keeps};
+ghost use Rattle.template_eval.specs.Kept.{Keeps, NodeFollows};
 ghost use Rattle.template_eval.specs.Views.{place_of, node_of};
 
 use crate::below::segment_at;
@@ -20,7 +20,8 @@ use key_names::Key;
 use settings_tree::{Item, LiveView, Os, OsName, Scalar};
 
 fn item_node(item: &Item) -> Node<'_>
-    ensures { (content : Contents) → node_of content result ≡ nodes.scalar item.now }
+    ensures node { (content : Contents) → node_of content result ≡ nodes.scalar item.now }
+    ensures follows { (content : Contents) → NodeFollows content result }
 {
     match item {
         Item::Bool(b) => Node::Atom(Atom::Bool(*b)),
@@ -30,7 +31,8 @@ fn item_node(item: &Item) -> Node<'_>
 }
 
 fn scalar_node(scalar: &Scalar) -> Node<'_>
-    ensures { (content : Contents) → node_of content result ≡ scalar_node scalar.now }
+    ensures node { (content : Contents) → node_of content result ≡ scalar_node scalar.now }
+    ensures follows { (content : Contents) → NodeFollows content result }
 {
     match scalar {
         Scalar::Bool(b) => Node::Atom(Atom::Bool(*b)),
@@ -43,8 +45,9 @@ fn scalar_node(scalar: &Scalar) -> Node<'_>
 // What is at a key of the values, by one look-up.
 fn value_node<'a>(content: &'a LiveView<'_>, key: &'a Key) -> Node<'a>
     requires { is_prefix os_path key.now ≡ false }
-    ensures { node_of content.now result
+    ensures node { node_of content.now result
         ≡ value_node (get content.now.values key.now) (children_below content.now.values key.now) }
+    ensures follows { NodeFollows content.now result }
 {
     match content.next_below(key, None) {
         None => Node::Missing,
@@ -55,6 +58,7 @@ fn value_node<'a>(content: &'a LiveView<'_>, key: &'a Key) -> Node<'a>
                 Node::Children(Places::Children(Children {
                     parent: key,
                     after: key,
+                    ahead: content.entries_after(key),
                 }))
             }
         }
@@ -72,7 +76,8 @@ fn find_name<'a>(os: &'a Os, name: &[u8]) -> Option<&'a OsName>
 
 // The text of a name of the operating system.
 fn named<'a>(os: &'a Os, name: &[u8]) -> Node<'a>
-    ensures { (content : Contents) → node_of content result ≡ os_node os.now (name.now ∷ []) }
+    ensures node { (content : Contents) → node_of content result ≡ os_node os.now (name.now ∷ []) }
+    ensures follows { (content : Contents) → NodeFollows content result }
 {
     match find_name(os, name) {
         Some(found) => Node::Atom(Atom::Text(&found.text)),
@@ -82,7 +87,8 @@ fn named<'a>(os: &'a Os, name: &[u8]) -> Node<'a>
 
 // What is at a key that begins with `os`.
 fn os_node<'a>(os: &'a Os, key: &Key) -> Node<'a>
-    ensures { (content : Contents) → node_of content result ≡ os_node os.now (drop 1 key.now) }
+    ensures node { (content : Contents) → node_of content result ≡ os_node os.now (drop 1 key.now) }
+    ensures follows { (content : Contents) → NodeFollows content result }
 {
     match key.len() {
         1 => Node::Children(Places::System(os.names())),
@@ -101,7 +107,8 @@ fn begins_with_os(key: &Key) -> bool
 }
 
 fn tree_node<'a>(content: &'a LiveView<'_>, os: &'a Os, key: &'a Key) -> Node<'a>
-    ensures { node_of content.now result ≡ tree_node content.now os.now key.now }
+    ensures node { node_of content.now result ≡ tree_node content.now os.now key.now }
+    ensures follows { NodeFollows content.now result }
 {
     if begins_with_os(key) {
         os_node(os, key)
@@ -114,7 +121,8 @@ fn tree_node<'a>(content: &'a LiveView<'_>, os: &'a Os, key: &'a Key) -> Node<'a
 /// value, and takes no memory.
 pub fn node<'a>(content: &'a LiveView<'_>, os: &'a Os, place: &'a Place<'a>) -> Node<'a>
     requires { Keeps content.now place.now }
-    ensures { node_of content.now result ≡ nodes.node content.now os.now (place_of place.now) }
+    ensures node { node_of content.now result ≡ nodes.node content.now os.now (place_of place.now) }
+    ensures follows { NodeFollows content.now result }
 {
     match place {
         Place::Nowhere => Node::Missing,

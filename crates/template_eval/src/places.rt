@@ -5,7 +5,7 @@ ghost use Rattle.std.specs.FinMap.{get};
 ghost use Rattle.settings_tree.specs.Content.{Contents};
 ghost use Rattle.template_eval.specs.Children.{child};
 ghost use Rattle.template_eval.specs.Node.{os_path};
-ghost use Rattle.template_eval.specs.Kept.{Keeps};
+ghost use Rattle.template_eval.specs.Kept.{Keeps, IsAhead, Follows};
 ghost use Rattle.template_eval.specs.Views.{place_of, places_of, children_of};
 
 use crate::below::next_child;
@@ -17,7 +17,7 @@ use settings_tree::{Item, LiveView, OsName, Scalar};
 use std::alloc::AllocError;
 
 /// The places of items or children that are still to come.
-#[derive(Clone, Copy, Drop)]
+#[derive(Drop)]
 pub enum Places<'a> {
     Items(&'a [Item]),
     System(&'a [OsName]),
@@ -53,18 +53,23 @@ fn split_children<'a>(
     content: &'a LiveView<'_>,
     children: Children<'a>,
 ) -> Result<Option<Split<'a>>, AllocError>
+    requires { IsAhead content.now children.after.now children.ahead }
     ensures parts { IfOk result (λ o. MatchOption o (children_of content.now children.entry ≡ [])
         (λ s. children_of content.now children.entry
         ≡ place_of s.first ∷ places_of content.now s.rest)) }
     ensures kept { IfOk result (λ o. IfSome o (λ s. Keeps content.now s.first)) }
+    ensures follows { IfOk result (λ o. IfSome o (λ s. Follows content.now s.rest)) }
 {
-    let Some((key, scalar)) = next_child(content, children.parent, children.after) else {
+    let mut ahead = children.ahead;
+    let Some((key, scalar)) = next_child(content, children.parent, children.after, &mut ahead)
+    else {
         return Ok(None);
     };
     let first = child_at(children.parent, key, scalar)?;
     let rest = Children {
         parent: children.parent,
         after: key,
+        ahead,
     };
     Ok(Some(Split {
         first,
@@ -78,6 +83,7 @@ fn split_items<'a>(items: &'a [Item]) -> Option<Split<'a>>
         (λ s. places_of content (Places.Items items.entry)
         ≡ place_of s.first ∷ places_of content s.rest) }
     ensures kept { (content : Contents) → IfSome result (λ s. Keeps content s.first) }
+    ensures follows { (content : Contents) → IfSome result (λ s. Follows content s.rest) }
 {
     let (first, rest) = items.split_first()?;
     Some(Split {
@@ -92,6 +98,7 @@ fn split_names<'a>(names: &'a [OsName]) -> Option<Split<'a>>
         (λ s. places_of content (Places.System names.entry)
         ≡ place_of s.first ∷ places_of content s.rest) }
     ensures kept { (content : Contents) → IfSome result (λ s. Keeps content s.first) }
+    ensures follows { (content : Contents) → IfSome result (λ s. Follows content s.rest) }
 {
     let (first, rest) = names.split_first()?;
     Some(Split {
@@ -102,13 +109,15 @@ fn split_names<'a>(names: &'a [OsName]) -> Option<Split<'a>>
 
 impl<'a> Places<'a> {
     /// The first place and those after it, None exactly where there is none. It is constant for
-    /// items and names, and takes a logarithmic step for each value that it passes. The only error
-    /// is out of memory.
+    /// items and names, and takes a step for each value that it passes, a constant one where the
+    /// entries ahead are kept and else a logarithmic one. The only error is out of memory.
     pub fn split_first(self, content: &'a LiveView<'_>) -> Result<Option<Split<'a>>, AllocError>
+        requires { Follows content.now self }
         ensures parts { IfOk result (λ o. MatchOption o (places_of content.now self.entry ≡ [])
             (λ s. places_of content.now self.entry
             ≡ place_of s.first ∷ places_of content.now s.rest)) }
         ensures kept { IfOk result (λ o. IfSome o (λ s. Keeps content.now s.first)) }
+        ensures follows { IfOk result (λ o. IfSome o (λ s. Follows content.now s.rest)) }
     {
         match self {
             Places::Items(items) => Ok(split_items(items)),
@@ -118,14 +127,14 @@ impl<'a> Places<'a> {
     }
 
     /// Whether there is none. It takes no memory.
-    pub fn is_empty(self, content: &LiveView<'_>) -> bool
-        ensures { result ≡ (length (places_of content.now self.entry) == 0) }
+    pub fn is_empty(&'a self, content: &'a LiveView<'_>) -> bool
+        ensures { result ≡ (length (places_of content.now self.now) == 0) }
     {
         match self {
             Places::Items(items) => items.is_empty(),
             Places::System(names) => names.is_empty(),
             Places::Children(children) => {
-                next_child(content, children.parent, children.after).is_none()
+                next_child(content, children.parent, children.after, &mut None).is_none()
             }
         }
     }

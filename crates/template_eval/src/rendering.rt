@@ -9,7 +9,7 @@ ghost use Rattle.template_eval.specs.Rendered.{Rendered};
 ghost use Rattle.template_eval.specs.Render.{render, is_first, each_of, each_text};
 ghost use Rattle.template_eval.specs.Node.{is_true};
 ghost use Rattle.template_eval.specs.Lies.{Lies, LiesOne};
-ghost use Rattle.template_eval.specs.Kept.{Keeps, KeepsHere};
+ghost use Rattle.template_eval.specs.Kept.{Keeps, KeepsHere, Follows, NodeFollows};
 ghost use Rattle.template_eval.specs.Steps.{Adds};
 ghost use Rattle.template_eval.specs.Views.{node_of, place_of, places_of, places_in, seen};
 ghost use Rattle.template_eval.specs.Views.{found, rendering, rendering_one, each_rendering, places_rendering, firsts_rendering};
@@ -45,6 +45,7 @@ fn is_first(
 
 // The items of a list or the children of a map, of which an each needs one.
 fn listed<'a>(alloc: Global, node: Found<'a>, path: &Walk) -> Result<Places<'a>, RenderError>
+    ensures follows { (content : Contents) → NodeFollows content node.entry → IfOk result (Follows content) }
     ensures ok { (content : Contents) (first : spots.Here → Rendered) (other : Rendered) → IfOk result
         (λ places. each_text (path_text path.now) first other (node_of content node.entry)
         ≡ each_of first other (places_of content places)) }
@@ -153,6 +154,7 @@ fn push_places(
     here: Option<&Here<'_>>,
     out: &mut Vec<u8>,
 ) -> Result<(), RenderError>
+    requires follows { Follows inputs.now.content.now places }
     requires first { Lies (length inputs.now.source.now) (tree_in first.now) }
     requires other { Lies (length inputs.now.source.now) (tree_in other.now) }
     requires here { KeepsHere inputs.now.content.now here }
@@ -200,7 +202,8 @@ fn push_firsts(
     first: &Nodes,
     out: &mut Vec<u8>,
 ) -> Result<(), RenderError>
-    requires { Lies (length inputs.now.source.now) (tree_in first.now) }
+    requires lies { Lies (length inputs.now.source.now) (tree_in first.now) }
+    requires follows { Follows inputs.now.content.now places }
     ensures ok { OnOk result
         (Adds (firsts_rendering inputs.now (places_in inputs.now places.entry) (tree_in first.now))
         out.old.items out.new.items) }

@@ -1,7 +1,8 @@
 -- The key at which a map breaks the prefix rule, and the walk that finds it.
-use Rattle.std.proofs.Common.{◌≡◌, ◌&&◌, ◌||◌, ◌<◌, ℕ, List, [], ◌∷◌, length, Option, Some, None}
+use Rattle.std.proofs.Common.{◌≡◌, ◌&&◌, ◌||◌, ℕ, List, [], ◌∷◌, Option, Some, None}
 use Rattle.std.proofs.Common.{Bool, true, false, cond, not, map, IsTrue, is_some, refl, sym, ◌∙◌, ap}
 use Rattle.std.specs.List.{find, list_any}
+use Rattle.std.specs.Option.{option_map_or}
 use Rattle.std.specs.Ordering.{eq_by_cmp, is_eq}
 use Rattle.std.specs.Cmp.{eq_by_cmp_equiv}
 use Rattle.std.specs.FinMap.{FinMap, keys, remove}
@@ -13,7 +14,7 @@ use Rattle.settings_maps.proofs.NestedMaps.{tied_by}
 use Rattle.settings_tree.specs.Rule.{IsPrefixFree, HasNoLonger}
 use Rattle.settings_tree.specs.Walks.{entries_past}
 use Rattle.settings_tree.proofs.PrefixRule.{longer_none, longer_some, take_free}
-use Rattle.settings_tree.proofs.Walks.{walk_start, walk_next, walk_end, walk_falls}
+use Rattle.settings_tree.proofs.Walks.{walk_start, walk_next, walk_end}
 use Rattle.migrate_helpers.specs.Entries.{removed}
 use Rattle.migrate_helpers.specs.Conflict.{conflict, has_longer, is_proper_prefix}
 use Rattle.migrate_helpers.specs.Laws.Standing.{stands_any, stands_none, fails_at}
@@ -36,46 +37,55 @@ module _ {X : Type 0} (m : FinMap key_cmp X) where
       (λ q has. not_proper k q (is_prefix k q) refl (λ begins. alone.alone q has begins))
 
   -- The next key tells whether a key is a proper prefix of another.
-  pub next_longer : (k n : List (List ℕ)) (x : X) (b : Bool) → IsLeastAfter m (Some k) n x → b ≡ is_prefix k n → b ≡ has_longer m k
+  next_longer : (k n : List (List ℕ)) (x : X) (b : Bool) → IsLeastAfter m (Some k) n x → b ≡ is_prefix k n → b ≡ has_longer m k
   next_longer k n x true next is =
       sym (stands_any key_total key_cmp-IsAntisymmetric m (is_proper_prefix k) n (ap is_some next.stands)
       (and_from _ _ (sym is) (ap (λ r. not (is_eq r)) next.past)))
   next_longer k n x false next is = sym (none_longer k (longer_some m k n x next (sym is)))
 
   -- The last key is no proper prefix of another.
-  pub last_longer : (k : List (List ℕ)) → HasNoneAfter m (Some k) → false ≡ has_longer m k
+  last_longer : (k : List (List ℕ)) → HasNoneAfter m (Some k) → false ≡ has_longer m k
   last_longer k none = sym (none_longer k (longer_none m k none))
 
   -- The first of the keys past the given one that is a proper prefix of another.
   abbrev pub conflict_past : Option (List (List ℕ)) → Option (List (List ℕ))
   conflict_past after = find (has_longer m) (map (λ e. e.0) (entries_past m after))
 
-  pub conflict_start : conflict_past None ≡ conflict m
+  -- The first of the keys from the given one on that is a proper prefix of another.
+  abbrev pub conflict_from : Option (List (List ℕ)) → Option (List (List ℕ))
+  conflict_from None = conflict_past None
+  conflict_from (Some k) = cond (has_longer m k) (Some k) (conflict_past (Some k))
+
+  pub conflict_start : conflict_from None ≡ conflict m
   conflict_start = ap (λ (es : List (List (List ℕ) × X)). find (has_longer m) (map (λ e. e.0) es)) (walk_start key_total key_cmp-IsAntisymmetric m)
 
-  at_next : (after : Option (List (List ℕ))) (k : List (List ℕ)) (x : X) → IsLeastAfter m after k x
-      → conflict_past after ≡ cond (has_longer m k) (Some k) (conflict_past (Some k))
+  at_next : (after : Option (List (List ℕ))) (k : List (List ℕ)) (x : X) → IsLeastAfter m after k x → conflict_past after ≡ conflict_from (Some k)
   at_next after k x next = ap (λ (es : List (List (List ℕ) × X)). find (has_longer m) (map (λ e. e.0) es))
       (walk_next key_total key_cmp-IsAntisymmetric m after k x next)
 
-  -- A walk that finds a proper prefix has found the conflict.
-  pub conflict_found : (after : Option (List (List ℕ))) (k : List (List ℕ)) (x : X) → IsLeastAfter m after k x → conflict_past after ≡ conflict m
-      → has_longer m k ≡ true → Some k ≡ conflict m
-  conflict_found after k x next past longer = sym (cond-true _ _ _ longer) ∙ sym (at_next after k x next) ∙ past
+  -- A key with which the next one begins is the conflict.
+  pub conflict_found : (before : Option (List (List ℕ))) (k : List (List ℕ)) (x : X) → IsLeastAfter m before k x → conflict_from before ≡ conflict m
+      → option_map_or (λ b. is_prefix b k) before false ≡ true → before ≡ conflict m
+  conflict_found None k x next from begins = absurd (cc begins)
+  conflict_found (Some b) k x next from begins = sym (cond-true _ _ _ (sym (next_longer b k x true next (sym begins)))) ∙ from
 
-  -- A walk goes on past a key that is none.
-  pub conflict_later : (after : Option (List (List ℕ))) (k : List (List ℕ)) (x : X) → IsLeastAfter m after k x → conflict_past after ≡ conflict m
-      → has_longer m k ≡ false → conflict_past (Some k) ≡ conflict m
-  conflict_later after k x next past longer = sym (cond-false _ _ _ longer) ∙ sym (at_next after k x next) ∙ past
+  -- One with which it doesn't begin is none.
+  pub conflict_later : (before : Option (List (List ℕ))) (k : List (List ℕ)) (x : X) → IsLeastAfter m before k x → conflict_from before ≡ conflict m
+      → option_map_or (λ b. is_prefix b k) before false ≡ false → conflict_from (Some k) ≡ conflict m
+  conflict_later None k x next from begins = sym (at_next None k x next) ∙ from
+  conflict_later (Some b) k x next from begins = sym (at_next (Some b) k x next) ∙ sym (cond-false _ _ _ (sym (next_longer b k x false next (sym begins))))
+      ∙ from
 
-  -- A walk that ends has found that there is none.
-  pub conflict_end : (after : Option (List (List ℕ))) → HasNoneAfter m after → conflict_past after ≡ conflict m → None ≡ conflict m
-  conflict_end after none past =
-      sym (ap (λ (es : List (List (List ℕ) × X)). find (has_longer m) (map (λ e. e.0) es)) (walk_end key_total key_cmp-IsAntisymmetric m after none)) ∙ past
+  -- Nor is the last one.
+  pub conflict_end : (before : Option (List (List ℕ))) → HasNoneAfter m before → conflict_from before ≡ conflict m → None ≡ conflict m
+  conflict_end before none from = sym (past before none) ∙ last before none ∙ from where
+    past : (before : Option (List (List ℕ))) → HasNoneAfter m before → conflict_past before ≡ None
+    past before none = ap (λ (es : List (List (List ℕ) × X)). find (has_longer m) (map (λ e. e.0) es))
+        (walk_end key_total key_cmp-IsAntisymmetric m before none)
 
-  pub conflict_falls : (after : Option (List (List ℕ))) (k : List (List ℕ)) (x : X) → IsLeastAfter m after k x
-      → length (entries_past m (Some k)) < length (entries_past m after)
-  conflict_falls after k x next = walk_falls key_total key_cmp-IsAntisymmetric m after k x next
+    last : (before : Option (List (List ℕ))) → HasNoneAfter m before → conflict_past before ≡ conflict_from before
+    last None none = refl
+    last (Some b) none = sym (cond-false _ _ _ (sym (last_longer b none)))
 
 none_found : (p : List (List ℕ) → Bool) (ks : List (List (List ℕ))) → find p ks ≡ None → list_any p ks ≡ false
 none_found p [] none = refl

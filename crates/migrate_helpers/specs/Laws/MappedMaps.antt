@@ -9,11 +9,8 @@ use Rattle.std.specs.FinMap.{FinMap, IsAntisymmetric, empty, entries, entries_so
 use Rattle.std.specs.FinMap.Entries.{below_all}
 use Rattle.std.proofs.lemmas.Bool.{and_parts, cond-false}
 use Rattle.key_names.specs.Order.{key_cmp, key_total, key_cmp-IsAntisymmetric}
-use Rattle.settings_maps.specs.Maps.{IsLeastAfter, HasNoneAfter}
 use Rattle.settings_maps.proofs.NestedMaps.{tied_by}
 use Rattle.settings_tree.specs.Rule.{IsPrefixFree}
-use Rattle.settings_tree.specs.Walks.{entries_past}
-use Rattle.settings_tree.proofs.Walks.{walk_start, walk_next, walk_end}
 use Rattle.migrate_helpers.specs.Entries.{mapped}
 
 less : (r : Ordering) → is_lt r ≡ true → r ≡ Less
@@ -75,20 +72,20 @@ module _ {K X Y : Type 0} {R : K → K → Ordering} (o : IsTotalOrder R) (same 
   get-mapped m q = get-with_mapped (entries m) empty q (in_order m) ∙ ap (option_or (option_map (f q) (find R q (entries m)))) (get-empty R q) ∙ or_none _
       ∙ ap (option_map (f q)) (sym (get-entries m q))
 
-  -- A walk begins with all entries to map.
-  pub mapped_start : (m : FinMap R X) (n : FinMap R Y) → n ≡ empty → with_mapped f n (entries_past m None) ≡ mapped f m
-  mapped_start m n none = ap (λ (w : FinMap R Y). with_mapped f w (entries_past m None)) none ∙ ap (with_mapped f empty) (walk_start o same m)
+module _ {K X Y : Type 0} {R : K → K → Ordering} (f : K → X → Y) where
+  -- At first all entries are to be mapped.
+  pub mapped_start : (m : FinMap R X) (left : List (K × X)) (n : FinMap R Y) → left ≡ entries m → n ≡ empty → with_mapped f n left ≡ mapped f m
+  mapped_start m left n all none = ap (λ (w : FinMap R Y). with_mapped f w left) none ∙ ap (with_mapped f empty) all
 
   -- Each step maps the next entry.
-  pub mapped_next : (m : FinMap R X) (after : Option K) (k : K) (x : X) (y : Y) (n now : FinMap R Y) → IsLeastAfter m after k x
-      → with_mapped f n (entries_past m after) ≡ mapped f m → now ≡ insert n k y → y ≡ f k x → with_mapped f now (entries_past m (Some k)) ≡ mapped f m
-  mapped_next m after k x y n now next left put is = ap (λ (w : FinMap R Y). with_mapped f w (entries_past m (Some k))) (put ∙ ap (insert n k) is)
-      ∙ sym (ap (with_mapped f n) (walk_next o same m after k x next)) ∙ left
+  pub mapped_next : (left rest : List (K × X)) (k : K) (x : X) (y : Y) (n now whole : FinMap R Y) → left ≡ (k, x) ∷ rest
+      → with_mapped f n left ≡ whole → now ≡ insert n k y → y ≡ f k x → with_mapped f now rest ≡ whole
+  mapped_next left rest k x y n now whole next made put is = ap (λ (w : FinMap R Y). with_mapped f w rest) (put ∙ ap (insert n k) is)
+      ∙ sym (ap (with_mapped f n) next) ∙ made
 
-  -- A walk that ends has mapped them all.
-  pub mapped_end : (m : FinMap R X) (after : Option K) (n : FinMap R Y) → HasNoneAfter m after → with_mapped f n (entries_past m after) ≡ mapped f m
-      → n ≡ mapped f m
-  mapped_end m after n none left = sym (ap (with_mapped f n) (walk_end o same m after none)) ∙ left
+  -- At the end all are mapped.
+  pub mapped_end : (left : List (K × X)) (n whole : FinMap R Y) → left ≡ [] → with_mapped f n left ≡ whole → n ≡ whole
+  mapped_end left n whole none made = sym (ap (with_mapped f n) none) ∙ made
 
 some_before : {X Y : Type 0} (f : X → Y) (z : Option X) → IsSome (option_map f z) → IsSome z
 some_before f None has = absurd (cc has)

@@ -3,15 +3,13 @@ use Rattle.std.proofs.Common.{◌≡◌, ℕ, List, [], ◌∷◌, Option, Some,
 use Rattle.std.specs.Option.{option_or}
 use Rattle.std.specs.Ordering.{eq_by_cmp}
 use Rattle.std.specs.FinMap.{FinMap, empty, entries, get, get-insert, get-remove, insert, remove}
-use Rattle.key_names.specs.Order.{bytes_cmp, bytes_total, bytes_cmp-IsAntisymmetric, key_cmp}
+use Rattle.key_names.specs.Order.{bytes_cmp, bytes_total, key_cmp}
 use Rattle.json_trees.specs.declared.pending.Pending.{Pending}
-use Rattle.settings_maps.specs.Maps.{IsLeastAfter, HasNoneAfter, IsFull, inner, is_empty, with_inner}
+use Rattle.settings_maps.specs.Maps.{IsFull, inner, is_empty, with_inner}
 use Rattle.settings_maps.proofs.NestedMaps.{inner-with_inner}
 use Rattle.settings_tree.specs.Pending.{IsPending}
 use Rattle.settings_tree.specs.Rule.{IsPrefixFree}
-use Rattle.settings_tree.specs.Walks.{entries_past}
 use Rattle.settings_tree.proofs.PendingMaps.{none_pending}
-use Rattle.settings_tree.proofs.Walks.{walk_start, walk_next, walk_end}
 use Rattle.migrate_helpers.specs.declared.map_error.MapError.{MapError}
 use Rattle.migrate_helpers.specs.Conflict.{conflict}
 use Rattle.migrate_helpers.specs.Mapped.{first_conflict, pending_edited, transactions_edited, unless_conflict}
@@ -71,40 +69,34 @@ edited_pending_rules step (e ∷ es) m pending none =
 pub transactions_rules : (step : Step) (p : Pendings) → first_conflict step (entries p) ≡ None → IsPending (transactions_edited step p)
 transactions_rules step p none = edited_pending_rules step (entries p) empty none_pending none
 
--- How far a walk over the transactions of p has come: m holds those edited so far, and none of them had a conflict.
-pub record Edited (step : Step) (p m : Pendings) (after : Option (List ℕ)) : Type 0 where
-  pub maps : with_edited step m (entries_past p after) ≡ transactions_edited step p
-  pub conflicts : first_conflict step (entries_past p after) ≡ first_conflict step (entries p)
+-- How far the transactions of p are edited: m holds those edited so far, none of which had a conflict, and the others are left.
+pub record Edited (step : Step) (p m : Pendings) (left : List (List ℕ × FinMap key_cmp Pending)) : Type 0 where
+  pub maps : with_edited step m left ≡ transactions_edited step p
+  pub conflicts : first_conflict step left ≡ first_conflict step (entries p)
   pub pending : IsPending m
 
 module _ (step : Step) (p : Pendings) where
-  pub edited_start : (m : Pendings) → m ≡ empty → Edited step p m None
-  edited_start m none = record {
-    maps = ap (λ (w : Pendings). with_edited step w (entries_past p None)) none
-        ∙ ap (with_edited step empty) (walk_start bytes_total bytes_cmp-IsAntisymmetric p);
-    conflicts = ap (first_conflict step) (walk_start bytes_total bytes_cmp-IsAntisymmetric p);
+  pub edited_start : (m : Pendings) (left : List (List ℕ × FinMap key_cmp Pending)) → m ≡ empty → left ≡ entries p → Edited step p m left
+  edited_start m left none all = record {
+    maps = ap (λ (w : Pendings). with_edited step w left) none ∙ ap (with_edited step empty) all;
+    conflicts = ap (first_conflict step) all;
     pending = subst IsPending (sym none) none_pending;
   }
 
-  module _ (m : Pendings) (after : Option (List ℕ)) (tx : List ℕ) (keys : FinMap key_cmp Pending) (next : IsLeastAfter p after tx keys)
-      (so_far : Edited step p m after) where
-    at : entries_past p after ≡ (tx, keys) ∷ entries_past p (Some tx)
-    at = walk_next bytes_total bytes_cmp-IsAntisymmetric p after tx keys next
-
-    conflicts_at : option_or (conflict (pending_edited step keys)) (first_conflict step (entries_past p (Some tx))) ≡ first_conflict step (entries p)
-    conflicts_at = sym (ap (first_conflict step) at) ∙ so_far.conflicts
+  module _ (m : Pendings) (left rest : List (List ℕ × FinMap key_cmp Pending)) (tx : List ℕ) (keys : FinMap key_cmp Pending) (next : left ≡ (tx, keys) ∷ rest)
+      (so_far : Edited step p m left) where
+    conflicts_at : option_or (conflict (pending_edited step keys)) (first_conflict step rest) ≡ first_conflict step (entries p)
+    conflicts_at = sym (ap (first_conflict step) next) ∙ so_far.conflicts
 
     -- The next transaction is edited and set.
     pub edited_next : (made : FinMap key_cmp Pending) (now : Pendings) → unless_conflict (conflict (pending_edited step keys)) (pending_edited step keys) ≡ Ok
         made
-        → now ≡ with_inner m tx made → Edited step p now (Some tx)
+        → now ≡ with_inner m tx made → Edited step p now rest
     edited_next made now fine set =
         let parts = allowed (conflict (pending_edited step keys)) (pending_edited step keys) made fine in
         record {
-          maps = ap (λ (w : Pendings). with_edited step w (entries_past p (Some tx))) (set ∙ ap (with_inner m tx) (sym parts.1))
-              ∙ sym (ap (with_edited step m) at)
-              ∙ so_far.maps;
-          conflicts = sym (ap (λ c. option_or c (first_conflict step (entries_past p (Some tx)))) parts.0) ∙ conflicts_at;
+          maps = ap (λ (w : Pendings). with_edited step w rest) (set ∙ ap (with_inner m tx) (sym parts.1)) ∙ sym (ap (with_edited step m) next) ∙ so_far.maps;
+          conflicts = sym (ap (λ c. option_or c (first_conflict step rest)) parts.0) ∙ conflicts_at;
           pending = subst IsPending (sym set) (set_keeps m tx made so_far.pending (free_allowed (pending_edited step keys) made fine));
         }
 
@@ -115,10 +107,9 @@ module _ (step : Step) (p : Pendings) where
         ∙ refused_first (conflict (pending_edited step keys)) _ (pending_edited step keys) (transactions_edited step p) e is
 
   -- All transactions are edited.
-  pub edited_end : (m made : Pendings) (after : Option (List ℕ)) → HasNoneAfter p after → Edited step p m after → made ≡ m
+  pub edited_end : (m made : Pendings) (left : List (List ℕ × FinMap key_cmp Pending)) → left ≡ [] → Edited step p m left → made ≡ m
       → unless_conflict (first_conflict step (entries p)) (transactions_edited step p) ≡ Ok made
-  edited_end m made after none so_far is =
-      let end : entries_past p after ≡ [] = walk_end bytes_total bytes_cmp-IsAntisymmetric p after none in
-      let fine : first_conflict step (entries p) ≡ None = sym so_far.conflicts ∙ ap (first_conflict step) end in
-      let same : m ≡ transactions_edited step p = sym (ap (with_edited step m) end) ∙ so_far.maps in
+  edited_end m made left none so_far is =
+      let fine : first_conflict step (entries p) ≡ None = sym so_far.conflicts ∙ ap (first_conflict step) none in
+      let same : m ≡ transactions_edited step p = sym (ap (with_edited step m) none) ∙ so_far.maps in
       ap (λ c. unless_conflict c (transactions_edited step p)) fine ∙ ap Ok (sym same ∙ sym is)

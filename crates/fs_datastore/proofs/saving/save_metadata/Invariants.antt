@@ -1,20 +1,12 @@
-use Rattle.std.proofs.Common.{◌≡◌, length, Ok}
-use Rattle.std.specs.Option.{option_copied}
-use Rattle.outside.specs.Told.{Moves}
+use Rattle.std.proofs.Common.{◌≡◌}
 use Rattle.outside.specs.declared.disk_error.DiskErr.{DiskErr}
-use Rattle.key_names.specs.Order.{key_cmp}
-use Rattle.settings_tree.specs.Walks.{entries_past}
-use Rattle.fs_datastore.specs.Saving.{all_metadata, SavesTo}
-use Rattle.fs_datastore.proofs.SavedWalks.{up_to, meta_key}
+use Rattle.fs_datastore.specs.Saving.{all_metadata}
+use Rattle.fs_datastore.proofs.SavedWalks.{SavedUpTo, names_entry}
 use Rattle.fs_datastore.proofs.saving.save_metadata.Given as goal
 
--- what is up to the last one is saved
+-- what is before this one is saved
 abbrev pub invariant-loop-key : goal.invariant-loop-key
 invariant-loop-key g l = record {
-  saved : Moves (g.D.Disk.told l.initial.disk) (g.D.Disk.told l.disk) (SavesTo {E = DiskErr} l.dir
-      (up_to key_cmp meta_key (option_copied l.after) (all_metadata l.metadata)) (Ok tt));
+  saved : SavedUpTo DiskErr l.dir l.metadata names_entry (all_metadata l.metadata) l.key-iterator (g.D.Disk.told l.initial.disk) (g.D.Disk.told l.disk);
   faults : g.D.Disk.faults l.disk ≡ g.D.Disk.faults l.initial.disk;
 }
-
-abbrev pub decreases-loop-key : goal.decreases-loop-key
-decreases-loop-key g l = length (entries_past l.metadata (option_copied l.after))

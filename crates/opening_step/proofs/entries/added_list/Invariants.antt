@@ -1,12 +1,10 @@
-use Rattle.std.proofs.Common.{length}
-use Rattle.std.specs.Option.{option_copied}
-use Rattle.settings_tree.specs.Walks.{entries_past}
+use Rattle.std.proofs.Common.{◌≡◌, ◌++◌}
+use Rattle.std.specs.List.{flat_map}
+use Rattle.std.specs.FinMap.{entries}
 use Rattle.opening_step.specs.Entries.{added_key}
-use Rattle.opening_step.proofs.WalkedLists.{Making}
 use Rattle.opening_step.proofs.entries.added_list.Given as goal
 
+-- what the entries that are left give is to be added
 abbrev pub invariant-loop-key : goal.invariant-loop-key
-invariant-loop-key l = Making (λ e. added_key l.live.values e.0) l.image.values l.initial.keys.items (option_copied l.after) l.keys.items
-
-abbrev pub decreases-loop-key : goal.decreases-loop-key
-decreases-loop-key l = length (entries_past l.image.values (option_copied l.after))
+invariant-loop-key l = l.keys.items ++ flat_map (λ e. added_key l.live.values e.0) l.key-iterator
+    ≡ flat_map (λ e. added_key l.live.values e.0) (entries l.image.values)

@@ -1,12 +1,10 @@
-use Rattle.std.proofs.Common.{length}
-use Rattle.std.specs.Option.{option_copied}
-use Rattle.settings_tree.specs.Walks.{entries_past}
+use Rattle.std.proofs.Common.{◌≡◌, ◌++◌}
+use Rattle.std.specs.List.{flat_map}
+use Rattle.std.specs.FinMap.{entries}
 use Rattle.opening_step.specs.Entries.{key_entries}
-use Rattle.opening_step.proofs.WalkedLists.{Making}
 use Rattle.opening_step.proofs.entries.set_metadata.Given as goal
 
+-- what the entries that are left give is to be added
 abbrev pub invariant-loop-key : goal.invariant-loop-key
-invariant-loop-key l = Making (key_entries l.live.metadata) l.image.metadata l.initial.entries.items (option_copied l.after) l.entries.items
-
-abbrev pub decreases-loop-key : goal.decreases-loop-key
-decreases-loop-key l = length (entries_past l.image.metadata (option_copied l.after))
+invariant-loop-key l = l.entries.items ++ flat_map (key_entries l.live.metadata) l.key-iterator
+    ≡ l.initial.entries.items ++ flat_map (key_entries l.live.metadata) (entries l.image.metadata)

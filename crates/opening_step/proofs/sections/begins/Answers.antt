@@ -1,6 +1,6 @@
 use Rattle.std.proofs.Common.{arith, ◌<◌, length, ap, ◌∙◌}
 use Rattle.std.specs.Str.{bytes_eq}
-use Rattle.opening_step.proofs.Begins.{begins_with}
+use Rattle.settings_tree.proofs.SettingKeys.{begins_with}
 use Rattle.opening_step.proofs.sections.begins.Goals as goal
 
 pub returns-then-len-gt0 : goal.returns-then-len-gt0

@@ -1,37 +1,20 @@
-use Rattle.std.proofs.Common.{arith, ap, subst, map, filter, length}
-use Rattle.std.specs.FinMap.{FinMap}
-use Rattle.std.specs.Option.{option_copied}
-use Rattle.key_names.specs.Order.{key_cmp, key_total, key_cmp-IsAntisymmetric}
-use Rattle.json_trees.specs.declared.pending.Pending.{Pending}
-use Rattle.settings_maps.specs.Maps.{HasNoneAfter}
-use Rattle.settings_tree.proofs.Walks.{walk_start, walk_end, listed_all}
+use Rattle.std.proofs.Common.{◌∙◌, ap, map, filter}
+use Rattle.std.specs.FinMap.{entries}
+use Rattle.settings_tree.proofs.Walks.{listed_all}
 use Rattle.settings_tree.specs.declared.entry.Entry.TheVariants.{PendSet}
 use Rattle.pending_tx.specs.Entries.{is_new}
-use Rattle.pending_tx.specs.Transactions.{last_of}
 use Rattle.pending_tx.proofs.Walked.{begun, added_more}
-use Rattle.pending_tx.proofs.Patches.{next_last}
 use Rattle.pending_tx.proofs.patching.patch_entries.Goals as goal
 
 pub loop-key-init : goal.loop-key-init
 loop-key-init c = begun _ c.new-entries.result.items _ c.new-entries.ensures.items
     (ap (λ l. map (λ e. PendSet c.args.tx.now e.0 e.1) (filter (λ e. is_new c.args.held.now c.args.tx.now e.0 e.1) l))
-    (walk_start key_total key_cmp-IsAntisymmetric (last_of c.args.pairs.now)))
-
-pub loop-key-smaller : goal.loop-key-smaller
-loop-key-smaller c = omega (
-  arith,
-  ap length (next_last c.args.pairs.now c.in_ok-last.last (option_copied c.loop-key.after) c.in-Some.key.now
-      c.in-Some.value.now c.in_ok-last.ensures c.in-Some.ensures.least),
-)
+    (c.into_iter-key-iterator.ensures.into_iter_gives ∙ c.iter-key-items.ensures ∙ ap entries c.in_ok-last.ensures))
 
 pub loop-key-preserved : goal.loop-key-preserved
-loop-key-preserved c = added_more (λ e. is_new c.args.held.now c.args.tx.now e.0 e.1) (λ e. PendSet c.args.tx.now e.0 e.1) _ c.loop-key.entries.items _ _ _
-    (c.in-Some.key.now, c.in-Some.value.now) c.loop-key.invariant
-    (next_last c.args.pairs.now c.in_ok-last.last (option_copied c.loop-key.after) c.in-Some.key.now c.in-Some.value.now c.in_ok-last.ensures
-    c.in-Some.ensures.least) c.in_ok-set_pending.ensures
+loop-key-preserved c = added_more (λ e. is_new c.args.held.now c.args.tx.now e.0 e.1) (λ e. PendSet c.args.tx.now e.0 e.1) _ c.loop-key.entries.items _ _
+    c.next.new.self (c.in-Some.key.now, c.in-Some.value.now) c.loop-key.invariant c.in-Some.ensures.steps c.in_ok-set_pending.ensures
 
 pub returns : goal.returns
 returns c = listed_all _ c.loop-key.entries.items _ c.loop-key.invariant
-    (ap (λ l. map (λ e. PendSet c.args.tx.now e.0 e.1) (filter (λ e. is_new c.args.held.now c.args.tx.now e.0 e.1) l))
-    (walk_end key_total key_cmp-IsAntisymmetric (last_of c.args.pairs.now) (option_copied c.loop-key.after)
-    (subst (λ (m : FinMap key_cmp Pending). HasNoneAfter m (option_copied c.loop-key.after)) c.in_ok-last.ensures c.in_default.ensures.none)))
+    (ap (λ l. map (λ e. PendSet c.args.tx.now e.0 e.1) (filter (λ e. is_new c.args.held.now c.args.tx.now e.0 e.1) l)) c.in-None.ensures.steps.0)

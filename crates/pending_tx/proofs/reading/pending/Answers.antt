@@ -1,32 +1,24 @@
-use Rattle.std.proofs.Common.{rules, ◌≡◌}
+use Rattle.std.proofs.Common.{◌≡◌, sym, ◌∙◌, ap}
 use Rattle.std.specs.FinMap.{entries}
-use Rattle.std.specs.Option.{option_copied}
-use Rattle.key_names.specs.Order.{key_total, key_cmp-IsAntisymmetric}
-use Rattle.settings_maps.specs.Maps.{inner}
+use Rattle.std.proofs.lemmas.Result.{IfOk-weaker}
 use Rattle.settings_tree.proofs.ApartKeys.{all_apart}
-use Rattle.settings_tree.proofs.Walks.{walk_start, walk_next, walk_end, walk_falls, listed_more, listed_all}
-use Rattle.pending_tx.proofs.Walked.{begun}
+use Rattle.pending_tx.specs.Transactions.{pending_of}
+use Rattle.pending_tx.proofs.Present.{has_values, has_none}
 use Rattle.pending_tx.proofs.reading.pending.Goals as goal
 
-pub loop-key-init : goal.loop-key-init
-loop-key-init c = begun _ c.new-pairs.result.items _ c.new-pairs.ensures.items
-    (walk_start key_total key_cmp-IsAntisymmetric (inner c.args.held.now.pending c.args.tx.now))
+pub returns-in-Some : goal.returns-in-Some
+returns-in-Some c =
+    let same : c.in-Some.values.now ≡ pending_of c.args.held.now c.args.tx.now = has_values c.args.held.now.pending c.args.tx.now c.in-Some.values.now
+    c.in-Some.ensures.keys in record {
+      pairs = IfOk-weaker c.pairs_of.result _ _ (λ pairs are. are ∙ ap entries same) c.pairs_of.ensures;
+      apart = IfOk-weaker c.pairs_of.result _ _ (λ pairs are. all_apart (pending_of c.args.held.now c.args.tx.now) (c.in-Some.ensures.valid.rule c.args.tx.now)
+          pairs.items (are ∙ ap entries same)) c.pairs_of.ensures;
+    }
 
-pub loop-key-smaller : goal.loop-key-smaller
-loop-key-smaller c = walk_falls key_total key_cmp-IsAntisymmetric (inner c.args.held.now.pending c.args.tx.now) (option_copied c.loop-key.after)
-    c.in-Some.key.now c.in-Some.value.now c.in-Some.ensures.least
-
-pub loop-key-preserved : goal.loop-key-preserved
-loop-key-preserved c = listed_more _ c.loop-key.pairs.items _ _ _ _ c.loop-key.invariant
-    (walk_next key_total key_cmp-IsAntisymmetric (inner c.args.held.now.pending c.args.tx.now) (option_copied c.loop-key.after) c.in-Some.key.now
-    c.in-Some.value.now c.in-Some.ensures.least) (search rules)
-
-all : (c : goal.In_default) → c.loop-key.pairs.items ≡ entries (inner c.args.held.now.pending c.args.tx.now)
-all c = listed_all _ c.loop-key.pairs.items _ c.loop-key.invariant (walk_end key_total key_cmp-IsAntisymmetric (inner c.args.held.now.pending c.args.tx.now)
-    (option_copied c.loop-key.after) c.in_default.ensures.none)
-
-pub returns-clause-pairs : goal.returns-clause-pairs
-returns-clause-pairs c = all c
-
-pub returns-clause-apart : goal.returns-clause-apart
-returns-clause-apart c = all_apart (inner c.args.held.now.pending c.args.tx.now) (c.in_default.ensures.valid.rule c.args.tx.now) c.loop-key.pairs.items (all c)
+pub returns-in-None : goal.returns-in-None
+returns-in-None c =
+    let none : c.new.result.items ≡ entries (pending_of c.args.held.now c.args.tx.now) = c.new.ensures.items
+    ∙ sym (has_none c.args.held.now.pending c.args.tx.now c.in-None.ensures.keys) in record {
+      pairs = none;
+      apart = all_apart (pending_of c.args.held.now c.args.tx.now) (c.in-None.ensures.valid.rule c.args.tx.now) c.new.result.items none;
+    }

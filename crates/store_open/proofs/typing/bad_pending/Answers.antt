@@ -1,8 +1,7 @@
-use Rattle.std.proofs.Common.{subst}
+use Rattle.std.proofs.Common.{arith, length, ap, subst}
 use Rattle.std.specs.Prelude.{IfSome, IfNone}
 use Rattle.std.specs.Option.{option_copied}
-use Rattle.key_names.specs.Order.{bytes_total, bytes_cmp-IsAntisymmetric}
-use Rattle.fs_datastore.proofs.SavedWalks.{key_falls}
+use Rattle.pending_tx.proofs.Walked.{inner_next}
 use Rattle.store_open.specs.Typed.{HasTypedPendingOf, IsFirstBadPendingOf}
 use Rattle.store_open.proofs.Typings.{tx_none, tx_next, tx_all, tx_bad}
 use Rattle.store_open.proofs.typing.bad_pending.Goals as goal
@@ -11,8 +10,7 @@ pub loop-tx-init : goal.loop-tx-init
 loop-tx-init c = tx_none c.args.types.now c.args.held.now
 
 pub loop-tx-smaller : goal.loop-tx-smaller
-loop-tx-smaller c = key_falls bytes_total bytes_cmp-IsAntisymmetric c.args.held.now.pending (option_copied c.loop-tx.after) c.in-Some.tx.now
-    c.in-Some.ensures.least
+loop-tx-smaller c = omega (arith, ap length (inner_next c.args.held.now.pending (option_copied c.loop-tx.after) c.in-Some.tx.now c.in-Some.ensures.least))
 
 pub loop-tx-preserved : goal.loop-tx-preserved
 loop-tx-preserved c = tx_next c.args.types.now c.args.held.now (option_copied c.loop-tx.after) c.in-Some.tx.now c.in-Some.ensures.least c.loop-tx.invariant

@@ -1,27 +1,23 @@
-use Rattle.std.specs.Option.{option_copied}
-use Rattle.key_names.specs.Order.{key_total, key_cmp-IsAntisymmetric}
-use Rattle.settings_maps.specs.Maps.{inner}
-use Rattle.settings_tree.proofs.Walks.{walk_falls}
-use Rattle.store_open.proofs.Typings.{pending_none, pending_next, pending_all, pending_bad}
+use Rattle.std.proofs.Common.{sym, ◌∙◌, ap}
+use Rattle.std.specs.FinMap.{entries}
+use Rattle.store_open.proofs.Typings.{absent, values_of, pending_first, pending_next, pending_all, pending_bad}
 use Rattle.store_open.proofs.typing.bad_pending_of.Goals as goal
 
-pub loop-key-init : goal.loop-key-init
-loop-key-init c = pending_none c.args.types.now c.args.held.now c.args.tx.now
+pub returns-in_default-clause-none : goal.returns-in_default-clause-none
+returns-in_default-clause-none c = absent c.args.types.now c.args.held.now c.args.tx.now (sym c.in_default.ensures.keys)
 
-pub loop-key-smaller : goal.loop-key-smaller
-loop-key-smaller c = walk_falls key_total key_cmp-IsAntisymmetric (inner c.args.held.now.pending c.args.tx.now)
-    (option_copied c.loop-key.after) c.in-Some.key.now c.in-Some.value.now c.in-Some.ensures.least
+pub loop-key-init : goal.loop-key-init
+loop-key-init c = pending_first c.args.types.now c.args.held.now c.args.tx.now _
+    (c.into_iter-key-iterator.ensures.into_iter_gives ∙ c.iter-key-items.ensures
+    ∙ ap entries (values_of c.args.types.now c.args.held.now c.args.tx.now c.in-Some.values.now c.in-Some.ensures.keys))
 
 pub loop-key-preserved : goal.loop-key-preserved
-loop-key-preserved c = pending_next c.args.types.now c.args.held.now c.args.tx.now
-    (option_copied c.loop-key.after) c.in-Some.key.now c.in-Some.value.now c.in-Some.ensures.least c.loop-key.invariant
-    (c.in_ok-may_pend.ensures.0 c.if-not-branch.false)
+loop-key-preserved c = pending_next c.args.types.now c.args.held.now c.args.tx.now _ c.next.new.self c.in-Some-2.key.now c.in-Some-2.value.now
+    c.in-Some-2.ensures.steps c.loop-key.invariant (c.in_ok-may_pend.ensures.0 c.if-not-branch.false)
 
 pub returns-then-not-branch-clause-found : goal.returns-then-not-branch-clause-found
-returns-then-not-branch-clause-found c =
-    pending_bad c.args.types.now c.args.held.now c.args.tx.now (option_copied c.loop-key.after)
-    c.in-Some.key.now c.in-Some.value.now c.in-Some.ensures.least c.loop-key.invariant (λ may. cc (c.in_ok-may_pend.ensures.1 may, c.if-not-branch.true))
+returns-then-not-branch-clause-found c = pending_bad c.args.types.now c.args.held.now c.args.tx.now _ c.next.new.self c.in-Some-2.key.now
+    c.in-Some-2.value.now c.in-Some-2.ensures.steps c.loop-key.invariant (λ may. cc (c.in_ok-may_pend.ensures.1 may, c.if-not-branch.true))
 
 pub returns-clause-none : goal.returns-clause-none
-returns-clause-none c = pending_all c.args.types.now c.args.held.now c.args.tx.now (option_copied c.loop-key.after) c.in_default.ensures.none
-    c.loop-key.invariant
+returns-clause-none c = pending_all c.args.types.now c.args.held.now c.args.tx.now _ c.in-None.ensures.steps.0 c.loop-key.invariant

@@ -1,4 +1,5 @@
 use Rattle.std.proofs.Common.{◌≡◌, ◌≢◌, ◌+◌, refl, ap, subst, sym, ◌∙◌, drop, Some, Err, OnOk, IfErr, rules}
+use Rattle.std.specs.Prelude.{IfSome}
 use Rattle.std.proofs.lemmas.Result.{IfErr-weaker, err_from_is_err_and}
 use Rattle.template_reader.specs.Tree.{Tree, Branch}
 use Rattle.template_reader.specs.Forest.{tree_in, tree_of, branch_of}
@@ -6,6 +7,7 @@ use Rattle.template_reader.specs.declared.node.Node.{Node}
 use Rattle.template_eval.specs.declared.render_error.RenderError.TheVariants.{Memory}
 use Rattle.template_eval.specs.Place.{Here}
 use Rattle.template_eval.specs.Rendered.{Rendered}
+use Rattle.template_eval.specs.Kept.{Follows}
 use Rattle.template_eval.specs.Steps.{Adds, Going}
 use Rattle.template_eval.specs.Views.{place_of, places_of, seen, rendering, rendering_one, firsts_rendering}
 use Rattle.template_eval.proofs.Additions.{going_more, going_fails, going_done}
@@ -29,11 +31,14 @@ pub push_firsts-loop-split-preserved : goal.push_firsts-loop-split-preserved
 push_firsts-loop-split-preserved t c =
     let inputs = c.args.inputs.now in
     let once : Here → Rendered = λ h. rendering inputs (tree_in c.args.first.now) (Some h) in
-    firsts_next inputs.content.now (firsts_rendering inputs (places_of inputs.content.now c.args.places) (tree_in c.args.first.now)) once
-    (once (record { this = place_of c.in-Some.split.first; index = c.loop-split.index }))
-    (places_of inputs.content.now c.loop-split.rest) c.in_ok-split.field-0 c.in-Some.split c.loop-split.index c.in_ok-index.index c.args.out.now.items
-    c.loop-split.out.items c.push_first.new.out.items
-    c.in_ok-split.ensures.parts c.in-Some.is (search rules) refl c.loop-split.invariant c.in_ok-push_first.ensures.ok
+    record {
+      so_far = firsts_next inputs.content.now (firsts_rendering inputs (places_of inputs.content.now c.args.places) (tree_in c.args.first.now)) once
+          (once (record { this = place_of c.in-Some.split.first; index = c.loop-split.index }))
+          (places_of inputs.content.now c.loop-split.rest) c.in_ok-split.field-0 c.in-Some.split c.loop-split.index c.in_ok-index.index c.args.out.now.items
+          c.loop-split.out.items c.push_first.new.out.items
+          c.in_ok-split.ensures.parts c.in-Some.is (search rules) refl c.loop-split.invariant.so_far c.in_ok-push_first.ensures.ok;
+      follows = subst (λ o. IfSome o (λ s. Follows inputs.content.now s.rest)) c.in-Some.is c.in_ok-split.ensures.follows;
+    }
 
 pub push_node-returns-in-Each-clause-ok : goal.push_node-returns-in-Each-clause-ok
 push_node-returns-in-Each-clause-ok t c =
@@ -47,6 +52,15 @@ push_node-returns-in-Each-clause-ok t c =
 pub push_each-node-requires : goal.push_each-node-requires
 push_each-node-requires t c = c.in_ok-place.ensures.kept c.args.inputs.now.content.now c.requires.here
 
+pub push_each-push_places-requires : goal.push_each-push_places-requires
+push_each-push_places-requires t c = (
+  search rules,
+  (c.in_ok-places.ensures.follows c.args.inputs.now.content.now c.node.ensures.follows, (c.requires.first, (c.requires.other, c.requires.here))),
+)
+
+pub push_firsts-split_first-requires : goal.push_firsts-split_first-requires
+push_firsts-split_first-requires t c = c.loop-split.invariant.follows
+
 pub push_each-returns-in_err-places-clause-err : goal.push_each-returns-in_err-places-clause-err
 push_each-returns-in_err-places-clause-err t c =
     let x = err_from_is_err_and c.from_residual-in_err-places.result c.from_residual-in_err-places.ensures.1 in
@@ -54,7 +68,7 @@ push_each-returns-in_err-places-clause-err t c =
     let here = seen c.args.here in
     let first = tree_in c.args.first.now in
     let other = tree_in c.args.other.now in
-    rw (x.1, x.2) (λ k. each_is inputs c.args.path.now first other here _ _ _ c.node.ensures c.in_ok-place.ensures.leads
+    rw (x.1, x.2) (λ k. each_is inputs c.args.path.now first other here _ _ _ c.node.ensures.node c.in_ok-place.ensures.leads
     (c.in_err-places.ensures.err inputs.content.now (λ h. rendering inputs first (Some h)) (rendering inputs other here) k))
 
 pub push_each-returns-clause-ok : goal.push_each-returns-clause-ok
@@ -64,7 +78,7 @@ push_each-returns-clause-ok t c =
     let first = tree_in c.args.first.now in
     let other = tree_in c.args.other.now in
     let P : Rendered → Type 0 = λ r. OnOk c.push_places.result (Adds r c.args.out.now.items c.push_places.new.out.items) in
-    subst P (sym (each_is inputs c.args.path.now first other here _ _ _ c.node.ensures c.in_ok-place.ensures.leads
+    subst P (sym (each_is inputs c.args.path.now first other here _ _ _ c.node.ensures.node c.in_ok-place.ensures.leads
     (c.in_ok-places.ensures.ok inputs.content.now (λ h. rendering inputs first (Some h)) (rendering inputs other here)))) c.push_places.ensures.ok
 
 pub push_each-returns-clause-err : goal.push_each-returns-clause-err
@@ -73,7 +87,7 @@ push_each-returns-clause-err t c =
     let here = seen c.args.here in
     let first = tree_in c.args.first.now in
     let other = tree_in c.args.other.now in
-    IfErr-weaker c.push_places.result _ _ (λ e h k. each_is inputs c.args.path.now first other here _ _ _ c.node.ensures c.in_ok-place.ensures.leads
+    IfErr-weaker c.push_places.result _ _ (λ e h k. each_is inputs c.args.path.now first other here _ _ _ c.node.ensures.node c.in_ok-place.ensures.leads
     (c.in_ok-places.ensures.ok inputs.content.now (λ h. rendering inputs first (Some h)) (rendering inputs other here)) ∙ h k) c.push_places.ensures.err
 
 pub push_nodes-loop-node-preserved : goal.push_nodes-loop-node-preserved
@@ -116,11 +130,11 @@ push_firsts-returns-in_err-push_first-clause-err t c =
     let once : Here → Rendered = λ h. rendering inputs (tree_in c.args.first.now) (Some h) in
     rw (x.1, x.2) (λ k. firsts_fails inputs.content.now _ once _ (places_of inputs.content.now c.loop-split.rest) c.in_ok-split.field-0 c.in-Some.split
     c.loop-split.index c.args.out.now.items c.loop-split.out.items _
-    c.in_ok-split.ensures.parts c.in-Some.is refl c.loop-split.invariant (c.in_err-push_first.ensures.err k))
+    c.in_ok-split.ensures.parts c.in-Some.is refl c.loop-split.invariant.so_far (c.in_err-push_first.ensures.err k))
 
 pub push_firsts-returns-clause-ok : goal.push_firsts-returns-clause-ok
 push_firsts-returns-clause-ok t c =
     let inputs = c.args.inputs.now in
     let once : Here → Rendered = λ h. rendering inputs (tree_in c.args.first.now) (Some h) in
     firsts_done inputs.content.now _ once (places_of inputs.content.now c.loop-split.rest) c.in_ok-split.field-0 c.loop-split.index c.args.out.now.items
-    c.loop-split.out.items c.in_ok-split.ensures.parts c.in_default.is c.loop-split.invariant
+    c.loop-split.out.items c.in_ok-split.ensures.parts c.in_default.is c.loop-split.invariant.so_far

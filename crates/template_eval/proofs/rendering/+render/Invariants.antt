@@ -3,6 +3,7 @@ use Rattle.template_reader.specs.Forest.{tree_of, tree_in, branch_of}
 use Rattle.template_eval.specs.Place.{Here}
 use Rattle.template_eval.specs.Render.{for_each}
 use Rattle.template_eval.specs.Lies.{size, size_one}
+use Rattle.template_eval.specs.Kept.{Follows}
 use Rattle.template_eval.specs.Steps.{Going}
 use Rattle.template_eval.specs.Views.{places_of, seen, rendering}
 use Rattle.template_eval.proofs.Trees.{Left}
@@ -36,8 +37,11 @@ invariant-push_nodes-loop-node l = record {
 abbrev pub invariant-push_firsts-loop-split : goal.invariant-push_firsts-loop-split
 invariant-push_firsts-loop-split l =
     let once : Here → _ = λ h. rendering l.inputs (tree_in l.first) (Some h) in
-    Going (for_each once 0 (places_of l.inputs.content.now l.places)) (for_each once l.index (places_of l.inputs.content.now l.rest)) l.initial.out.items
-    l.out.items
+    record {
+      so_far : Going (for_each once 0 (places_of l.inputs.content.now l.fn.places)) (for_each once l.index (places_of l.inputs.content.now l.rest))
+          l.initial.out.items l.out.items;
+      follows : Follows l.inputs.content.now l.rest;
+    }
 
 abbrev pub decreases-push_firsts-loop-split : goal.decreases-push_firsts-loop-split
 decreases-push_firsts-loop-split l = length (places_of l.inputs.content.now l.rest)

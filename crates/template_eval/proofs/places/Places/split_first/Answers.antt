@@ -15,3 +15,9 @@ returns-in-System-clause-parts c =
     let content = c.args.content.now in
     let P : Places → Type 0 = λ s. Parts content (places_of content s) c.split_names.result in
     subst P (sym c.in-System.is) (c.split_names.ensures.parts content)
+
+pub returns-in-Items-clause-follows : goal.returns-in-Items-clause-follows
+returns-in-Items-clause-follows c = c.split_items.ensures.follows c.args.content.now
+
+pub returns-in-System-clause-follows : goal.returns-in-System-clause-follows
+returns-in-System-clause-follows c = c.split_names.ensures.follows c.args.content.now
