@@ -7,6 +7,7 @@ pub mod Cuts
 pub mod Ascii
 pub mod FileNames
 pub mod Printed
+pub mod Dotted
 pub mod Runs
 pub mod Segments
 pub mod KeyLimits

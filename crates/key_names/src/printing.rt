@@ -2,10 +2,10 @@
 ghost use Rattle.std.specs.Prelude.{◌≡◌, ◌≤◌, ◌<◌, ◌+◌, ◌*◌, ◌++◌, ◌∷◌, IfOk, OnOk, IsTrue, length, string_bytes};
 ghost use Rattle.std.specs.List.{list_all, flat_map, sum_by};
 ghost use Rattle.key_names.specs.Segment.{is_quotable, is_segment, printed_segment, has_short_name};
-ghost use Rattle.key_names.specs.Packed.{parts, segments_of};
+ghost use Rattle.key_names.specs.Packed.{parts, segments_of, has_bare_parts, dotted};
 ghost use Rattle.key_names.specs.Key.{fits, printed};
 
-use crate::characters::are_bare;
+use crate::characters::{are_bare, is_bare};
 use crate::packed_text::cut;
 use std::alloc::{AllocError, Global};
 
@@ -21,8 +21,35 @@ fn push_segment(text: &mut String, segment: &str) -> Result<(), AllocError>
     }
 }
 
-/// The printed parts of a text, joined by dots. The only error is out of memory.
-pub fn printed(alloc: Global, text: &str) -> Result<String, AllocError>
+// A dot for a zero byte, and else the byte itself.
+fn dotted(b: u8) -> u8
+    ensures { result ≡ dotted b }
+{
+    if b == 0 { b'.' } else { b }
+}
+
+// Whether the text has no other bytes than bare characters, and zero bytes between its parts.
+fn has_bare_parts(text: &str) -> bool
+    ensures { result ≡ has_bare_parts text.now }
+{
+    text.as_bytes().iter().all(|b| *b == 0 || is_bare(*b))
+}
+
+// The bare parts of a text, joined by dots: its bytes with a dot for each zero byte.
+fn bare_printed(alloc: Global, text: &str) -> Result<String, AllocError>
+    requires { IsTrue (has_bare_parts text.now) }
+    ensures { IfOk result (λ out. string_bytes out ≡ printed (parts text.now)) }
+{
+    let mut bytes = text.as_bytes().to_vec(alloc)?;
+    for b in bytes.iter_mut() {
+        *b = dotted(*b);
+    }
+    // bare characters and dots are ASCII
+    Ok(String::from_utf8(bytes).unwrap())
+}
+
+// The printed parts of a text, joined by dots, one after another.
+fn each_printed(alloc: Global, text: &str) -> Result<String, AllocError>
     ensures { IfOk result (λ out. string_bytes out ≡ printed (parts text.now)) }
 {
     // so long, where none is in quotes
@@ -35,6 +62,17 @@ pub fn printed(alloc: Global, text: &str) -> Result<String, AllocError>
     }
     push_segment(&mut out, rest)?;
     Ok(out)
+}
+
+/// The printed parts of a text, joined by dots. The only error is out of memory.
+pub fn printed(alloc: Global, text: &str) -> Result<String, AllocError>
+    ensures { IfOk result (λ out. string_bytes out ≡ printed (parts text.now)) }
+{
+    if has_bare_parts(text) {
+        bare_printed(alloc, text)
+    } else {
+        each_printed(alloc, text)
+    }
 }
 
 /// The length of the printed segment.

@@ -5,7 +5,7 @@ use Rattle.key_names.specs.Segment.{printed_segment}
 use Rattle.key_names.specs.Key.{printed}
 use Rattle.key_names.specs.Packed.{parts}
 use Rattle.key_names.proofs.Printed.{printed-parts, printed-one}
-use Rattle.key_names.proofs.printing.printed.Goals as goal
+use Rattle.key_names.proofs.printing.each_printed.Goals as goal
 
 pub loop-front-preserved : goal.loop-front-preserved
 unfolding lib.Utf8.encode

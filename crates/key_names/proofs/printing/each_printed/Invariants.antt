@@ -4,7 +4,7 @@ use denote.Text.{Utf8}
 use Rattle.std.specs.Prelude.{string_bytes}
 use Rattle.key_names.specs.Key.{printed}
 use Rattle.key_names.specs.Packed.{parts}
-use Rattle.key_names.proofs.printing.printed.Given as goal
+use Rattle.key_names.proofs.printing.each_printed.Given as goal
 
 -- the text so far, with what is left to be printed
 abbrev pub invariant-loop-front : goal.invariant-loop-front
