@@ -1,11 +1,10 @@
 -- Keys written as items of a list, and read back.
 use Rattle.std.proofs.Common.{arith, ◌≡◌, ◌<◌, ◌+◌, ℕ, zero, suc, List, [], ◌∷◌, ◌++◌, length, take}
-use Rattle.std.proofs.Common.{get_or, Option, Some, None, Result, Ok, Err, true, refl, sym, ap, ◌∙◌, subst}
+use Rattle.std.proofs.Common.{get_or, Option, Some, None, Result, Ok, Err, refl, sym, ap, ◌∙◌, subst}
 use Rattle.std.specs.Prelude.{IsTrue, IfOk}
 use Rattle.std.specs.List.{list_all}
 use Rattle.std.proofs.lemmas.Bool.{and_parts}
-use Rattle.std.proofs.lemmas.List.{take_more, map-append}
-use Rattle.std.proofs.lemmas.List.Folds.{list_all-append}
+use Rattle.std.proofs.lemmas.List.{take_more}
 use Rattle.std.specs.Str.{IsUtf8}
 use Rattle.json.specs.Lex.{tokens}
 use Rattle.serde_json.specs.Data.{null}
@@ -14,7 +13,6 @@ use Rattle.key_names.specs.Spelling.{SpellsKey}
 use Rattle.key_names.specs.Faults.{IsRead}
 use Rattle.key_names.specs.declared.key_error.KeyError.{KeyError}
 use Rattle.key_names.specs.declared.key_error.KeyFault.TheVariants.{Memory}
-use Rattle.key_names.proofs.Segments.{both}
 use Rattle.json_trees.specs.Json.{data_of}
 use Rattle.json_trees.specs.Written.{data_tokens, IsReadable}
 use Rattle.json_trees.proofs.Trip.{data_of-tokens}
@@ -24,22 +22,7 @@ use Rattle.json_trees.specs.declared.pending.Pending.{Pending}
 use Rattle.json_trees.specs.declared.pending.Pending.TheVariants.{Gone}
 use Rattle.fs_datastore.specs.Values.{Spells, pending}
 use Rattle.fs_datastore.specs.Texts.{key_items}
-use Rattle.key_names.proofs.SpelledKeys.{spelled_key, printed_key}
-
--- one more key
-pub items_more : (keys : List (List (List ℕ))) (i : ℕ) (key : List (List ℕ)) (items now : List Item) (text : List ℕ) → i < length keys → key ≡ get_or keys i key
-    → items ≡ key_items (take i keys) → text ≡ printed key → now ≡ items ++ item.Text text ∷ [] → now ≡ key_items (take (i + 1) keys)
-items_more keys i key items now text low at so_far is pushed =
-    pushed ∙ ap (λ (l : List Item). l ++ item.Text text ∷ []) so_far ∙ ap (λ (t : List ℕ). key_items (take i keys) ++ item.Text t ∷ []) is
-    ∙ sym (ap key_items (take_more keys i key low ∙ ap (λ (k : List (List ℕ)). take i keys ++ k ∷ []) (sym at))
-    ∙ map-append (λ (k : List (List ℕ)). item.Text (printed k)) (take i keys) (key ∷ []))
-
-pub valid_more : (keys : List (List (List ℕ))) (i : ℕ) (key : List (List ℕ)) (text : List ℕ) → i < length keys → key ≡ get_or keys i key
-    → IsTrue (list_all is_key (take i keys)) → SpellsKey text key → IsTrue (list_all is_key (take (i + 1) keys))
-valid_more keys i key text low at so_far spells =
-    ap (list_all is_key) (take_more keys i key low ∙ ap (λ (k : List (List ℕ)). take i keys ++ k ∷ []) (sym at))
-    ∙ list_all-append is_key (take i keys) (key ∷ [])
-    ∙ both (list_all is_key (take i keys)) (list_all is_key (key ∷ [])) so_far (both (is_key key) true (spelled_key text key spells) refl)
+use Rattle.key_names.proofs.SpelledKeys.{printed_key}
 
 pub whole : {X : Type 0} (xs : List X) (n : ℕ) → n ≡ length xs → take n xs ≡ xs
 whole xs n is = ap (λ (m : ℕ). take m xs) is ∙ all xs where

@@ -24,3 +24,4 @@ pub mod FormatFile
 pub mod KeyTexts
 pub mod PlaceFiles
 pub mod Batching
+pub mod KeyLists

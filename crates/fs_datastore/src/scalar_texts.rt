@@ -1,5 +1,5 @@
 //! The texts of files that are JSON: scalars, pending values, and lists of keys, which are kept as scalars too.
-ghost use Rattle.std.specs.Prelude.{◌≡◌, ◌↔◌, ℕ, List, Ok, Some, IfOk, OnOk, IsTrue, false, option_map};
+ghost use Rattle.std.specs.Prelude.{◌≡◌, ◌↔◌, ℕ, List, Ok, Some, IfOk, IsTrue, false, option_map};
 ghost use Rattle.std.specs.List.{list_all};
 ghost use Rattle.serde_json.specs.Data.{null};
 ghost use Rattle.serde_json.specs.Written.{compact_text};
@@ -13,8 +13,9 @@ ghost use Rattle.settings_tree.specs.Owed.{IsKeyList, IsOwed};
 ghost use Rattle.fs_datastore.specs.Batches.{pending_text};
 ghost use Rattle.fs_datastore.specs.Texts.{Finds, key_items};
 
+use held_text::{write_keys, write_owed};
 use json::Writer;
-use json_trees::{Item, Items, Pending, Scalar, ScalarError, json_of, text_of};
+use json_trees::{Item, Pending, Scalar, ScalarError, json_of, text_of};
 use key_names::{Key, KeyFault, Text};
 use serde_json::Value;
 use settings_maps::KeyList;
@@ -44,49 +45,24 @@ pub(crate) fn pending_text(alloc: Global, value: &Pending) -> Result<Text, Alloc
     }
 }
 
-fn items_of(alloc: Global, keys: &[Key]) -> Result<Vec<Item>, AllocError>
-    ensures items { IfOk result (λ items. items.items ≡ key_items keys.now) }
-    ensures valid { OnOk result (IsTrue (list_all is_key keys.now)) }
-{
-    let mut items = Vec::with_capacity(alloc, keys.len())?;
-    for key in keys {
-        items.push(Item::Text(key.print()?))?;
-    }
-    Ok(items)
-}
-
-fn list_of(alloc: Global, keys: &KeyList) -> Result<Scalar, AllocError>
-    ensures list { IfOk result (λ list. list ≡ list_of keys.now) }
-    ensures valid { OnOk result (IsKeyList keys.now) }
-{
-    let items = items_of(alloc, keys.as_slice())?;
-    Ok(Scalar::List(Items::of(items)))
-}
-
-/// The text of the file `weak` of these keys. The only error is out of memory.
+/// The text of the file `weak` of these keys. The only error is out of memory. It takes the time of printing each key.
 pub(crate) fn weak_text(alloc: Global, keys: &KeyList) -> Result<Text, AllocError>
     ensures text { IfOk result (λ text. text ≡ json_text (list_of keys.now)) }
     ensures spelled { IfOk result (λ text. Spells text (weak keys.now)) }
 {
-    list_of(alloc, keys)?.print(alloc)
+    let mut writer = Writer::new(Vec::new(alloc));
+    write_keys(&mut writer, keys)?;
+    Ok(text_of(writer))
 }
 
-fn owed_scalar(alloc: Global, keys: &Owed) -> Result<Scalar, AllocError>
-    ensures scalar { IfOk result (λ scalar. scalar ≡ owed_scalar keys.now) }
-    ensures valid { OnOk result (IsOwed keys.now) }
-{
-    match keys {
-        Owed::All => Ok(Scalar::Text(Text::from_str(alloc, "all")?)),
-        Owed::Keys(keys) => list_of(alloc, keys),
-    }
-}
-
-/// The text of the file `owed` of these keys. The only error is out of memory.
+/// The text of the file `owed` of these keys. The only error is out of memory. It takes the time of printing each key.
 pub(crate) fn owed_text(alloc: Global, keys: &Owed) -> Result<Text, AllocError>
     ensures text { IfOk result (λ text. text ≡ json_text (owed_scalar keys.now)) }
     ensures spelled { IfOk result (λ text. Spells text (owed keys.now)) }
 {
-    owed_scalar(alloc, keys)?.print(alloc)
+    let mut writer = Writer::new(Vec::new(alloc));
+    write_owed(&mut writer, keys)?;
+    Ok(text_of(writer))
 }
 
 // ---- reading

@@ -14,3 +14,4 @@ pub mod PartReadings
 pub mod Readings
 pub mod RowsBack
 pub mod VersionsBack
+pub mod Printing

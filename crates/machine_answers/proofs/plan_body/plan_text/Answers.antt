@@ -1,4 +1,4 @@
-use Rattle.machine_answers.proofs.Printing.{printed_value}
+use Rattle.held_text.proofs.Printing.{printed_value}
 use Rattle.machine_answers.proofs.plan_body.plan_text.Goals as goal
 
 pub returns : goal.returns
